@@ -21,7 +21,7 @@ from subtitles.common.command_line import INSTALLED, Stop
 from subtitles.common.program import COMPLETION, TOOLS, TOP, read
 from subtitles.common.shapes import Member, Record, Shape
 from subtitles.request import request
-from subtitles.results.files import COLUMNS, FILES as FILE_COLUMNS
+from subtitles.results.files import COLUMNS, FILE_COLUMNS
 from subtitles.results.schema import CAUSE, CUE, LISTED_CAUSE, REQUEST, VERDICT, schema
 from .cited import correct_number_rows
 
@@ -219,7 +219,7 @@ def make_chapter_parts(table: str = "") -> dict[str, str]:
     for option in request.OPTIONS:
         if option.name not in of_check and not option.name.startswith("--no-"):
             form = option.form.replace("|", "\\|")
-            rows.append(f"| `{form}` | {option.means} |")
+            rows.append(f"| `{form}` | {option.description} |")
     return {"options": "\n".join(rows) + "\n"}
 
 

@@ -2,7 +2,7 @@
 from __future__ import annotations
 
 from subtitles.common.times import FRAMES_A_SECOND
-from subtitles.formats.stl import GSI, LAST, TEXT, UNUSED
+from subtitles.formats.stl import GSI, LAST_BLOCK, TEXT, UNUSED
 
 DOUBLE_HEIGHT, START_BOX, END_BOX = b"\x0d", b"\x0b", b"\x0a"
 
@@ -42,7 +42,7 @@ def make_gsi_block(title: bytes, blocks: int, subtitles: int, first: int = 0,
 
 
 def make_tti_block(number: int, begin: int, end: int, row: int, justify: int, text: bytes,
-                   ebn: int = LAST, comment: int = 0, group: int = 0) -> bytes:
+                   ebn: int = LAST_BLOCK, comment: int = 0, group: int = 0) -> bytes:
     """Return a TTI block. Times are frames of the day; the text has at most 112 bytes."""
     assert len(text) <= TEXT
     head = bytes([group, number & 255, number >> 8 & 255, ebn, 0])
@@ -54,7 +54,7 @@ def make_subtitle_blocks(number: int, begin: int, end: int, row: int, justify: i
                          text: bytes) -> bytes:
     """Return the TTI blocks of a subtitle, as few as its text needs."""
     fields = [text[at:at + TEXT] for at in range(0, len(text), TEXT)] or [b""]
-    numbers = [*range(len(fields) - 1), LAST]
+    numbers = [*range(len(fields) - 1), LAST_BLOCK]
     return b"".join(make_tti_block(number, begin, end, row, justify, field, ebn)
                     for field, ebn in zip(fields, numbers))
 

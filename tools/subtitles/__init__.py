@@ -1,36 +1,38 @@
-"""The Python of the tools of users. A package imports of those above it in this list, never of
-those below: `dev/check-tools` holds it. The head of each lists its modules.
+"""The Python package of the tools for users.
 
-common     what any tool needs: its words, its files, times, values of JSON, the program
-formats    what stands in files: EBU STL, Teletext, layouts, lines of `check`
-request    what is asked for a pair, by the table of options; what a person could type
-stream     what is sent, by what `subttx survey` tells; nothing here judges
-clock      the origin of the clock: which one agrees, which one is given
-recording  a recording as it is read, from a file or from a pipe: its PID, its warnings
-judging    a pair judged: what `check` says of its parts, and what follows of it
-results    results for machines: JSON, CSV, JUnit
-report     a verdict shown as a page
-cli        what a call does: a pair, many pairs, a folder; what tools/install does
-air        programmes on air: what tools/air records and judges
+A package imports only from packages above it in this list, which `dev/check-tools` tests. The
+docstring of each package lists its modules.
 
-Where is                               See
-a call for one pair, step by step      cli/single.py, then `PairJudge.judge` of judging/pair.py
-the PID chosen                         recording/recording.py `Recording.chosen`
-the origin found                       clock/origin.py `find`
-a part made, step by step              judging/pair.py `judge_part`, its values judging/part.py
-the PES packets taken                  stream/ranges.py `cut_of`
-a hole of 16 TS packets found          stream/pace.py `pace_of`, for a part judging/timing.py
-the verdict decided                    judging/status.py `decide`
-the sentence of the last line made     judging/sentence.py `write_sentence`
-an option added                        request/request.py `OPTIONS`
-a member of a JSON result added        results/schema.py
+common     shared helpers: command line, files, times, JSON values, running the program
+formats    file formats: EBU STL, Teletext, layouts, lines of `check`
+request    the request for a pair: options, lists, profiles, and commands for the operator
+stream     contents of a recording, from the output of `subttx survey`
+clock      the origin of the clock: estimating it, or checking a given origin
+recording  reading a recording from a file or a pipe; choosing the PID; warnings
+judging    judging a pair: the output of `check` for its parts, causes and the verdict
+results    result files: JSON, CSV, JUnit
+report     the page about a verdict
+cli        the commands of qc: a pair, many pairs, a folder
+air        recording and judging programmes on air, for tools/air
+
+To find                                See
+how a pair is judged, step by step     cli/single.py, then `PairJudge.judge` of judging/pair.py
+how the PID is chosen                  recording/recording.py
+how the origin is found                clock/origin.py
+how a part is judged                   judging/pair.py `judge_part`, its values judging/part.py
+how PES packets are selected           stream/ranges.py
+how a loss of 16 TS packets is found   stream/pace.py, for a part judging/timing.py
+how the verdict is decided             judging/status.py `decide`
+how the sentence is written            judging/sentence.py `write_sentence`
+where to add an option                 request/request.py `OPTIONS`
+where to add a member of a result      results/schema.py
 """
 import os
 import sys
 
 
 def end_early(kind, reason, _):  # type: ignore[no-untyped-def]  # old Pythons take no hints
-    """Ends a tool that can't be loaded with status 2: Python's own, 1, would be a verdict."""
+    """End a tool that can't be loaded with status 2, since Python's status 1 would be a verdict."""
     line = "%s: %s: %s\n" % (os.path.basename(sys.argv[0]), kind.__name__, reason)
     try:
         sys.stderr.write(" ".join(line.split()) + "\n")

@@ -5,7 +5,7 @@ import re
 from typing import NamedTuple
 
 from subtitles.common.times import CLOCK, FRAMES_OF_A_DAY, frame_of
-from subtitles.formats.layout import Layout, PLAIN, layout_of
+from subtitles.formats.layout import Layout, PLAIN, parse_layout
 from subtitles.formats.teletext import Page
 from .national import BITS
 
@@ -92,7 +92,7 @@ def parse_options(arguments: list[str]) -> Options:
     if given["--packet-size"] not in ("188", "192", "204"):
         raise UsageFault("87 PacketSize")
     first, last = parse_range(given["--pes"])
-    layout = layout_of(given["--layout"]) if "--layout" in given else PLAIN
+    layout = parse_layout(given["--layout"]) if "--layout" in given else PLAIN
     if layout is None:
         raise UsageFault("89 Layout")
     pace = parse_number(given["--pace"]) if "--pace" in given else None

@@ -13,7 +13,7 @@ from developing.pes import (
     add_odd_parity, decode_pts, make_packet as teletext_packet, make_pes_packet, read_pes_packets)
 from developing.stl import encode_time_code
 from subtitles.common.times import FRAMES_OF_A_DAY, frame_of_code, time_of
-from subtitles.formats.layout import FLAGS, NUMBERS
+from subtitles.formats.layout import FLAGS, NUMBER_RANGES
 from subtitles.formats.stl import GSI, TTI
 from subtitles.formats.teletext import CODE_WORDS, NUMBER
 from .broken import LETTERS, MAX_PACKETS, read_teletext
@@ -35,7 +35,7 @@ def make_layout(rng: Random) -> str:
     if rng.random() < 0.04:
         return rng.choice(WRONG_LAYOUTS)
     items = [name for name in FLAGS if rng.random() < 0.2]
-    items += [f"{name}={rng.choice(numbers[:6])}" for name, numbers in NUMBERS.items()
+    items += [f"{name}={rng.choice(numbers[:6])}" for name, numbers in NUMBER_RANGES.items()
               if rng.random() < 0.15 and name != "row"]
     if rng.random() < 0.15:
         items.append(f"row={rng.randrange(-3, 3)}")

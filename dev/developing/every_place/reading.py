@@ -10,7 +10,7 @@ from typing import Iterator, NamedTuple
 
 from developing.pes import decode_address, reverse_bits, decode_pts
 from subtitles.common.times import CLOCK, FRAMES_OF_A_DAY, TICKS, frame_at, frame_of_code
-from subtitles.formats.stl import GSI, LAST, TTI, USER_DATA
+from subtitles.formats.stl import GSI, LAST_BLOCK, TTI, USER_DATA
 from subtitles.formats.teletext import NUMBER, Page
 
 HEAD = 6  # bytes of a PES packet up to the end of PES_packet_length
@@ -138,7 +138,7 @@ def read_subtitles(data: bytes, accepts_open: bool = False, begin: int = 0,
         elif block[3] == USER_DATA or block[15] == 1:
             continue
         group.append(block)
-        if block[3] == LAST:
+        if block[3] == LAST_BLOCK:
             if is_outside:
                 yield OutsideSubtitle(count)
             elif is_record:

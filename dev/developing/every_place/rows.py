@@ -1,7 +1,7 @@
 """Draw the page of a subtitle, or find the fault of its text, byte by byte."""
 from __future__ import annotations
 
-from subtitles.formats.layout import Layout, Refused, drawn_lines, page_rows
+from subtitles.formats.layout import Layout, draw_lines, make_page_rows
 from .national import CELLS
 from .reading import Record
 
@@ -43,7 +43,7 @@ def split_lines(text: bytes, option: str, strip: bytes) -> list[bytes]:
 def draw_page(record: Record, option: str, layout: Layout) -> bytes:
     """Return the page of a subtitle as 960 codes by row. Raise `TextFault` for a faulty text."""
     cells = split_lines(record.text, option, layout.strip)
-    lines = drawn_lines(cells, record.row, record.justify, layout)
-    if isinstance(lines, Refused):
+    lines = draw_lines(cells, record.row, record.justify, layout)
+    if not isinstance(lines, list):
         raise TextFault(*lines)
-    return b"".join(page_rows(lines))
+    return b"".join(make_page_rows(lines))

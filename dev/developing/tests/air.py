@@ -15,7 +15,7 @@ from subtitles.air.check import Outcome
 from subtitles.air.segments import Unbroken, segment_name
 from subtitles.request.lines import read_options
 from subtitles.request.request import Request
-from subtitles.results.files import unjudged
+from subtitles.results.files import make_unjudged
 from .bench import Case
 
 DAY = 1_796_112_000.0  # 2026-12-01T08:00:00Z
@@ -61,7 +61,8 @@ class FakeChecker:
 
 def outcome(name: str, verdict: str, reason: str) -> Outcome:
     """Return the outcome of a judged programme."""
-    return Outcome({**unjudged(name, reason), "verdict": verdict, "inputs": {"recording": {}}},
+    return Outcome({**make_unjudged(name, reason), "verdict": verdict,
+                    "inputs": {"recording": {}}},
                    reason)
 
 

@@ -8,17 +8,17 @@ import tempfile
 from typing import Any, Iterable, NamedTuple, Sequence
 
 from subtitles.cli.main import make_parser
-from subtitles.cli.measure import Unprinted
+from subtitles.cli.measure import SilentPrinter
 from subtitles.cli.single import (
     OutputFiles, PairOptions, claim_pair, judge_pair, new_verdict, report_pair, stamp_inputs)
 from subtitles.common.program import MadeWith
 from subtitles.judging.pair import PairJudge
 from subtitles.judging.status import decide
 from subtitles.judging.verdict import Verdict
-from subtitles.request.commands import CommandWords, Listener, Names
+from subtitles.request.commands import CommandPaths, Listener, OutputNames
 from subtitles.request.lines import read_options
-from subtitles.request.request import request_of
-from subtitles.results.files import found, object_of
+from subtitles.request.request import make_request
+from subtitles.results.files import describe_inputs, write_result
 from .bench import Case
 from .streams import Packet, stream_bytes
 from .transmissions import Sent, pes_file, packets, write_programme, schedule_pages, subtitle_times
@@ -26,10 +26,10 @@ from .transmissions import Sent, pes_file, packets, write_programme, schedule_pa
 FEW = "are too few to measure their interval"  # the end of a note
 
 
-class LineRecorder(Unprinted):
+class LineRecorder(SilentPrinter):
     """Record the printed lines; those for standard error begin with `! `."""
 
-    def tell(self, line: str) -> None:
+    def print_error(self, line: str) -> None:
         self.lines.append(f"! {line}")
 
 
@@ -89,20 +89,20 @@ def judge_files_with(program: str, *words: str, recorder: LineRecorder | None = 
     """Judge a pair by the arguments of a command line, with a program."""
     recorder = recorder or LineRecorder()
     known = read_options(make_parser(""), ["-p", program, *words], {}, {})
-    request, typed = request_of(known), CommandWords("tools/qc", program)
+    request, command_paths = make_request(known), CommandPaths("tools/qc", program)
     listener = Listener(recorder)
     stamps = stamp_inputs(request)
     verdict = new_verdict(request, listener)
     with tempfile.TemporaryDirectory() as folder, claim_pair(known.out, "one"):
-        names = Names("one", folder, known.out)
-        names.give(request.stl)
+        names = OutputNames("one", folder, known.out)
+        names.set_subtitle_file(request.stl)
         files = OutputFiles(PairOptions(program, known.out, known.is_kept, known.json, known.csv,
-                               known.junit), verdict, typed, names, stamps)
-        verdict.files_at_start = found(request)
-        pair = PairJudge(verdict, typed, names, listener, True)
+                               known.junit), verdict, command_paths, names, stamps)
+        verdict.files_at_start = describe_inputs(request)
+        pair = PairJudge(verdict, command_paths, names, listener, True)
         judge_pair(pair, files)
         report_pair(verdict, recorder, files)
-        result = json.loads("".join(object_of(verdict, MadeWith("1", "0" * 64, None))))
+        result = json.loads("".join(write_result(verdict, MadeWith("1", "0" * 64, None))))
         listed = [line for part in verdict.parts for line in part.check_output.read_lines()]
         # For a pipe, the stored copy is the recording.
         known_files = {request.stl, request.recording, os.devnull}

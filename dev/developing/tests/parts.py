@@ -12,13 +12,13 @@ from subtitles.clock.start import Clock, GIVEN, TimedPart
 from subtitles.common.command_line import Words, ended
 from subtitles.common.markup import Value, joined
 from subtitles.common.program import TOP
-from subtitles.formats.listing import FaultLine, Meaning, fault_of_line
+from subtitles.formats.listing import FaultLine, Meaning, parse_fault_line
 from subtitles.formats.teletext import Page
 from subtitles.judging.check import CheckOutput
 from subtitles.judging.part import Part
-from subtitles.request.commands import Names
+from subtitles.request.commands import OutputNames
 from subtitles.request.lines import read_options
-from subtitles.request.request import Request, add_options, option_words, request_with
+from subtitles.request.request import Request, add_options, list_arguments, make_file_request
 from subtitles.stream.gaps import LossPlace
 from subtitles.stream.packets import Packets
 from subtitles.stream.receiver import Timeline
@@ -31,7 +31,7 @@ MEANINGS = {number: Meaning("", f"it means `{number}`", f"do {number}") for numb
 
 def fault_of(line: str) -> FaultLine:
     """Parse a fault line of `check --all`."""
-    reported = fault_of_line(line)
+    reported = parse_fault_line(line)
     assert reported, line
     return reported
 
@@ -56,8 +56,8 @@ def make_part(begin: int | None, end: int | None, origin: int | None,
     """Return a part of some frames, with the PES packets and the losses of its recording."""
     alignment = None if begin is None or end is None or origin is None else \
         TimedPart(begin, end, Clock(origin, source))
-    names = Names("a", "", None)
-    names.given = "a.stl"
+    names = OutputNames("a", "", None)
+    names.program_stl = "a.stl"
     if packets is not None or places:
         more["recording"] = SimpleNamespace(packets=packets, stream=lambda: None, is_stream=False,
                                             has_picture=lambda: False,
@@ -81,7 +81,7 @@ def read_survey(*lines: str) -> Survey:
 
 def request_for(stl: str, recording: str | None, *words: str) -> Request:
     """Return the request of a command line with two files."""
-    return request_with(stl, recording, default_options(*words))
+    return make_file_request(stl, recording, default_options(*words))
 
 
 def default_options(*words: str) -> argparse.Namespace:
@@ -93,7 +93,7 @@ def default_options(*words: str) -> argparse.Namespace:
 
 def call_arguments(request: Request) -> list[str]:
     """Return a request as arguments of a command line."""
-    return [*itertools.chain(*option_words(request)), "--", request.stl,
+    return [*itertools.chain(*list_arguments(request)), "--", request.stl,
             *([request.recording] if request.recording else [])]
 
 

@@ -160,7 +160,7 @@ def run_call(words: list[str], program: str, more: Sequence[str] = ("-p", "PROGR
     `wrong` returns the schema violations of a result.
     """
     others: list[tuple[Any, str, object]] = [
-        *((module, "meanings", lambda: MEANINGS) for module in (subtitles, faults, report))]
+        *((module, "read_meanings", lambda: MEANINGS) for module in (subtitles, faults, report))]
     with contextlib.ExitStack() as stack:
         for module, name, other in others:
             stack.enter_context(mock.patch.object(module, name, other))

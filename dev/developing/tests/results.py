@@ -12,7 +12,7 @@ from typing import Any, Iterator, Sequence
 from subtitles.common.program import TOP
 from subtitles.judging.causes import CAUSE_NAMES
 from subtitles.judging.status import NOT_JUDGED, STATUSES
-from subtitles.results.files import Row, row_of_object
+from subtitles.results.files import Row, make_row
 from subtitles.results.schema import FORMAT, LISTS
 from .bench import Case
 
@@ -97,11 +97,12 @@ def violations(value: Any, known: dict[str, Any], at: str = "") -> Iterator[str]
 def inner_violations(value: Any, known: dict[str, Any], at: str) -> Iterator[str]:
     """Return how the members of an object or the items of a list violate a schema."""
     if isinstance(value, dict):
-        members, is_closed = known.get("properties", {}), known.get("additionalProperties") is False
+        request_members, is_closed = known.get("properties",
+                                               {}), known.get("additionalProperties") is False
         yield from (f"{at}: no {name}" for name in known.get("required", ()) if name not in value)
         for name, one in value.items():
-            if name in members:
-                yield from violations(one, members[name], f"{at}.{name}")
+            if name in request_members:
+                yield from violations(one, request_members[name], f"{at}.{name}")
             elif is_closed:
                 yield f"{at}: {name}"
     elif "items" in known:
@@ -165,7 +166,7 @@ def sample_of(value: dict[str, Any]) -> dict[str, Any]:
 
 def row(name: str, verdict: str, line: str = "", hint: str = "", faults: int = 0) -> Row:
     """Return a table row."""
-    made = row_of_object(make_result(verdict, fault_count=faults), name)
+    made = make_row(make_result(verdict, fault_count=faults), name)
     return made._replace(line=line, hint=hint)
 
 

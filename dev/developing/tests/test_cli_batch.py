@@ -17,16 +17,18 @@ from unittest import mock
 from subtitles.cli import batch
 from subtitles.cli.batch import (
     ForkedProcess, PairRunner, hold_signals, judge_all, resumed_rows, wait_for_any)
-from subtitles.cli.collection import progress_line
+from subtitles.cli.collection import format_progress
 from subtitles.cli.single import PairOptions
 from subtitles.common import files
 from subtitles.common.command_line import Stop
 from subtitles.common.program import about_program
 from subtitles.judging.status import RELATIVE, STATUSES, WAIVED
-from subtitles.request.commands import CommandWords
-from subtitles.request.lines import Item, at_line, inputs_of, no_file, pairs_at
+from subtitles.request.commands import CommandPaths
+from subtitles.request.lines import (
+    BatchItem, collect_inputs, find_path_problem, read_line_pair, read_pairs)
 from subtitles.request.request import Request
-from subtitles.results.files import Row, found, object_at, put_object, unjudged
+from subtitles.results.files import (
+    Row, describe_inputs, make_unjudged, read_result, write_result_file)
 from subtitles.results.schema import PROGRAM, REQUEST
 from .bench import Case, SECONDS
 from .programmes import wait_until
@@ -50,13 +52,14 @@ class Lists(Case):
                  "{0}/x.stl /dev/null --within 2\n{0}/x.stl {0}/socket\n").format(self.folder)
         with socket.socket(socket.AF_UNIX) as made:
             made.bind(self.path("socket"))
-        items = pairs_at(self.write("list", lines.encode() + b"caf\xe9.stl x.ts"),
+        items = read_pairs(self.write("list", lines.encode() + b"caf\xe9.stl x.ts"),
                          default_options())
         self.must("names", [item.name for item in items] == [
             "one", "two", "one~2", "line 6", "line 7", "one~3", "none", "one~4", "line 11", "x",
             "x~2", "caf%E9"],
             [item.name for item in items])
-        self.must("options", [item.asked.every for item in items if item.asked] == [50, 250, 250])
+        self.must("options", [item.request.every for item in items if item.request] ==
+                  [50, 250, 250])
         reasons = [item.reason for item in items if item.reason]
         for reason, words in zip(reasons, (
                 f"{self.path('list')}, line 6: a quote", f"{self.path('list')}, line 7: ",
@@ -67,36 +70,38 @@ class Lists(Case):
                 f"{self.path('socket')} is a socket", "caf\udce9.stl: No such file")):
             self.must(words, reason.startswith(words), reason)
         self.must("reasons", len(reasons) == 9, reasons)
-        self.must("a file", no_file(self.path("one.stl")) is None)
-        self.must("no name of one", "null" in (no_file("a\0") or ""))
+        self.must("a file", find_path_problem(self.path("one.stl")) is None)
+        self.must("no name of one", "null" in (find_path_problem("a\0") or ""))
         for path in (self.write("empty", b"# none\n"), self.path("folder")):
             with self.assertRaises(Stop):
-                pairs_at(path, default_options())
+                read_pairs(path, default_options())
 
     def test_protects_the_inputs_of_an_invalid_line(self) -> None:
         path = self.write("list", b"one.stl one.ts --bogus\none.stl one.ts --pace=two.stl\n")
-        for item in pairs_at(path, default_options()):
-            self.must(item.name, item.asked is None and {"one.stl", self.path("one.ts")} <=
+        for item in read_pairs(path, default_options()):
+            self.must(item.name, item.request is None and {"one.stl", self.path("one.ts")} <=
                       {*item.files} and ("two.stl" in item.files) == (item.name == "line 2"),
                       item.files)
             with self.assertRaises(files.IsInput):
-                inputs_of([item]).refuse(self.path("one.ts"), True)
+                collect_inputs([item]).refuse(self.path("one.ts"), True)
 
     def test_reads_one_line_as_in_the_complete_list(self) -> None:
         lines = [f"one.stl one.ts --within {number}" for number in range(3)] + [
             "", "# none", '"', "x.stl", "two.stl one.ts", "one.stl none.ts --origin 5"]
         path = self.write("list", "\n".join(lines).encode())
-        whole = {item.name: item for item in pairs_at(path, default_options())}
+        whole = {item.name: item for item in read_pairs(path, default_options())}
         for number, name in ((1, "one"), (2, "one~2"), (3, "one~3"), (6, "line 6"), (7, "line 7"),
                              (8, "two"), (9, "one~4")):
-            item, words = at_line(path, number, default_options())
+            item, words = read_line_pair(path, number, default_options())
             self.must(f"{number}", item == whole[name] and {
                 "one.stl", "one.ts", "x.stl", "two.stl", "none.ts", '"'} <= {*words}, (item, words))
         for wrong in (4, 5, 10, 99):
-            self.assertRaisesRegex(Stop, "has no pair", at_line, path, wrong, default_options())
-        self.assertRaisesRegex(Stop, "is not a list", at_line, self.folder, 1, default_options())
-        with mock.patch("subtitles.request.lines.no_file", return_value=None) as looked:
-            at_line(path, 8, default_options())
+            self.assertRaisesRegex(Stop, "has no pair", read_line_pair, path, wrong,
+                                   default_options())
+        self.assertRaisesRegex(Stop, "is not a list", read_line_pair, self.folder, 1,
+                               default_options())
+        with mock.patch("subtitles.request.lines.find_path_problem", return_value=None) as looked:
+            read_line_pair(path, 8, default_options())
         self.must("files of one pair", [call[0][0] for call in looked.call_args_list] == [
             "two.stl", "one.ts"], looked.call_args_list)
         with mock.patch.object(files, "identities", side_effect=files.identities) as looked:
@@ -110,17 +115,18 @@ class Lists(Case):
         for name in ("B.STL", "b.TS", "c.stl", "c.ts", "c.pes", "d.m2t", "e.stl", "e.txt", "F.pes",
                      "f.stl", "f.trp", "G.stl", "g.MTS", "g.stl", "h\x1b.m2ts", "h\x1b.stl"):
             self.write(f"folder/{name}", b"")
-        items = pairs_at(self.path("folder"), default_options())
+        items = read_pairs(self.path("folder"), default_options())
         at = self.path("folder")
         self.must("items", [(item.name, item.reason) for item in items] == [
             ("B", None),
-            ("F", f"{at}/F.pes: no subtitle file of that name"), ("f", None),
-            ("G", f"{at}/G.stl: no recording of that name"), ("g", None),
-            ("c", f"more than one pair is possible: {at}/c.stl, {at}/c.pes, {at}/c.ts"),
-            ("d", f"{at}/d.m2t: no subtitle file of that name"),
-            ("e", f"{at}/e.stl: no recording of that name"), ("h%1B", None)],
+            ("F", f"{at}/F.pes: no subtitle file has that name"), ("f", None),
+            ("G", f"{at}/G.stl: no recording has that name"), ("g", None),
+            ("c", f"{at}/c.stl, {at}/c.pes, {at}/c.ts: more than one pair has that name"),
+            ("d", f"{at}/d.m2t: no subtitle file has that name"),
+            ("e", f"{at}/e.stl: no recording has that name"), ("h%1B", None)],
             [(item.name, item.reason) for item in items])
-        self.must("files", [(item.asked.stl, item.asked.recording) for item in items if item.asked]
+        self.must("files", [(item.request.stl, item.request.recording) for item in items
+                            if item.request]
                   == [(f"{at}/{one}", f"{at}/{two}") for one, two in (
                       ("B.STL", "b.TS"), ("f.stl", "f.trp"), ("g.stl", "g.MTS"),
                       ("h\x1b.stl", "h\x1b.m2ts"))])
@@ -143,11 +149,11 @@ class CompleteBatches(Case):
             "limit": 7, "is_resumed": False, "line": None, "json": None, "csv": None,
             "junit": None, **more})
 
-        def judge_all(calls: PairRunner, items: list[Item], kept: dict[str, Row], jobs: int) \
+        def judge_all(calls: PairRunner, items: list[BatchItem], kept: dict[str, Row], jobs: int) \
                 -> dict[str, Row]:
             self.seen = calls, [item.name for item in items], kept, jobs
             self.must("folders", os.path.isdir(words.out or calls.folder) and
-                      (calls.typed.program_path, calls.out, calls.is_kept, calls.limit) ==
+                      (calls.command_paths.program_path, calls.out, calls.is_kept, calls.limit) ==
                       (self.path("program"), words.out, words.is_kept, 7))
             rows = {}
             for item, verdict in reversed(list(zip(items, judged.split(", ")))):
@@ -185,7 +191,7 @@ class CompleteBatches(Case):
                 self.must("objects", (names, have["status"]) == (["one", "two", "three"], status))
                 self.must("the folder went", not os.path.exists(self.seen[0].folder))
         self.batch("accepted, accepted, accepted", json=self.path("all"),
-                   unwritten={"two": unjudged("two", "in use")})
+                   unwritten={"two": make_unjudged("two", "in use")})
         self.must("in no file", [one["verdict"] for one in json.loads(self.read("all"))["pairs"]]
                   == ["accepted", "not judged", "accepted"])
         for out, more in ((None, ""), (self.path("out"), "; --resume judges the others")):
@@ -243,12 +249,12 @@ class ForkedPairs(Case):
         path = self.write_program("call", CALL.replace("SECONDS", f"{SECONDS}"))
         for verdict in ("accepted", "refused", "not judged"):
             self.write(verdict, json.dumps(make_result(verdict, notes=["WORDS"])).encode())
-        self.typed = CommandWords("tools/qc", self.bench.program)
+        self.command_paths = CommandPaths("tools/qc", self.bench.program)
 
-        def execute(asked: Request, call: PairOptions) -> int:
+        def execute(request: Request, call: PairOptions) -> int:
             kept = ["-o", call.out] if call.out else ["--json", call.json or ""]
             words = [f"--name={call.name}", *["--claimed"] * call.is_claimed, *kept,
-                     *["--keep"] * call.is_kept, "-p", call.program or "", *call_arguments(asked)]
+                     *["--keep"] * call.is_kept, "-p", call.program or "", *call_arguments(request)]
             # inherited files keep the process visible to its parent
             for file in os.listdir("/proc/self/fd"):
                 with contextlib.suppress(OSError):
@@ -262,29 +268,30 @@ class ForkedPairs(Case):
         os.mkdir(self.path("temporary"))
         os.mkdir(self.path("out"))
         self.write("one.ts", b"1")
-        self.calls = PairRunner(self.typed, self.path("temporary"), self.path("out"), False)
+        self.calls = PairRunner(self.command_paths, self.path("temporary"), self.path("out"), False)
 
-    def item(self, kind: str, name: str = "one", *words: str) -> Item:
+    def item(self, kind: str, name: str = "one", *words: str) -> BatchItem:
         """Return a pair whose call ends in a given way."""
         stl = self.write(f"{name}.stl", kind.encode())
-        return Item(name, request_for(stl, self.path("one.ts"), *words), None)
+        return BatchItem(name, request_for(stl, self.path("one.ts"), *words), None)
 
-    def judge_one(self, calls: PairRunner, item: Item) -> Row:
+    def judge_one(self, calls: PairRunner, item: BatchItem) -> Row:
         """Judge one pair; return its row."""
         return calls.start(item) or next(calls.finished_rows(SECONDS))
 
     def test_gives_each_call_its_files_and_options(self) -> None:
         for out, is_kept in ((None, False), (self.path("out"), False), (self.path("out"), True)):
-            calls = PairRunner(self.typed, self.path("temporary"), out, is_kept)
+            calls = PairRunner(self.command_paths, self.path("temporary"), out, is_kept)
             item = self.item("refused", "one", "--every", "50")._replace(name="pair")
             path = os.path.join(out or self.path("temporary"), "pair.json")
             self.must("row", (self.judge_one(calls, item).name, calls.result_path(item)) == (
                 "pair", path))
-            have = object_at(path)
+            have = read_result(path)
             kept = f"-o {out}{' --keep' * is_kept}" if out else f"--json {path}"
             [called] = have["notes"] if have else [""]
             self.must("words", called.startswith(
-                f"--name=pair --claimed {kept} -p {self.typed.program_path} --every 50 ") and
+                f"--name=pair --claimed {kept} -p {self.command_paths.program_path} --every 50 "
+                ) and
                 called.endswith(f" -- {self.path('one.stl')} {self.path('one.ts')}")
                 and not calls.running, have)
 
@@ -300,11 +307,12 @@ class ForkedPairs(Case):
             found_row = self.judge_one(self.calls, item)
             self.must(kind, (found_row.name, found_row.verdict, found_row.line) == (
                 "one", verdict, line), found_row)
-            have = object_at(self.calls.result_path(item))
+            have = read_result(self.calls.result_path(item))
             self.must("its object", have is not None and have["verdict"] == verdict, have)
-        none = self.judge_one(self.calls, Item("two", None, "no pair"))
+        none = self.judge_one(self.calls, BatchItem("two", None, "no pair"))
         self.must("no pair", (none.name, none.verdict, none.line) == (
-            "two", "not judged", "no pair") and object_at(self.path("out/two.json")) == unjudged(
+            "two", "not judged", "no pair") and read_result(self.path("out/two.json")) ==
+                  make_unjudged(
                 "two", "no pair") and {*os.listdir(self.path("out"))} == {"one.json", "two.json"})
         with mock.patch("os.fork", side_effect=BlockingIOError(11, "Try again")):
             gone = self.judge_one(self.calls, self.item("accepted"))
@@ -313,22 +321,23 @@ class ForkedPairs(Case):
             self.calls.start(self.item("waits", name))
         self.calls.stop()
         self.must("all are ended", not self.calls.running)
-        self.calls.record_unjudged(Item("three", None, "x"), "stopped")
+        self.calls.record_unjudged(BatchItem("three", None, "x"), "stopped")
         self.must("nothing is written then", not os.path.exists(self.path("out/three.json")))
-        nowhere = PairRunner(self.typed, self.path("temporary"), self.path("none"), False)
-        row = nowhere.record_unjudged(Item("four", None, "x"), "why")
+        nowhere = PairRunner(self.command_paths, self.path("temporary"), self.path("none"), False)
+        row = nowhere.record_unjudged(BatchItem("four", None, "x"), "why")
         self.must("it has no place", row.verdict == "not judged" and row.line.startswith("why; ")
                   and nowhere.unwritten_results["four"]["reason"] == row.line, row)
 
     def test_stops_a_pair_that_takes_too_long(self) -> None:
         for kind, most in (("busy", batch.GRACE_SECONDS), ("deaf", 0)):
-            calls = PairRunner(self.typed, self.path("temporary"), self.path("out"), False, 1)
+            calls = PairRunner(self.command_paths, self.path("temporary"), self.path("out"), False,
+                               1)
             with mock.patch.object(batch, "GRACE_SECONDS", most):
                 rows = judge_all(calls, [self.item(kind, "long"), self.item("accepted")], {}, 2)
             self.must(kind, (rows["long"].verdict, rows["long"].line) == (
                 "not judged", "it used more than 1 second of CPU time: give a greater --limit")
                 and rows["one"].verdict == "accepted" and not calls.over_limit, rows)
-            have = object_at(calls.result_path(self.item(kind, "long")))
+            have = read_result(calls.result_path(self.item(kind, "long")))
             self.must("its object", have is not None and have["reason"] == rows["long"].line, have)
         self.must("all is gone", wait_until(
             lambda: not os.path.exists(f"/proc/{int(self.read('its'))}/fd/0")))
@@ -359,7 +368,7 @@ class ForkedPairs(Case):
         for (name, end), is_written in itertools.product(ends.items(), (False, True)):
             def judge(*_: object) -> object:
                 if is_written:
-                    put_object(self.path("out/dies.json"), make_result("accepted"))
+                    write_result_file(self.path("out/dies.json"), make_result("accepted"))
                 return end()
 
             with mock.patch.object(batch, "judge_forked_pair", judge):
@@ -401,14 +410,15 @@ class ForkedPairs(Case):
         self.must("verdicts", {name: one.verdict for name, one in rows.items()} == {
             "name0": "accepted", "name1": "refused", "name2": "waived", "name3": "not judged"}
             and len(kept) == 1, rows)
-        notes = [(object_at(self.calls.result_path(item)) or {})["notes"][0] for item in items[:2]]
+        notes = [(read_result(self.calls.result_path(item)) or {})["notes"][0] for item in
+                 items[:2]]
         self.must("strict", ["--strict" in note for note in notes] == [False, True])
         self.must("not called", not os.path.exists(self.calls.result_path(items[2])))
 
     def test_keeps_finished_results_after_a_signal(self) -> None:
         kinds = ("accepted", "waits", "waits", "waits")
         for reason in (KeyboardInterrupt(), ValueError("odd")):
-            calls = PairRunner(self.typed, self.path("temporary"), self.path("out"), False)
+            calls = PairRunner(self.command_paths, self.path("temporary"), self.path("out"), False)
             items = [self.item(kind, f"name{at}") for at, kind in enumerate(kinds)]
             lines: list[str] = []
 
@@ -450,16 +460,16 @@ class ForkedPairs(Case):
     def test_resumes_only_from_current_results(self) -> None:
         items = [self.item("accepted", name, "--origin", "0") for name in (
             "one", "two", "three", "four", "six", "seven", "eight")]
-        items.append(Item("five", None, "no pair"))
-        program = about_program(self.typed.program_path)
+        items.append(BatchItem("five", None, "no pair"))
+        program = about_program(self.command_paths.program_path)
         mores: list[dict[str, Any]] = [
             {}, {}, {"program": {**PROGRAM.made(program), "sha256": "1" * 64}}, {}, {"format": 2},
             {"files_at_start": None}, {"request": None}]
         verdicts = ("refused", "not judged", "accepted", "waived", *["accepted"] * 3)
         for item, verdict, more in zip(items, verdicts, mores):
-            assert item.asked
-            have = {**make_result(verdict), "request": REQUEST.made(item.asked),
-                    "files_at_start": found(item.asked),
+            assert item.request
+            have = {**make_result(verdict), "request": REQUEST.made(item.request),
+                    "files_at_start": describe_inputs(item.request),
                     "program": PROGRAM.made(program), **more}
             self.write(f"out/{item.name}.json", json.dumps(have).encode())
         self.write("out/five.json", json.dumps(make_result()).encode())
@@ -471,10 +481,10 @@ class ForkedPairs(Case):
 
     def test_prints_verdict_counts_and_the_remaining_time(self) -> None:
         rows = {word: row(word, word) for word in STATUSES if word not in (WAIVED, RELATIVE)}
-        self.must("none of this call", progress_line(rows, 9, 5, 0.0) ==
+        self.must("none of this call", format_progress(rows, 9, 5, 0.0) ==
                   "5 of 9 pairs: 1 accepted, 3 refused, 1 not judged")
         rows |= {word: row(word, word) for word in (WAIVED, RELATIVE)}
         with mock.patch.object(time, "monotonic", return_value=110.0):
-            said = progress_line(rows, 9, 4, 100.0)
+            said = format_progress(rows, 9, 4, 100.0)
         self.must("left", said == "7 of 9 pairs: 1 accepted, 1 waived, 1 relative, 3 refused, 1 "
                   "not judged; 7 seconds left", said)

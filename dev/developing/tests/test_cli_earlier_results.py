@@ -19,11 +19,11 @@ from subtitles.cli.single import claim_pair
 from subtitles.common.command_line import Lateness, Stop
 from subtitles.common.program import MadeWith, about_program
 from subtitles.judging.status import STATUSES
-from subtitles.request.lines import Item
+from subtitles.request.lines import BatchItem
 from subtitles.request.request import Profile
 from subtitles.results.files import (
-    MOST_VALUES, Row, found, is_current, left_by_call, may_take, object_at, objects_in,
-    row_of_object, unjudged)
+    MOST_VALUES, Row, can_replace, describe_inputs, is_current, read_call_result, read_result,
+    read_results, make_row, make_unjudged)
 from subtitles.results import schema
 from subtitles.results.schema import FORMAT, REQUEST
 from .bench import Case, example, example_bytes
@@ -48,7 +48,7 @@ class CurrentResults(Case):
             ("severity", b"72 warning\n"))]
         request = dataclasses.replace(request_for(*paths[:2]), severity=paths[2])
         return request, make_result("accepted", request=REQUEST.made(request),
-                                  files_at_start=found(request),
+                                  files_at_start=describe_inputs(request),
                              program=PROGRAM._asdict())
 
     def test_a_result_is_current_only_for_the_same_options(self) -> None:
@@ -86,7 +86,7 @@ class CurrentResults(Case):
             self.must(name, not is_current(accepted_pair, request, other))
         self.must("the prover's line is no matter",
                   is_current(accepted_pair, request, PROGRAM._replace(proved="logic=proved")))
-        self.must("none", not is_current(unjudged("one", "why"), request, PROGRAM))
+        self.must("none", not is_current(make_unjudged("one", "why"), request, PROGRAM))
         sums = set()
         for data in (b"one", b"two"):  # same size and time
             os.utime(self.write("program", data), (0, 0))
@@ -121,7 +121,7 @@ class StoredResults(Case):
             path = self.write("many.json", b'{"verdict":0,"format":%d,"a":[' % FORMAT +
                               data + b"0]}")
             with mock.patch("json.loads", side_effect=ValueError("loaded")):
-                accepted_pair = object_at(path)
+                accepted_pair = read_result(path)
             self.must(f"{data[:9]!r}", accepted_pair is not None and (arguments or "loaded") in
                       accepted_pair["reason"], accepted_pair)
 
@@ -129,7 +129,7 @@ class StoredResults(Case):
         faults = [{**FAULT, "line": f"refused {number}", "number": 5, "name": "X"}
                   for number in range(120)]
         causes = {"late": 2, "early": 1}
-        found_row = row_of_object(make_result(faults=faults, fault_count=7, seconds=1.5,
+        found_row = make_row(make_result(faults=faults, fault_count=7, seconds=1.5,
                                          cause_counts={**causes, "never": 0}, hints=["72: a hint"]),
                                   "name")
         self.must("all", found_row == Row(
@@ -137,17 +137,17 @@ class StoredResults(Case):
             {**causes, "5 X": 120}, [f"refused {number}" for number in range(100)], 1.5, "a hint",
             sentence=found_row.sentence, clock=found_row.clock),
             found_row)
-        self.must("none", row_of_object(unjudged("name", "why"), "name") == Row(
+        self.must("none", make_row(make_unjudged("name", "why"), "name") == Row(
             "name", "name", "not judged", 2, "why", 0, {}, [], 0.0, ""))
         none: dict[str, Any] = {"format": FORMAT, "verdict": "not judged", "status": 2, "name": "a",
                                 "reason": "why"}
-        self.must("not judged", unjudged("a", "why") == none)
-        self.must("reason", row_of_object(make_result("not judged"), "x").line == "why")
+        self.must("not judged", make_unjudged("a", "why") == none)
+        self.must("reason", make_row(make_result("not judged"), "x").line == "why")
         self.must("the lead",
-                  row_of_object(make_result(line="refused 10 A", worst_fault="refused 72 B"),
+                  make_row(make_result(line="refused 10 A", worst_fault="refused 72 B"),
                                             "x").line == "refused 72 B")
-        self.must("judged", row_of_object(make_result(), "x").is_judged and not row_of_object(
-            unjudged("x", "why"), "x").is_judged)
+        self.must("judged", make_row(make_result(), "x").is_judged and not make_row(
+            make_unjudged("x", "why"), "x").is_judged)
 
     def test_refuses_results_of_another_format_or_shape(self) -> None:
         path = self.path("one.json")
@@ -167,38 +167,39 @@ class StoredResults(Case):
         for change, where in changes:
             self.write("one.json", json.dumps({**make_result(), **change}).encode())
             judged = f"does not match docs/verdict.schema.json at {where}: judge it again" \
-                if where else "has format 3, and this version reads 7: judge it again"
-            self.must(f"{change}", object_at(path) == unjudged("one", f"its JSON result {judged}"),
-                      object_at(path))
+                if where else "has format 3, but this version reads format 7: judge it again"
+            result = read_result(path)
+            self.must(f"{change}", result == make_unjudged("one", f"its JSON result {judged}"),
+                      result)
         goods: list[dict[str, Any]] = [{}, {"faults": [FAULT, FAULT]}, {"seconds": 5},
                                        make_result("not judged"), make_result("waived"),
                                        make_result("lost")]
         for change in goods:
             accepted_pair = {**make_result(), **change}
             self.write("one.json", json.dumps(accepted_pair).encode())
-            self.must(f"{change}", object_at(path) == accepted_pair)
+            self.must(f"{change}", read_result(path) == accepted_pair)
         for text, is_one in ((b"[]", False), (b"{}", False), (b"{", True), (b"\xff", True)):
             self.write("one.json", text)
-            self.must(f"{text!r}", (object_at(path) is not None) == is_one)
-        self.must("not there", (object_at(self.path("none.json")) or {}).get("name") == "none")
+            self.must(f"{text!r}", (read_result(path) is not None) == is_one)
+        self.must("not there", (read_result(self.path("none.json")) or {}).get("name") == "none")
 
     def test_refuses_an_inconsistent_result_without_a_pair(self) -> None:
-        none = unjudged("one", "why")
+        none = make_unjudged("one", "why")
         others: list[dict[str, Any]] = [{}, {"line": "accepted"}]
         for word, status, reason, opened in itertools.product(
                 (*STATUSES, "other", None), (0, 1, 2, None), ("why", "", None), others):
             accepted_pair = {**none, "verdict": word, "status": status, "reason": reason, **opened}
             self.write("one.json", json.dumps(accepted_pair).encode())
             is_one = (word, status, reason, opened) == ("not judged", 2, "why", {})
-            found = object_at(self.path("one.json")) or {}
-            if (found == accepted_pair) != is_one or row_of_object(found, "one").status != 2:
+            found = read_result(self.path("one.json")) or {}
+            if (found == accepted_pair) != is_one or make_row(found, "one").status != 2:
                 self.must(f"{accepted_pair}", False, found)
 
     def test_reads_only_visible_json_files_in_order(self) -> None:
         for name in ("b.json", "a.json", ".c.json", "d.txt", "e.jsonl"):
             self.write(name, json.dumps(make_result()).encode())
         os.mkdir(self.path("f.json"))
-        names = [os.path.basename(path) for path, _ in objects_in(self.folder)]
+        names = [os.path.basename(path) for path, _ in read_results(self.folder)]
         self.must("names", names == ["a.json", "b.json"], names)
 
     def test_takes_a_result_only_with_its_own_status(self) -> None:
@@ -207,24 +208,24 @@ class StoredResults(Case):
                                        ("accepted", 0, True), ("accepted", 2, False),
                                        ("waived", 0, True), ("accepted", -9, False)):
             self.write("one.json", json.dumps(make_result(verdict)).encode())
-            got = left_by_call(path, "one", ended, ["qc: first", "qc: last: more"])
+            got = read_call_result(path, "one", ended, ["qc: first", "qc: last: more"])
             self.must(f"{verdict} {ended}", (got["verdict"] == verdict) == is_its, got)
             if not is_its:
                 self.must("why", got["reason"] == ("last: more" if ended >= 0 else
                                                    "the process was killed"), got)
         os.unlink(path)
-        self.must("none", left_by_call(path, "one", 2, [])["reason"] ==
-                  "the process left no result")
+        self.must("none", read_call_result(path, "one", 2, [])["reason"] ==
+                  "the process wrote no result")
 
     def test_replaces_only_results_and_empty_files(self) -> None:
         for data, wanted in ((b"{", True), (b"", True), (b"GSI", False), (b" {", False),
                              (b'{"a', True)):
-            self.must(f"{data!r}", may_take(self.write("x", data)) == wanted)
+            self.must(f"{data!r}", can_replace(self.write("x", data)) == wanted)
         for data, wanted in ((b"stl,recording,part", True), (b"", True), (b"stl", False),
                              (b"{", False)):
-            self.must(f"{data!r}: a table", may_take(self.write("x", data), b"stl,recording,") ==
+            self.must(f"{data!r}: a table", can_replace(self.write("x", data), b"stl,recording,") ==
                       wanted)
-        self.must("not there", may_take(self.path("none")) and may_take("/dev/zero"))
+        self.must("not there", can_replace(self.path("none")) and can_replace("/dev/zero"))
 
 
 class WatchedFolders(Case):
@@ -304,7 +305,7 @@ class WatchedFolders(Case):
                         results.write_page(is_last=what == "last")
                 self.check(f"{now}: {what}", len(pages), count)
 
-    def run_watch(self, looks: int, judged: Callable[[PairRunner, Item], Row],
+    def run_watch(self, looks: int, judged: Callable[[PairRunner, BatchItem], Row],
                change: Callable[[int], None] = lambda look: None) -> list[str]:
         """Return the lines of a call that looks at the folder a number of times."""
         count = 0
@@ -317,10 +318,12 @@ class WatchedFolders(Case):
                 raise KeyboardInterrupt
             change(count)
 
-        def judge(calls: PairRunner, waiting: collections.deque[Item], jobs: int) -> Iterator[Row]:
-            self.must("its words", (calls.typed.program_path, calls.is_kept, calls.limit, jobs) ==
+        def judge(calls: PairRunner, waiting: collections.deque[BatchItem],
+                  jobs: int) -> Iterator[Row]:
+            self.must("its words", (calls.command_paths.program_path, calls.is_kept, calls.limit,
+                                    jobs) ==
                       (self.path("program"), True, 7, 3) and calls.inputs.names and
-                      waiting[0].asked.every == 99)  # type: ignore[union-attr]
+                      waiting[0].request.every == 99)  # type: ignore[union-attr]
             while waiting:
                 yield judged(calls, waiting.popleft())
 
@@ -340,7 +343,7 @@ class WatchedFolders(Case):
             request = request_for(self.write(f"in/{name}.stl", b"1"),
                                 self.write(f"in/{name}.ts", b"1"),
                               "--every", "99")
-            files = {**found(request), **({"stl": None} if name == "b" else {})}
+            files = {**describe_inputs(request), **({"stl": None} if name == "b" else {})}
             have = make_result(request=REQUEST.made(request), files_at_start=files,
                           program=schema.PROGRAM.made(program))
             self.write(f"out/{name}.json", json.dumps(have).encode())
@@ -348,10 +351,10 @@ class WatchedFolders(Case):
 
         def read(path: str) -> dict[str, Any] | None:
             reads.append(os.path.basename(path))
-            return object_at(path)
+            return read_result(path)
 
-        with mock.patch("subtitles.results.files.object_at", read), \
-                mock.patch("subtitles.cli.batch.object_at", read):
+        with mock.patch("subtitles.results.files.read_result", read), \
+                mock.patch("subtitles.cli.batch.read_result", read):
             lines = self.run_watch(6, lambda calls, item: row(item.name, "accepted"))
         self.must("judged", lines == ["b  accepted"], lines)
         self.must("read", sorted(reads) == ["a.json", "b.json", "c.json"], reads)
@@ -360,7 +363,7 @@ class WatchedFolders(Case):
         self.write_pair()
         begun = list[str]()
 
-        def judged(calls: PairRunner, item: Item) -> Row:
+        def judged(calls: PairRunner, item: BatchItem) -> Row:
             begun.append(item.name)
             row_of = calls.start(item)
             assert row_of
@@ -368,15 +371,15 @@ class WatchedFolders(Case):
 
         with claim_pair(self.path("out"), "a"):
             lines = self.run_watch(5, judged)
-        self.must("once", len(lines) == 1 and "another call is writing the files of a" in lines[0]
-                  and not os.path.exists(self.path("out/a.json")), lines)
+        self.must("once", len(lines) == 1 and "another run of qc is writing the files of a" in
+                  lines[0] and not os.path.exists(self.path("out/a.json")), lines)
         self.must("at each look but the first", begun == ["a"] * 4, begun)
 
     def test_judges_a_locked_pair_once_it_is_free(self) -> None:
         self.write_pair()
         begun = list[bool]()
 
-        def judged(calls: PairRunner, item: Item) -> Row:
+        def judged(calls: PairRunner, item: BatchItem) -> Row:
             row_of = calls.start(item)
             begun.append(row_of is None)
             return row_of or row(item.name, "accepted")
@@ -405,7 +408,7 @@ class WatchedFolders(Case):
         request, path = request_for(self.path("in/a.stl"), self.path("in/a.ts"), "--every", "99"), \
             self.path("in/a.ts")
         self.write("out/a.json", json.dumps(make_result(
-            request=REQUEST.made(request), files_at_start=found(request),
+            request=REQUEST.made(request), files_at_start=describe_inputs(request),
             program=schema.PROGRAM.made(about_program(self.bench.program)))).encode())
         before = os.stat(path).st_mtime_ns
 
@@ -422,6 +425,6 @@ class WatchedFolders(Case):
         watch, errors = FolderWatch(self.path("in"), 0), io.StringIO()
         with contextlib.redirect_stderr(errors):
             for reason in ("first", "first", "second", "second", "first", "first"):
-                self.must(reason, watch.ready_items([Item("a", None, reason)]) == [])
+                self.must(reason, watch.ready_items([BatchItem("a", None, reason)]) == [])
         lines = [line.partition(": ")[2] for line in errors.getvalue().splitlines()]
         self.must("told", lines == ["first", "second", "first"], lines)

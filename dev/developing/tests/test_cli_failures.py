@@ -17,7 +17,7 @@ from subtitles.cli.main import main
 from subtitles.cli.single import SIGNALS
 from subtitles.common.command_line import run
 from subtitles.common.program import TOP
-from subtitles.formats.stl import stl_bytes
+from subtitles.formats.stl import read_stl
 from .bench import Case, example, tool_path
 from .judged import FEW
 
@@ -239,8 +239,8 @@ class UsageErrors(CallCase):
         program = self.fake_program(ACCEPTED)
         os.mkdir(self.path("in"))
         for name, data in (("list", f"{HELLO[0]} {self.path('in/one.pes')}\n".encode()),
-                           ("in/one.stl", stl_bytes(HELLO[0])), ("severity", b"67 warning\n"),
-                           ("in/one.pes", stl_bytes(HELLO[1]))):
+                           ("in/one.stl", read_stl(HELLO[0])), ("severity", b"67 warning\n"),
+                           ("in/one.pes", read_stl(HELLO[1]))):
             self.write(name, data)
         pair = ["in/one.stl", "in/one.pes", "--severity", "severity", "--origin", "0"]
         self.assertEqual(self.qc(*pair, "-p", program, "--json", "in/one.json").status, 0)
@@ -280,9 +280,9 @@ class Bugs(CallCase):
                       "judging.timing.estimate_origin",
                       "judging.pair.explain_part", "judging.part.Part.is_read",
                       "judging.check.CheckOutput.read_line", "cli.main.make_parser",
-                      "cli.single.request_of",
-                      "cli.single.CommandWords", "cli.single.found", "results.files.listed",
-                      "cli.single.about_program"):
+                      "cli.single.make_request",
+                      "cli.single.CommandPaths", "cli.single.describe_inputs",
+                      "results.files.write_list", "cli.single.about_program"):
             with self.subTest(place):
                 self.check_failing(place, ValueError("odd"))
 

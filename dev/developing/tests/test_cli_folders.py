@@ -125,7 +125,7 @@ class HostileNames(Case):
         with claim_pair(self.path("out"), "story"):
             done = qc(self, STORY, RECORDING, "-o", "out")
         self.must("two", done == Done(2, b"", [
-            "qc: another call is writing the files of story in out"]), done)
+            "qc: another run of qc is writing the files of story in out"]), done)
 
     def test_reports_an_unwritable_folder(self) -> None:
         if os.geteuid() != 0:
@@ -170,12 +170,13 @@ class Claims(Case):
         folder = self.path("claimed/here")
         for turn in range(2):
             with claim_pair(folder, "one"), claim_pair(folder, "two"), claim_folder(folder):
-                for again, why in ((claim_pair(folder, "one"),
-                                    f"another call is writing the files of one in {folder}"), (
-                        claim_folder(folder), f"another batch is judging into {folder}")):
+                for again, why in (
+                        (claim_pair(folder, "one"), "writing the files of one in"),
+                        (claim_folder(folder), "judging a batch into")):
                     with self.assertRaises(Stop) as refused, again:
                         self.must("never", False)
-                    self.must("why", str(refused.exception) == why, refused.exception)
+                    self.must("why", str(refused.exception) ==
+                              f"another run of qc is {why} {folder}", refused.exception)
             self.must(f"turn {turn}", os.listdir(folder) == [])
         with claim_pair(None, "one"), claim_folder(None):
             self.must("no folder", True)

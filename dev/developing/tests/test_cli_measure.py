@@ -13,13 +13,13 @@ from collections import Counter
 
 from developing.pes import make_packet
 from subtitles.cli.measure import (
-    Delays, NAMED, measure_delays, measure_recording, named_lines, propose_keeping,
+    Delays, MOST_EXAMPLES, measure_delays, measure_recording, named_lines, propose_keeping,
     propose_lateness, propose_option, remove_unusual)
 from subtitles.common.command_line import MOST_WITHIN
 from subtitles.common.times import TICKS
 from subtitles.formats.stl import Subtitle
 from subtitles.formats.teletext import BY_WORD
-from subtitles.request.commands import CommandWords
+from subtitles.request.commands import CommandPaths
 from subtitles.stream.repeats import measure_repeats
 from subtitles.stream.packets import Packets
 from subtitles.stream.receiver import BLANK_PAGE, Timeline
@@ -115,7 +115,7 @@ class Cues(Case):
                 found = [*propose_lateness(some, [])]
                 lines = [line for finding in found for line in finding.lines]
                 self.must(f"{begins} {ends}", "|".join(filter(None, (
-                    finding.words for finding in found))) == wanted and any(
+                    finding.text for finding in found))) == wanted and any(
                         f"within is {most} frames" in line for line in lines) == (
                             most + 1 in (*begins, *ends)) and sum(
                                 "z" in line for line in lines) == len(some) - 1 and
@@ -129,14 +129,15 @@ class Cues(Case):
         for delays, off, wanted in of_off:
             found = [*propose_lateness(delays, [], off)]
             self.check(f"{delays}, {off} off", "|".join(filter(None, (
-                finding.words for finding in found))), wanted)
-        names = [f"n{at}" for at in range(NAMED + 2)]
-        for count, end in ((0, None), (NAMED, ""), (NAMED + 1, ", and 1 more"),
-                           (NAMED + 2, ", and 2 more")):
+                finding.text for finding in found))), wanted)
+        names = [f"n{at}" for at in range(MOST_EXAMPLES + 2)]
+        for count, end in ((0, None), (MOST_EXAMPLES, ""), (MOST_EXAMPLES + 1, ", and 1 more"),
+                           (MOST_EXAMPLES + 2, ", and 2 more")):
             self.must(f"{count} names", named_lines("what", names[:count]) == (
-                [] if end is None else [f"what: {'; '.join(names[:min(count, NAMED)])}{end}"]))
+                [] if end is None
+                else [f"what: {'; '.join(names[:min(count, MOST_EXAMPLES)])}{end}"]))
         for headers, keeping, is_alone in itertools.product((9, 20, 21), (0, 1), (False, True)):
-            found_words = propose_keeping(headers, keeping, is_alone).words
+            found_words = propose_keeping(headers, keeping, is_alone).text
             self.must(f"{keeping} of {headers}, {is_alone}", bool(found_words) == (
                 keeping > 0 and headers < 21 and is_alone))
 
@@ -149,13 +150,13 @@ class Cues(Case):
             "a tail": (({0: 45, 1: 4, 2: 1},), {0: 45, 1: 4})})
         late = Delays(Counter({0: 89, 5: 1}), Counter({0: 90}), [], [], [(5, "x begins late")])
         found = [*propose_lateness([late], [])]
-        self.check("one of 90", ("".join(one.words for one in found), found[0].lines[1]), (
+        self.check("one of 90", ("".join(one.text for one in found), found[0].lines[1]), (
             "", "later than usual, which --within then refuses: x begins late"))
         late = late._replace(begins=Counter({0: 19, 5: 1}))
         self.check("one of 20", next(propose_lateness([late], [])).lines[1:], [])
 
     def test_proposes_the_option_of_all_headers(self) -> None:
-        self.check_each(lambda *sent: propose_option(sent, "english").words, {
+        self.check_each(lambda *sent: propose_option(sent, "english").text, {
             "none": ((), ""), "one": (("german",), "--option german"),
             "two": (("german", "english"), "")})
 
@@ -175,7 +176,7 @@ class Parts(Case):
         sent = schedule_pages(self, stl)
         places = [next(at for at, (pts, _) in enumerate(sent) if pts == frame * TICKS)
                   for frame in (425, 1225)]  # a repeat in each part
-        typed = CommandWords("tools/qc", self.bench.program)
+        typed = CommandPaths("tools/qc", self.bench.program)
         for number, (part, what) in enumerate(itertools.product((0, 1), KINDS)):
             begin, changed = places[part] - 1, [*sent]
             if what == "late":

@@ -27,9 +27,9 @@ from subtitles.judging.status import Severity
 from subtitles.judging.verdict import Gap, Unjudged, Verdict
 from subtitles.recording.notices import Notice
 from subtitles.report import page as report_page
-from subtitles.request.commands import CommandWords, Names
-from subtitles.request.request import Request, Unclear, Unsaid
-from subtitles.results.files import Row, found
+from subtitles.request.commands import CommandPaths, OutputNames
+from subtitles.request.request import Request, Unclear, IncompleteAnswer
+from subtitles.results.files import Row, describe_inputs
 from subtitles.stream.gaps import LossPlace
 from .bench import Case, example
 from .judged import LineRecorder
@@ -79,11 +79,11 @@ class LastLines(Case):
         rows: list[tuple[list[str], str, bool]] = [
             (["accepted 10 frames 2 transmissions"], "relative 10 frames 2 transmissions", False),
             (REFUSED, REFUSED[0], True)]
-        for lines, last, is_said in rows:
+        for lines, last, is_printed in rows:
             said = self.said(self.verdict([make_part(0, 9, 0, make_answer(
                 lines, path=self.path("list")), source=RECORDING)]))
             self.must("without a clock", said[-1] == last and any(
-                one.startswith(ESTIMATED_NOTE) for one in said) == is_said, said)
+                one.startswith(ESTIMATED_NOTE) for one in said) == is_printed, said)
         causes: list[Any] = ["first", None, "third"]
         with mock.patch.object(single, "format_cause_counts", lambda some: f"{some}"):
             said = self.said(self.verdict([make_part(0, 9, 0, causes=one) for one in causes]))
@@ -97,7 +97,7 @@ class LastLines(Case):
             self.must(f"{count}", said.count(place) == min(count, 20) and
                       (more in said if more else not any("more place" in one for one in said[:-2])),
                       said)
-            self.must("not recorded", "! record that part again: what is missing was not "
+            self.must("not recorded", "! record that part again: the missing frames were not "
                                       "checked" in said, said)
         said = self.said(self.verdict([make_part(0, 99, 0)], gaps=[gap(False)]))
         self.must("outside", said[0].endswith("3 TS packets lost, outside the judged range") and
@@ -107,7 +107,7 @@ class LastLines(Case):
                   said[-1].startswith("accepted"), said)
         said = self.said(self.verdict([make_part(0, 99, 0, make_answer(REFUSED))],
                                       gaps=[gap(True)]))
-        self.must("refused too", "! record that part again: what is missing was not "
+        self.must("refused too", "! record that part again: the missing frames were not "
                                  "checked" in said, said)
 
     def test_prints_the_line_of_the_first_refused_part(self) -> None:
@@ -117,10 +117,10 @@ class LastLines(Case):
                   "part 2, from 00:00:00:10 to 00:00:00:19: " + REFUSED[0] in said, said)
         rows: list[tuple[Sequence[int], int, bool]] = [
             ((0, 3), 1, True), ((), 1, False), ((0, 3), 0, False)]
-        for delays, within, is_said in rows:
+        for delays, within, is_printed in rows:
             one = make_part(0, 9, 0, delays=delays)
             said = self.said(self.verdict([one], *(["--within", str(within)] if within else [])))
-            self.must(f"{delays} {within}", len(said) == 2 + is_said, said)
+            self.must(f"{delays} {within}", len(said) == 2 + is_printed, said)
         accepted = [make_part(0, 9, 0)]
         for some, page, where in (
                 (parts, None, ". See refusals.md#n72."), (accepted, "a.html", "."),
@@ -149,7 +149,7 @@ class LastLines(Case):
             ("+ a command", []), ("", [])]
         for last, wanted in rows:
             heard = LineRecorder()
-            heard.last = last
+            heard.last_line = last
             print_verdict(self.verdict([], unjudged=Unjudged("why")), heard)
             self.must(last, heard.lines == [*wanted, "! why"], heard.lines)
 
@@ -162,8 +162,8 @@ class OutputFilesOfPair(Case):
 
     def files(self, verdict: Verdict, **words: Any) -> OutputFiles:
         known = PairOptions(None, **words)
-        names = Names("one", self.folder, known.out)
-        return OutputFiles(known, verdict, CommandWords("tools/qc", self.bench.program), names)
+        names = OutputNames("one", self.folder, known.out)
+        return OutputFiles(known, verdict, CommandPaths("tools/qc", self.bench.program), names)
 
     def part(self, number: int = 1, lines: Sequence[str] = REFUSED) -> Part:
         """Return a refused part with its fault list."""
@@ -171,14 +171,14 @@ class OutputFilesOfPair(Case):
         for line in lines:
             said.read_line(line)
         said.finish(1)
-        names = Names("a", self.folder, self.folder)
-        names.given = example("story.stl")
+        names = OutputNames("a", self.folder, self.folder)
+        names.program_stl = example("story.stl")
         return make_part(0, 9, 0, said, number, names=names)
 
     def verdict(self, lines: Sequence[str] = REFUSED) -> Verdict:
         made = Verdict(request_for(example("story.stl"), self.path("one.pes")), Severity(None),
                        now())
-        made.files_at_start = found(made.request)
+        made.files_at_start = describe_inputs(made.request)
         made.parts = [self.part(1, lines)]
         return made
 
@@ -328,7 +328,7 @@ class OutputFilesOfPair(Case):
         for is_json, is_raw in ((True, False), (False, False), (False, True)):
             files = self.files(self.verdict())
             path = self.path(f"{is_json}.json")
-            self.must("failed", not files.try_to_put(
+            self.must("failed", not files.try_to_write(
                 Output(path, fail, is_json=is_json, is_raw=is_raw)))
             self.must(f"{is_json} {is_raw}", os.path.exists(path) == is_json and
                       "wrong" in files.verdict.failed_outputs[0], files.verdict.failed_outputs)
@@ -338,7 +338,7 @@ class OutputFilesOfPair(Case):
         many = [f"refused 68 Parity frame 00:00:01:00 packet {at}" for at in range(70)]
         verdict = self.verdict([*many, "70 faults"])
         verdict.parts += [make_part(0, 9, 0), self.part(2, [*many, "70 faults"])]
-        lines = self.files(verdict).lines()
+        lines = self.files(verdict).list_lines()
         self.must("lines", lines == [*many, "70 faults", *many[:29]], lines[65:75])
         self.must("name", pair_title(request_for("a.stl", None)) == "a.stl" and
                   pair_title(request_for("a.stl", "b.ts")) == "a.stl b.ts")
@@ -351,7 +351,7 @@ class OutputFilesOfPair(Case):
             self.must("before", json.loads(self.read("one.json"))["status"] == 1)
             with contextlib.redirect_stderr(io.StringIO()), mock.patch.object(
                     single, "ignore_signals"), mock.patch.object(single, "silence"), \
-                    mock.patch.object(heard, "say", side_effect=[reason, *[None] * 9]):
+                    mock.patch.object(heard, "print_line", side_effect=[reason, *[None] * 9]):
                 report_pair(verdict, heard, files)
             self.must(f"{reason!r}", json.loads(self.read("one.json"))["status"] == 2 and
                       verdict.status == 2, verdict.failed_outputs)
@@ -363,7 +363,8 @@ class OutputFilesOfPair(Case):
 
     def test_each_error_ends_as_final_or_not(self) -> None:
         rows: list[tuple[BaseException | None, bool]] = [
-            (None, True), (Unclear("a", "b"), True), (Unsaid("a"), False), (Stop("a"), True),
+            (None, True), (Unclear("a", "b"), True), (IncompleteAnswer("a"), False),
+            (Stop("a"), True),
             (Unanswered("a"), False), (OSError(5, "a"), False), (MemoryError(), False),
             (KeyError("a"), True), (RecursionError(), True), (KeyboardInterrupt(), False)]
         for reason, is_final in rows:
@@ -396,7 +397,7 @@ class Pages(Case):
         verdict.parts = [make_part(0, 9, 7), make_part(50, 99, 9, make_answer(REFUSED), 2),
                          make_part(120, 149, 7, number=3)]
         for part in verdict.parts:
-            part.names.given = example("story.stl")
+            part.names.program_stl = example("story.stl")
         return verdict
 
     def test_links_a_row_to_each_part(self) -> None:
@@ -405,20 +406,20 @@ class Pages(Case):
                              (2, "Clock given: --origin 7. All 2 frames late."),
                              (-1, "Clock given: --origin 7. All 1 frame early.")):
             part = make_part(0, 9, 7, alignment=TimedPart(0, 9, Clock(7, GIVEN, delay)))
-            table = markup_text(report_page.parts_table([part]))
+            table = markup_text(report_page.make_parts_table([part]))
             self.must(words, f'<td data-name="Clock">{words}</td>' in table, table)
-        table = markup_text(report_page.parts_table(verdict.parts))
+        table = markup_text(report_page.make_parts_table(verdict.parts))
         for number in (1, 2, 3):
             self.must(f"part {number}", table.count(
                 f'<a href="#part{number}">part {number}</a>') == 1, table)
         self.must("faults", '<td data-name="Faults">2</td>' in table and
                   table.count('<td data-name="Faults">0</td>') == 2, table)
         verdict.gaps, verdict.warnings = [gap(True), gap(False)], [Notice("kind", "strange")]
-        box = markup_text(report_page.verdict_box(verdict))
+        box = markup_text(report_page.make_verdict_box(verdict))
         self.must("box", box.startswith('<div class="verdict refused">') and verdict.sentence in
                   box and box.count("3 TS packets lost") == 1 and "strange" in box, box)
         for verdict.gaps, count in ((verdict.gaps, 1), (verdict.gaps[:1], 0)):
-            listed = "".join(report_page.not_checked(verdict))
+            listed = "".join(report_page.list_unchecked(verdict))
             self.must("outside", listed.count("3 TS packets lost, outside") == count, listed)
         scope = markup_text(report_page.scope_section(verdict))
         self.must("scope", "00:00:00:00 to 00:00:05:24, " in scope, scope)
@@ -434,7 +435,7 @@ class Pages(Case):
         self.must("waived", [*report_page.waived_faults(verdict)] == ["not shown: b"])
 
     def test_has_unique_anchors_for_all_parts(self) -> None:
-        page = markup_text(report_page.report_page(self.several(), CommandWords(
+        page = markup_text(report_page.make_report_page(self.several(), CommandPaths(
             "tools/qc", self.bench.program)))
         self.must("its date", page.count("2026-01-02 03:04:05 UTC") == 1)
         self.must("parts", re.findall(r'<section class="part" id="part(\d)"><h2>Part (\d),', page)
@@ -450,7 +451,7 @@ class Pages(Case):
         verdict = self.several()
         verdict.unjudged = Unjudged("no clock <\nnone", ("tools/qc a b --origin T",))
         verdict.notes, verdict.warnings = ["a note"], [Notice("kind", "strange")]
-        page = markup_text(report_page.report_page(verdict, CommandWords(
+        page = markup_text(report_page.make_report_page(verdict, CommandPaths(
             "tools/qc", self.bench.program)))
         for words in ("Not judged: no clock &lt;", "<p>none</p>", "a note", "strange",
                       'Type <code class="long">tools/qc a b --origin T</code>',
@@ -473,10 +474,10 @@ class Pages(Case):
                   ["d<", "e", "b", "c", "a"])
         for name in ("a.html", "a.json", "b.json", "b.txt"):
             self.write(name, b"")
-        page = collection.index_page(self.folder, rows, "now").decode()
+        page = collection.make_index_page(self.folder, rows, "now").decode()
         self.must("counts", page.count("5 pairs: 1 accepted, 1 lost, 1 not judged, 1 refused, "
                                        "1 waived") == 2, page[:900])
-        lines = {row.name: collection.pair_row(self.folder, row).source for row in rows}
+        lines = {row.name: collection.make_pair_row(self.folder, row).source for row in rows}
         self.must("links", [lines[name].count("<a ") for name in "abc"] == [2, 2, 0] and
                   ">list</a>" in lines["b"] and 'href="./a.html">a</a>' in lines["a"], lines)
         self.must("why", "why" in lines["b"] and "refused 72" in lines["d<"], lines)
@@ -484,7 +485,8 @@ class Pages(Case):
                   "&hellip;" not in lines["c"] and "9 faults</b><br/>" in lines["d<"] and
                   "1 fault</b><br/>" in lines["c"] and "faults" not in lines["e"] and
                   "fault" not in lines["b"], lines)
-        six = collection.pair_row(self.folder, one("f", "refused", 1, "refused 72", 9, 6)).source
+        six = collection.make_pair_row(self.folder, one("f", "refused", 1, "refused 72", 9,
+                                                        6)).source
         self.must("all causes", six.count("&times;") == 6 and "&hellip;" not in six, six)
         self.must("name", "d&lt;" in lines["d<"] and 'class="not-judged"' in lines["b"])
         worst = [collection.worst_fault(one("g", "relative", 3, "72 a", count)) for count in (0, 1)]

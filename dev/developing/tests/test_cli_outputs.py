@@ -23,9 +23,9 @@ from subtitles.common.command_line import shown
 from subtitles.common.files import SummedFile
 from subtitles.judging.verdict import Gap
 from subtitles.results.files import (
-    Row, TestCase, cell_words, column_rows, junit_file as junit_of, modified, part_columns, said,
-    table_lines as csv_of, unjudged)
-from subtitles.results.schema import JUDGED_PART, LOSS, PartOf
+    Row, TestCase, format_cell, column_rows, junit_file as junit_of, format_change_time, part_columns, table_value,
+    table_lines as csv_of, make_unjudged)
+from subtitles.results.schema import JUDGED_PART, LOSS, PartResult
 from subtitles.stream.gaps import LossPlace
 from .bench import Case
 from .parts import make_part
@@ -49,7 +49,7 @@ OBJECTS: list[dict[str, Any]] = [
     make_result("refused", line="refused 72", faults=[
         fault(72, subtitle=subtitle(7, "1", "2"), cause=CAUSE,
               expected={"code": "41", "character": "A"}, decoded=NO_CELL), fault(38, pes=5)]),
-    unjudged("two", "no file\nat all"),
+    make_unjudged("two", "no file\nat all"),
     make_result("accepted", request={**PLAIN, "stl": "three.stl", "recording": None},
                 line="accepted")]
 
@@ -92,7 +92,7 @@ class Tables(unittest.TestCase):
         self.assertEqual([with_all[name] for name in names], [
             "7", "1", "2", "41 A", "00", "late", "3", "9", "due", "other", "late by 3"])
         self.assertEqual([without[name] for name in names], [""] * len(names))
-        self.assertEqual(cell_words(None), "")
+        self.assertEqual(format_cell(None), "")
 
 
 class Testcases(unittest.TestCase):
@@ -167,7 +167,7 @@ class Members(unittest.TestCase):
             date = calendar.timegm(time.strptime(now(), "%Y-%m-%dT%H:%M:%SZ"))
             about: Any = SimpleNamespace(st_mtime_ns=1_000_000_007)
             self.assertLess(abs(date - time.time()), 600)
-            self.assertEqual(modified(about), "1970-01-01T00:00:01.000000007Z")
+            self.assertEqual(format_change_time(about), "1970-01-01T00:00:01.000000007Z")
 
     def test_writes_a_gap_with_times_and_pts(self) -> None:
         place = LossPlace(5, 9, 3, scrambled=2, missing=4, gap_marker=7)
@@ -181,7 +181,7 @@ class Members(unittest.TestCase):
 
     def test_writes_the_judged_range_clock_and_file(self) -> None:
         part = make_part(25, 49, 7, number=2)
-        bare = JUDGED_PART.made(PartOf(part, False))
+        bare = JUDGED_PART.made(PartResult(part, False))
         self.assertEqual([bare[name] for name in (
             "part", "origin", "from", "to", "verdict", "frames", "transmissions", "fault_count",
             "pid", "packet_size", "pes", "judged_file")], [
@@ -193,11 +193,12 @@ class Members(unittest.TestCase):
         for count in (0, 1, 1_000_000):
             many: Any = SimpleNamespace(verdict="refused", line="l", frames=3, transmissions=1,
                                         fault_count=count)
-            words = JUDGED_PART.made(PartOf(dataclasses.replace(part, check_output=many), False))
+            words = JUDGED_PART.made(PartResult(dataclasses.replace(part, check_output=many),
+                                                False))
             self.assertEqual((words["fault_count"], words["verdict"], words["line"]),
                              (count, "refused", "l"), count)
         for is_kept, name in ((True, "a.cut.pes"), (False, None)):
-            words = JUDGED_PART.made(PartOf(part, is_kept))
+            words = JUDGED_PART.made(PartResult(part, is_kept))
             self.assertEqual([words[name] for name in ("pid", "packet_size", "pes", "judged_file",
                                                        "clock")],
                              [0x101, 204, "3-9", {"name": name, "size": 5, "sha256": "sum"}, None],
@@ -218,9 +219,10 @@ class Members(unittest.TestCase):
         self.assertEqual([{name: row.get(name) for name in first} for row in column_rows(known)],
                          [dict.fromkeys(first), first, second, first])
         for code, letter, words in (("41", "A", "41 A"), ("00", "", "00")):
-            self.assertEqual(cell_words({"code": code, "character": letter}), words, (code, letter))
-        self.assertEqual(said("a\nb\x07"), "a\n" + shown("b\x07"))
-        self.assertEqual((said(5), said(-5), said(None)), (5, -5, None))
+            self.assertEqual(format_cell({"code": code, "character": letter}), words,
+                             (code, letter))
+        self.assertEqual(table_value("a\nb\x07"), "a\n" + shown("b\x07"))
+        self.assertEqual((table_value(5), table_value(-5), table_value(None)), (5, -5, None))
         for text in ("=1+1", "+1", "-1", "@A1", "=a\nb"):
-            self.assertEqual(said(text), f"'{text}", text)
-        self.assertEqual((said("a=1"), said("\ta")), ("a=1", "\\x09a"))
+            self.assertEqual(table_value(text), f"'{text}", text)
+        self.assertEqual((table_value("a=1"), table_value("\ta")), ("a=1", "\\x09a"))

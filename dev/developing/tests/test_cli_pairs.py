@@ -81,7 +81,7 @@ class Batches(Case):
         self.write("list", f"{STORY} {RECORDING}\n".encode())
         with claim_folder(self.path("out")):
             self.must("refused", qc(self, "--batch", "list", "-o", "out") == Done(2, b"", [
-                "qc: another batch is judging into out"]))
+                "qc: another run of qc is judging a batch into out"]))
 
     def test_prints_only_json_to_standard_output(self) -> None:
         done = qc(self, STORY, RECORDING, "--json", "-")

@@ -21,10 +21,10 @@ from subtitles.cli.single import (
     ignore_signals)
 from subtitles.common.command_line import Stop, ended
 from subtitles.common.files import Inputs
-from subtitles.request.commands import CommandWords, Names, Speech
-from subtitles.request.lines import Item
+from subtitles.request.commands import CommandPaths, OutputNames, Printer
+from subtitles.request.lines import BatchItem
 from subtitles.request.request import keep_stl
-from subtitles.results.files import put_object
+from subtitles.results.files import write_result_file
 from .bench import Case, SECONDS, example, example_bytes
 from .parts import request_for, run_qc
 from .results import make_result
@@ -42,12 +42,12 @@ class UnjudgedPairs(Case):
 
     def runner(self) -> PairRunner:
         """Return a runner of pairs."""
-        return PairRunner(CommandWords("tools/qc", self.bench.program), self.path("temporary"),
+        return PairRunner(CommandPaths("tools/qc", self.bench.program), self.path("temporary"),
                      self.path("out"), False)
 
     def test_all_outputs_name_the_reason(self) -> None:
         rows: list[tuple[str, str, str, str]] = [
-            ("in use", "", "", "another call is writing the files of one"),
+            ("in use", "", "", "another run of qc is writing the files of one"),
             ("an input", "", "--severity out/one.html", "is also an input: give another name"),
             ("no result", "", "", "is not a result of these tools"),
             ("no pair", "none.ts", "", "none.ts: No such file")]
@@ -55,7 +55,7 @@ class UnjudgedPairs(Case):
         self.addCleanup(os.chdir, before)
         os.chdir(self.folder)
         for name, recording, words, why in rows:
-            put_object("out/one.json", make_result("accepted"))
+            write_result_file("out/one.json", make_result("accepted"))
             self.write("out/one.txt", b"refused 68 Parity frame 00:00:01:00 packet 9\n1 faults\n")
             if name in ("an input", "no result"):
                 self.write("out/one.html", b"67 warning\n")
@@ -78,7 +78,8 @@ class UnjudgedPairs(Case):
                 os.unlink("out/one.html")
 
     def test_locks_the_files_of_a_pair_until_its_call_ends(self) -> None:
-        item, calls = Item("one", request_for(self.path("one.stl"), self.path("one.ts")), None), \
+        item, calls = BatchItem("one", request_for(self.path("one.stl"), self.path("one.ts")),
+                                None), \
             self.runner()
         for does in (signal.pause, time.tzset):  # a call that waits for a signal, and one that ends
             with mock.patch.object(batch, "judge_forked_pair", lambda *_: does() or 2):
@@ -103,7 +104,8 @@ class UnjudgedPairs(Case):
 
     def test_runs_at_most_as_many_pairs_as_requested(self) -> None:
         for jobs, count in itertools.product((1, 2, 3), range(4)):
-            calls, waiting = self.runner(), deque(Item(f"{at}", None, None) for at in range(count))
+            calls, waiting = self.runner(), deque(BatchItem(f"{at}", None, None) for at in
+                                                  range(count))
             running: Any = calls.running
             with mock.patch.object(calls, "start", lambda item: running.update({item: item})), \
                     mock.patch.object(calls, "finished_rows", return_value=[]):
@@ -117,7 +119,7 @@ class UnjudgedPairs(Case):
             calls = self.runner()
             calls.limit = limit
             with mock.patch.object(batch, "ForkedProcess"):
-                calls.start(Item("one", request, None))
+                calls.start(BatchItem("one", request, None))
             [begun] = calls.running.values()
             begun.claim.close()
             self.check(f"{limit}", begun.limit, wanted)
@@ -127,9 +129,10 @@ class UnjudgedPairs(Case):
             self.write(f"out/{name}", b"theirs")
         with mock.patch("os.listdir", side_effect=os.listdir) as listed:
             calls = self.runner()
-            rows = [calls.start(Item(f"{at}", None, "no pair")) for at in range(20)]
+            rows = [calls.start(BatchItem(f"{at}", None, "no pair")) for at in range(20)]
             self.write("out/three.1.html", b"theirs")
-            rows += [calls.start(Item(name, None, "no pair")) for name in ("one", "two", "three")]
+            rows += [calls.start(BatchItem(name, None, "no pair")) for name in
+                     ("one", "two", "three")]
         self.check("listings", [call.args for call in listed.call_args_list],
                    [(self.path("out"),)])
         self.check("reasons", [row and row.line.replace(self.path(""), "") for row in rows],
@@ -167,9 +170,9 @@ class UnjudgedPairs(Case):
         for (verdict, status, counts), is_over in itertools.product(rows, (False, True)):
             calls, call = self.runner(), mock.Mock(**{"wait.return_value": (status, ["qc: why"])})
             calls.running[call] = batch.RunningPair(
-                Item("one", request, None), 7, contextlib.ExitStack())
+                BatchItem("one", request, None), 7, contextlib.ExitStack())
             calls.over_limit |= {call} if is_over else {mock.Mock()}
-            put_object(self.path("out/one.json"), make_result(verdict))
+            write_result_file(self.path("out/one.json"), make_result(verdict))
             row = calls.finish(call)
             self.must(f"{verdict} {status} {is_over}", row.verdict == (
                 verdict if counts else "not judged") and call not in calls.over_limit and (
@@ -181,7 +184,8 @@ class UnjudgedPairs(Case):
         calls.over_limit.add(mock.Mock())
         with mock.patch.object(batch, "judge_forked_pair", lambda *_: 2 * bool(os.write(
                 2, b"qc: first\nqc: caf\xe9: \x1b\n"))):
-            calls.start(Item("one", request_for(self.path("one.stl"), self.path("one.ts")), None))
+            calls.start(BatchItem("one", request_for(self.path("one.stl"), self.path("one.ts")),
+                                  None))
         [row] = calls.finished_rows(SECONDS)
         self.must("its line", (row.verdict, row.line) == ("not judged", "caf\ufffd: \x1b"), row)
 
@@ -214,7 +218,8 @@ class UnjudgedPairs(Case):
         self.write("list", b"one.stl one.ts\ntwo.stl two.ts --severity levels\n")
 
         def judge(_: object, call: PairOptions) -> int:
-            put_object(os.path.join(call.out or "", f"{call.name}.json"), make_result("accepted"))
+            write_result_file(os.path.join(call.out or "", f"{call.name}.json"),
+                              make_result("accepted"))
             return 0
 
         self.addCleanup(os.chdir, os.getcwd())
@@ -272,7 +277,7 @@ class OutputsAndSignals(CallCase):
                 raise OSError(28, "No space left on device")
 
         os.mkdir(self.path("results"))
-        put_object(self.path("results/one.json"), make_result("accepted"))
+        write_result_file(self.path("results/one.json"), make_result("accepted"))
         words = ["--collect", self.path("results"), "--json", self.path("one.json")]
         with mock.patch.object(sys, "stdout", Full()), contextlib.redirect_stderr(
                 io.StringIO()) as errors, mock.patch.object(collection, "silence") as silenced:
@@ -320,23 +325,23 @@ class OutputsAndSignals(CallCase):
                 one.startswith("own.recording") for one in os.listdir(self.path("out"))), part)
 
     def test_stores_the_recording_only_if_requested(self) -> None:
-        names, verdict = Names("one", self.folder, self.folder), mock.Mock(parts=[])
+        names, verdict = OutputNames("one", self.folder, self.folder), mock.Mock(parts=[])
         for is_kept, count, ending in itertools.product(
                 (False, True), (0, 1), (None, "recording.pes")):
             files = OutputFiles(
                 PairOptions(None, self.folder, is_kept), verdict, mock.Mock(), names)
-            outputs = files.raw_outputs(mock.Mock(
+            outputs = files.list_raw_outputs(mock.Mock(
                 **{"packets.count": count, "kept_ending": ending}))
             self.must(f"{is_kept} {count} {ending}", [one.path for one in outputs] == [
                 self.path("one.recording.pes")] * bool(is_kept and count and ending), outputs)
-            self.must("none", files.raw_outputs(None) == [])
-        files = OutputFiles(PairOptions(None, self.folder), verdict, CommandWords(
+            self.must("none", files.list_raw_outputs(None) == [])
+        files = OutputFiles(PairOptions(None, self.folder), verdict, CommandPaths(
             "tools/qc", self.bench.program), names)
-        self.must("the object is last", [os.path.basename(one.path) for one in files.outputs(
+        self.must("the object is last", [os.path.basename(one.path) for one in files.list_outputs(
             None)] == ["one.html", "one.json"])
         os.symlink(self.write("theirs", b""), self.path("link"))
         for is_result in (False, True):
-            files.put(Output(self.path("link"), lambda: iter([b"own"]), is_result))
+            files.write_output(Output(self.path("link"), lambda: iter([b"own"]), is_result))
             self.must(f"a link {is_result}", os.path.islink(self.path("link")) != is_result and
                       (self.read("link"), self.read("theirs")) == (
                           b"own", b"" if is_result else b"own"))
@@ -361,7 +366,7 @@ class OutputsAndSignals(CallCase):
         def put(line: str, _: object) -> None:
             seen.append((line, all(signal.getsignal(one) == signal.SIG_IGN for one in SIGNALS)))
 
-        with mock.patch.object(Speech, "put", staticmethod(put)):
+        with mock.patch.object(Printer, "write_line", staticmethod(put)):
             self.judge(self.fake_program(ACCEPTED))
         self.must("the last line alone", seen[-1] == (ACCEPTED, True) and len(seen) > 2 and
                   not any(is_ignored for _, is_ignored in seen[:-1]), seen)

@@ -15,7 +15,7 @@ import time
 from xml.etree import ElementTree as tree
 
 from developing.looks import find_browser
-from subtitles.cli.collection import index_page
+from subtitles.cli.collection import make_index_page
 from subtitles.common.markup import POLICY
 from subtitles.results.files import Row
 from .bench import Case, Done, example, example_bytes, tool_path
@@ -79,7 +79,7 @@ class ListLines(Case):
             f"--profile {pipe}": f"{pipe} is a pipe: give a file",
             "--profile /dev/stdin": "/dev/stdin is a pipe: give a file",
             f"--severity {pipe}": f"{pipe} is a pipe: give a file",
-            "--profile secret": "secret, line 1: its first word is not an option of a profile, ",
+            "--profile secret": "secret, line 1: its first word is not allowed in a profile: ",
             "--profile marked": "marked begins with a byte order mark (BOM): save it as UTF-8",
             "--severity marked": "marked begins with a byte order mark (BOM): save it as UTF-8",
             "--profile long": "long has more than 65,536 bytes",
@@ -158,7 +158,7 @@ class UntrustedResults(Case):
         rows = [Row(text(), text(), chance.choice(["accepted", "refused", "not judged", text()]),
                     chance.randrange(3), text(), chance.randrange(9), {text(): 1, text(): 2},
                     [text()], 0.5, text(), text()) for _ in range(chance.randrange(1, 9))]
-        return self.write(f"{number}.html", index_page(self.folder, rows, text()))
+        return self.write(f"{number}.html", make_index_page(self.folder, rows, text()))
 
     def test_escapes_all_untrusted_text(self) -> None:
         for number in range(200):

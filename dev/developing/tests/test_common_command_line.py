@@ -28,7 +28,8 @@ from subtitles.common.markup import joined, markup
 from subtitles.common.program import built_program, sources
 from subtitles.formats import listing
 from subtitles.request.lines import (
-    MOST_BYTES, MOST_LINES, MOST_OF_LINE, MOST_WORDS, MOST_WORDS_OF_LINE, lines_in, list_at, split)
+    MOST_BYTES, MOST_LINES, MOST_LINE_CHARACTERS, MOST_WORDS, MOST_LINE_WORDS, split_lines,
+    read_list, split_words)
 from .bench import Case
 from .test_dev_layers import TOOLS, modules
 from .test_formats_files import refusal
@@ -186,26 +187,26 @@ class CommandLine(Case):
             except ValueError:
                 wanted = "wrong"
             try:
-                found: object = split(line)
+                found: object = split_words(line)
             except ValueError:
                 found = "wrong"
             self.assertEqual(found, wanted, repr(line))
         began = time.process_time()
         for one in ("a", "'b'c", "\\d", '"\\e"'):
-            self.assertEqual(len(split(one * (MOST_OF_LINE // len(one)))), 1, one)
+            self.assertEqual(len(split_words(one * (MOST_LINE_CHARACTERS // len(one)))), 1, one)
         self.assertLess(time.process_time() - began, 5)
-        lines = lines_in(f"a\n{'b' * (MOST_OF_LINE + 1)}\nc\x0b\x85\u2028 'd e'\n'")
-        self.assertEqual([(one.number, one.words[-1][:9], bool(one.fault)) for one in lines], [
+        lines = split_lines(f"a\n{'b' * (MOST_LINE_CHARACTERS + 1)}\nc\x0b\x85\u2028 'd e'\n'")
+        self.assertEqual([(one.number, one.arguments[-1][:9], bool(one.fault)) for one in lines], [
             (1, "a", False), (2, "b" * 9, True), (3, "d e", False), (4, "'", True)])
         path = self.write("list", (b"#" * 63_999 + b"\n") * (MOST_BYTES // 64_000))
-        self.assertEqual([*lines_in(list_at(path))], [])
+        self.assertEqual([*split_lines(read_list(path))], [])
         with open(path, "ab") as file:
             file.write(b"#")
-        self.assertIn("more than 16,000,000 bytes", refusal(lambda: list_at(path)))
+        self.assertIn("more than 16,000,000 bytes", refusal(lambda: read_list(path)))
 
     def test_limits_lines_and_words_of_lists(self) -> None:
-        many = "a " * MOST_WORDS_OF_LINE
-        whole = MOST_WORDS // MOST_WORDS_OF_LINE
+        many = "a " * MOST_LINE_WORDS
+        whole = MOST_WORDS // MOST_LINE_WORDS
         rows = {
             "the most lines": ("a\n" * MOST_LINES, ""),
             "comments and empty lines": ("#\n\n" * MOST_LINES, ""),
@@ -214,7 +215,7 @@ class CommandLine(Case):
             "the most words": (f"{many}\n" * whole, ""),
             "more words": (f"{many}\n" * (whole + 1), f"line {whole + 1}")}
         for name, (text, place) in rows.items():
-            message = refusal(lambda: [*lines_in(text)])
+            message = refusal(lambda: [*split_lines(text)])
             self.check(name, message, place and f"{place} exceeds the limits of a list: 100,000 "
                        "lines and 1,000,000 words")
         for name, (text, fault) in {
@@ -222,7 +223,7 @@ class CommandLine(Case):
                 "one more": (f"{many}a", "it has more than 256 words"),
                 "a NUL character": ("a b\0c", "a word has a NUL character"),
                 "one in a comment": ("a #\0", "")}.items():
-            self.check(name, [line.fault for line in lines_in(text)], [fault])
+            self.check(name, [line.fault for line in split_lines(text)], [fault])
 
     def test_escapes_text_in_pages(self) -> None:
         for text, wanted in (("a<b>&\"'", "a&lt;b&gt;&amp;&quot;&#x27;"), ("\x07", "\\x07"),
@@ -263,13 +264,14 @@ class CommandLine(Case):
 | 11 | Two | second | the same |
 | 12 | Three | third | the same, twice | [a](b) |
 """)
-        with mock.patch.object(listing, "CHAPTER", path):
-            self.assertEqual(listing.meanings(), {
+        with mock.patch.object(listing, "REFUSALS_PATH", path):
+            self.assertEqual(listing.read_meanings(), {
                 10: ("One", "first", "mend it"), 11: ("Two", "second", "mend it"),
                 12: ("Three", "third", "mend it, twice")})
-        with mock.patch.object(listing, "CHAPTER", self.path("none")):
-            self.assertEqual(listing.meanings(), {})
-        self.assertTrue({50, 72} <= {*listing.meanings()} and all(map(all, listing.meanings(
+        with mock.patch.object(listing, "REFUSALS_PATH", self.path("none")):
+            self.assertEqual(listing.read_meanings(), {})
+        self.assertTrue({50, 72} <= {*listing.read_meanings()} and
+                        all(map(all, listing.read_meanings(
             ).values())))
 
     def test_writes_a_file_completely_or_not_at_all(self) -> None:

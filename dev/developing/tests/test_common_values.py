@@ -13,7 +13,7 @@ from subtitles.common.shapes import (
     Flag, Integer, Listed, Maybe, Member, Number, OneOf, Record, Rules, Shape, Text)
 from subtitles.common.times import ALL_DAY, Between, FRAMES_OF_A_DAY
 from subtitles.request.commands import (
-    Listener, Names, NamesOfList, Progress, Speech, pair_name)
+    Listener, OutputNames, ListNames, Progress, Printer, pair_name)
 from subtitles.request.request import ORIGIN_CHOICE, Selection
 from .bench import Case
 
@@ -100,57 +100,62 @@ class Spans(unittest.TestCase):
 class PrintedLines(unittest.TestCase):
     def test_keeps_each_command_and_choice_and_a_note_once(self) -> None:
         printed = list[str]()
-        speech: Any = SimpleNamespace(say=printed.append, command=printed.append)
-        listener = Listener(speech)
-        listener.noted("a", "", "b")
-        listener.noted("a", "c")
-        listener.noted("b")
+        printer: Any = SimpleNamespace(print_line=printed.append, print_command=printed.append)
+        listener = Listener(printer)
+        listener.add_notes("a", "", "b")
+        listener.add_notes("a", "c")
+        listener.add_notes("b")
         self.assertEqual((listener.notes, printed), (["a", "b", "c"], []))
         first, second = (Selection(ORIGIN_CHOICE, value, f"line {value}") for value in "12")
-        listener.chosen(first)
-        listener.chosen(second, False)
-        listener.written("check", "a b", ">", "c")
-        listener.written("check", "d'")
-        listener.said("more")
+        listener.add_selection(first)
+        listener.add_selection(second, False)
+        listener.add_command("check", "a b", ">", "c")
+        listener.add_command("check", "d'")
+        listener.print_line("more")
         self.assertEqual(listener.selections, [first, second])
         self.assertEqual(listener.commands, ["check 'a b' >c", "check 'd'\"'\"''"])
         self.assertEqual(printed, ["line 1", *listener.commands, "more"])
 
     def test_runs_the_last_step_between_sentence_and_line(self) -> None:
-        speech, out = Speech(Progress()), io.StringIO()
-        speech.out, speech.at_end = out, lambda: print("at end", file=out)
-        speech.say("one\x07")
-        speech.is_quiet = True
-        speech.say("two")
-        self.assertEqual((speech.last, out.getvalue()), ("two", "one\\x07\n"))
-        speech.end("sentence", "line")
-        self.assertEqual((speech.last, out.getvalue()), (
+        printer, out = Printer(Progress()), io.StringIO()
+        printer.out, printer.before_last_line = out, lambda: print("at end", file=out)
+        printer.print_line("one\x07")
+        printer.is_quiet = True
+        printer.print_line("two")
+        self.assertEqual((printer.last_line, out.getvalue()), ("two", "one\\x07\n"))
+        printer.print_verdict("sentence", "line")
+        self.assertEqual((printer.last_line, out.getvalue()), (
             "line", "one\\x07\nsentence\nat end\nline\n"))
         with mock.patch.object(out, "write", side_effect=BrokenPipeError), mock.patch(
                 "subtitles.request.commands.silence") as silence:
-            speech.say("nobody reads it")
-        self.assertEqual((silence.call_args.args, speech.last), ((out,), "nobody reads it"))
+            printer.print_line("nobody reads it")
+        self.assertEqual((silence.call_args.args, printer.last_line), ((out,), "nobody reads it"))
 
 
 class FileNames(Case):
     def test_gives_the_program_a_file_name_in_utf_8(self) -> None:
-        later = Names("one", self.folder, "out", "later")  # another process moves them to `out`
-        for one, name in ((later, "one"), (later.of_part(2), "one.2")):
-            self.must(f"{name}: later", (one.typed("html"), one.report, one.machine) == (
+        later = OutputNames("one", self.folder, "out",
+                            "later")  # another process moves them to `out`
+        for one, name in ((later, "one"), (later.name_part(2), "one.2")):
+            self.must(f"{name}: later", (one.display_path("html"), one.report_path,
+                                         one.json_path) == (
                 f"out/{name}.html", f"later/{name}.html", f"later/{name}.json"))
-        later.give(self.write("a.stl", b"one"))
-        self.must("as it is", later.of_part(1).given == later.given == self.path("a.stl"))
+        later.set_subtitle_file(self.write("a.stl", b"one"))
+        self.must("as it is", later.name_part(1).program_stl == later.program_stl ==
+                  self.path("a.stl"))
         own = os.fsdecode(os.fsencode(self.path("caf")) + b"\xe9")
         self.write(own, b"two")
         for _ in range(2):
-            later.give(own)
-            self.must("by another name", later.given == self.path("one.given.stl") and
-                      later.of_part(1).given == later.given and self.read("one.given.stl") ==
-                      b"two" and later.as_program(own, "x") != later.given)
+            later.set_subtitle_file(own)
+            self.must("by another name", later.program_stl == self.path("one.given.stl") and
+                      later.name_part(1).program_stl == later.program_stl and
+                      self.read("one.given.stl") ==
+                      b"two" and later.make_utf_8_path(own, "x") != later.program_stl)
 
     def test_names_no_two_pairs_the_same(self) -> None:
-        names = NamesOfList()
-        self.check("pairs", [names.pair(f"{one}.stl") for one in "abaa"], ["a", "b", "a~2", "a~3"])
+        names = ListNames()
+        self.check("pairs", [names.name_pair(f"{one}.stl") for one in "abaa"],
+                   ["a", "b", "a~2", "a~3"])
         long = ["a" * 179, "a" * 180, "a" * 181, "a" * 182, "a" * 181 + "b", "é" * 90, "é" * 91]
         found = [pair_name(f"{one}.stl") for one in long]
         self.must("long", len({*found}) == len(long) and [one in found for one in long] == [

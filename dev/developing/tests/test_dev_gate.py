@@ -15,7 +15,7 @@ from developing.every_place.recordings import MAX_UNSEEN_PACKETS
 from developing.every_place.streams import multiplex, lose_units
 from developing.every_place.trying import get_status
 from subtitles.common.program import TOP, read
-from subtitles.results.files import object_at
+from subtitles.results.files import read_result
 from . import runner, table
 from .bench import Case, example_bytes, tool_path
 
@@ -58,7 +58,8 @@ class JobScripts(Case):
     def check_results(self, name: str) -> None:
         """Check that each line has its result, and nothing was executed."""
         os.makedirs(self.path("out"), exist_ok=True)
-        found = {path.removesuffix(".json"): (object_at(self.path(f"out/{path}")) or {})["verdict"]
+        found = {path.removesuffix(".json"): (read_result(self.path(f"out/{path}")) or
+                                              {})["verdict"]
                  for path in os.listdir(self.path("out")) if path.endswith(".json")}
         self.must(name, found == self.WANTED and not os.path.exists(self.path("hit")) and
                   "index.html" not in os.listdir(self.path("out")), found)

@@ -18,8 +18,9 @@ from subtitles.common.times import TICKS
 from subtitles.formats.stl import UNUSED
 from subtitles.formats.teletext import (
     BY_WORD, CODE_WORDS, CZECH, ENGLISH, FRENCH, GERMAN, ITALIAN, NationalOption, OPTIONS,
-    PLACES, RESERVED, SPANISH, SWEDISH, character_of, codes_of, has_bit, has_characters,
-    letter_at, letters, named_by, of_track, options_with)
+    NATIONAL_CODES, RESERVED, SPANISH, SWEDISH, decode_character, encode_line, has_bit,
+    has_characters, character_bytes, character_table, option_for_language, option_for_track,
+    find_options)
 from subtitles.judging.subtitles import advise_on_character
 from subtitles.recording.notices import character_set_notices, option_notices
 from subtitles.request.request import Request
@@ -52,33 +53,34 @@ class NationalOptions(unittest.TestCase):
             with self.subTest(option=option.word, stl=row["stl"]):
                 bits = sum(int(row[name]) << at for at, name in enumerate(("C12", "C13", "C14")))
                 self.assertEqual(option.bits, bits)
-                self.assertEqual(codes_of(text, option), [cell])
-                self.assertEqual(character_of(text), character)
-                self.assertEqual(letters(bits)[cell], character)
-                self.assertIn(option, options_with(text))
+                self.assertEqual(encode_line(text, option), [cell])
+                self.assertEqual(decode_character(text), character)
+                self.assertEqual(character_table(bits)[cell], character)
+                self.assertIn(option, find_options(text))
         self.assertEqual(count, 658)
 
     def test_decodes_codes_that_no_subtitle_uses_as_libzvbi(self) -> None:
         for option in OPTIONS:
-            self.assertEqual(letters(option.bits)[0x7F], "\u25a0", option)
-        self.assertEqual("".join(letters(ENGLISH.bits)[code] for code in b"[\\]^`{|}~"),
+            self.assertEqual(character_table(option.bits)[0x7F], "\u25a0", option)
+        self.assertEqual("".join(character_table(ENGLISH.bits)[code] for code in b"[\\]^`{|}~"),
                          "←½→↑—¼‖¾÷")
-        self.assertEqual(letters(GERMAN.bits)[0x5E:0x60], ["^", "_"])
+        self.assertEqual(character_table(GERMAN.bits)[0x5E:0x60], ["^", "_"])
         # reserved bits: national characters are unknown, the others known
         for bits in (RESERVED, 8):
-            self.assertEqual([(code, letters(bits)[code] != "\u25a1") for code in range(32, 127)],
-                             [(code, code not in PLACES) for code in range(32, 127)], bits)
+            self.assertEqual([(code, character_table(bits)[code] != "\u25a1") for code in
+                              range(32, 127)],
+                             [(code, code not in NATIONAL_CODES) for code in range(32, 127)], bits)
 
     def test_encodes_no_other_text_in_one_cell(self) -> None:
         known = {(row["option"], bytes.fromhex(row["stl"])) for row in rows_of("options.tsv")}
         for option in OPTIONS:
             for first in range(0x20, 0x100):
                 for text in (bytes([first]), *(bytes([first, second]) for second in b"AaeEzZ ")):
-                    whole = codes_of(text, option)
+                    whole = encode_line(text, option)
                     if (option.word, text) not in known and len(whole) == 1:
                         self.assertEqual(whole, [None], (option.word, text))
                     if (option.word, text) not in known:  # each byte is a character of its own
-                        self.assertEqual(whole, [code for byte in text for code in codes_of(
+                        self.assertEqual(whole, [code for byte in text for code in encode_line(
                             bytes([byte]), option)], (option.word, text))
 
     def test_encodes_texts_in_eleven_languages(self) -> None:
@@ -101,14 +103,14 @@ class NationalOptions(unittest.TestCase):
                              (b"0A", SPANISH), (b"21", SPANISH), (b"06", CZECH), (b"25", CZECH),
                              (b"00", ENGLISH), (b"20", ENGLISH), (b"", ENGLISH), (b"\xff\x00",
                                                                                    ENGLISH)):
-            self.assertEqual(named_by(code), option, code)
+            self.assertEqual(option_for_language(code), option, code)
         for track, named in (("fra", FRENCH), ("FRE", FRENCH), ("swe", SWEDISH), ("slo", CZECH),
                              ("por", SPANISH), ("eng", ENGLISH), ("deu", GERMAN)):
-            self.assertEqual(of_track(track), named, track)
-        self.assertIsNone(of_track("pol"))
+            self.assertEqual(option_for_track(track), named, track)
+        self.assertIsNone(option_for_track("pol"))
 
     def test_each_option_has_all_national_characters(self) -> None:
-        self.assertEqual({len(one.characters) for one in OPTIONS}, {len(PLACES)})
+        self.assertEqual({len(one.characters) for one in OPTIONS}, {len(NATIONAL_CODES)})
 
 
 class Advice(unittest.TestCase):
@@ -126,14 +128,14 @@ class Advice(unittest.TestCase):
         for text, at, letter in ((b"a\xc2eb", 1, b"\xc2e"), (b"a\xc2", 1, b"\xc2"),
                                  (b"\xc2\x80e", 0, b"\xc2"), (b"ab", 1, b"b"),
                                  (b"\xc2 e", 0, b"\xc2"), (b"\xc9e", 0, b"\xc9")):
-            self.assertEqual(letter_at(text, at), letter, text)
+            self.assertEqual(character_bytes(text, at), letter, text)
 
 
 # Transmissions in each national option, compared with dev/vectors/national/; libzvbi decodes the
 # same characters.
 
 FIRST, LENGTH = 90_000, 25  # frame of the first subtitle; length of each
-MARKS = range(0xC0, 0xD0)  # diacritical marks
+ACCENT_BYTES = range(0xC0, 0xD0)  # diacritical marks
 SPACING = {*range(0x01, 0x0E), 0x1C, 0x1D}  # spacing attributes that a text may have
 WITHOUT_CELL = {*range(0x80, 0x86), 0x8A}  # italics, underline, boxing; the end of a line
 
@@ -267,7 +269,7 @@ class Transmissions(Case):
 
     def test_refuses_every_other_byte(self) -> None:
         singles = [bytes([byte]) for byte in range(256) if byte != UNUSED[0]]
-        tried = singles + [bytes([mark, byte]) for mark in MARKS for byte in range(256)]
+        tried = singles + [bytes([mark, byte]) for mark in ACCENT_BYTES for byte in range(256)]
         for option in OPTIONS:
             known = {one.text for one, _ in character_texts(option)}
             known |= {bytes([byte]) for byte in SPACING | WITHOUT_CELL}

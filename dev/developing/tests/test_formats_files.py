@@ -15,8 +15,8 @@ from subtitles.common.files import Damaged
 from subtitles.common.times import ALL_DAY, Between
 from subtitles.formats import listing, stl
 from subtitles.formats.stl import (
-    LAST, Subtitle, SubtitleFile, SubtitleList, USER_DATA, titles_in)
-from subtitles.formats.teletext import letters_of
+    LAST_BLOCK, Subtitle, SubtitleFile, SubtitleList, USER_DATA, read_titles)
+from subtitles.formats.teletext import decode_text
 from .bench import Case
 
 GSI = 1024
@@ -52,25 +52,26 @@ class Blocks(unittest.TestCase):
             ([(1, last, 0), (2, 0xFD, 0)], [(1, b"1")],
              "block 2 has the reserved extension block number FD"),
             ([(1, 0, 0), (2, last, 0)], [],
-             "block 2 belongs to another subtitle than the block before it"),
+             "block 2 is of another subtitle, but the one before has no last block"),
             ([(1, 0, 0), (257, last, 0)], [],
-             "block 2 belongs to another subtitle than the block before it"),
+             "block 2 is of another subtitle, but the one before has no last block"),
             ([(1, last, 0), (2, 0, 0)], [(1, b"1")], "the subtitle of block 2 has no last block"),
             ([(1, 0, 0), (9, user, 0)], [], "the subtitle of block 2 has no last block")]
         for row, wanted, words in of_rows:
             data = make_gsi_block(b"", 0, 0) + b"".join(self.block(*one) for one in row)
             for rest in (b"", b"x" * 127):
                 found: list[stl.StoredSubtitle] = []
-                message = refusal(lambda: found.extend(stl.subtitles_in(data + rest)), Damaged)
+                message = refusal(lambda: found.extend(stl.read_stored_subtitles(data + rest)),
+                                  Damaged)
                 self.assertEqual([(one.number, one.text) for one in found], wanted, row)
                 self.assertEqual(message, words if words and "no last" not in words or not rest else
-                                 f"block {len(row) + 1} is cut", rest)
-        [one] = stl.subtitles_in(make_gsi_block(b"", 0, 0) + b"".join(
+                                 f"block {len(row) + 1} is incomplete", rest)
+        [one] = stl.read_stored_subtitles(make_gsi_block(b"", 0, 0) + b"".join(
             make_tti_block(1, at, at + 2, 20 + at, at, b"x", ebn) for at,
             ebn in ((0, 0), (1, last))))
         self.assertEqual((stl.subtitle_times(one), one.row, one.justify), ((0, 2), 20, 0))
         group = make_gsi_block(b"", 0, 0) + self.block(1, 0) + self.block(1, last, group=1)
-        self.assertTrue(refusal(lambda: list(stl.subtitles_in(group)), Damaged))
+        self.assertTrue(refusal(lambda: list(stl.read_stored_subtitles(group)), Damaged))
 
     def test_refuses_an_invalid_gsi_block(self) -> None:
         good = make_gsi_block(b"", 0, 0)
@@ -80,7 +81,7 @@ class Blocks(unittest.TestCase):
                             (good[:3] + b"STL24" + good[8:], "not an EBU STL file"),
                             (good[:3] + b"STL30" + good[8:], "30 frames a second"),
                             (good[:3] + b"STL25.02" + good[11:], "")):
-            message = refusal(lambda: list(stl.subtitles_in(data)), Damaged)
+            message = refusal(lambda: list(stl.read_stored_subtitles(data)), Damaged)
             self.assertTrue(message.startswith(words) and bool(message) == bool(words), message)
 
     def test_reads_subtitles_before_damage(self) -> None:
@@ -91,12 +92,12 @@ class Blocks(unittest.TestCase):
             found: list[stl.StoredSubtitle] = []
             reported: list[str] = []
             with mock.patch.object(stl, "tell", reported.append):
-                stopped = refusal(lambda: found.extend(stl.readable("damaged.stl", data)))
+                stopped = refusal(lambda: found.extend(stl.read_until_damage("damaged.stl", data)))
             self.assertEqual((-1 if stopped else len(found), any(
                 line.startswith("damaged.stl: ") for line in reported)), (count, is_told),
                              (data, count, is_told))
-        self.assertEqual(stl.letters_on_page(b"A b\x01\xc1!$\x23", "english"), b"Ab!\x24\x5f")
-        self.assertEqual(stl.letters_on_page(b" \x20!", "german"), b"!")
+        self.assertEqual(stl.page_letter_codes(b"A b\x01\xc1!$\x23", "english"), b"Ab!\x24\x5f")
+        self.assertEqual(stl.page_letter_codes(b" \x20!", "german"), b"!")
 
 
 class PlainSubtitle(NamedTuple):
@@ -122,11 +123,12 @@ class Files(Case):
             begin, end = frame, frame + chance.choice((0, *range(1, 40)))
             frame, own, text = end + chance.choice((0, 0, 30)), list[int](), b""
             is_none = chance.randrange(6) == 0
-            last = chance.choice((LAST, LAST, LAST, 3)) if number == 5 else LAST
+            last = chance.choice((LAST_BLOCK, LAST_BLOCK, LAST_BLOCK,
+                                  3)) if number == 5 else LAST_BLOCK
             for ebn in [*range(chance.choice((0, 0, 1, 2))), last]:
                 for _ in range(chance.choice((0, 0, 1))):
                     blocks.append(make_tti_block(number, begin, end, 20, 2, b"no", *chance.choice((
-                        (USER_DATA, 0), (LAST, 1), (0, 1), (USER_DATA, 1)))))
+                        (USER_DATA, 0), (LAST_BLOCK, 1), (0, 1), (USER_DATA, 1)))))
                 some, later = chance.choice(self.TEXTS), chance.randrange(99) * bool(own)
                 block = bytearray(make_tti_block(number + (number > 3), begin + later, end + later,
                                                  20 + bool(own), 2, some, ebn))
@@ -134,7 +136,8 @@ class Files(Case):
                 blocks.append(bytes(block))
                 own.append(len(blocks))
                 text += some.split(b"\x8f")[0]
-            groups.append(PlainSubtitle(own, None if is_none else begin, end, last == LAST, text))
+            groups.append(PlainSubtitle(own, None if is_none else begin, end, last == LAST_BLOCK,
+                                        text))
         return make_gsi_block(b"", 0, 0) + b"".join(blocks), groups
 
     def test_agrees_with_a_plain_reading_of_random_files(self) -> None:
@@ -149,29 +152,32 @@ class Files(Case):
                    and one.begin is not None and between.has(one.begin)]
             lasts = [one.blocks[-1] for one, is_out in zip(groups, outside)
                      if one.is_ended and not is_out]
-            self.assertEqual([found.position for found in file.all()], [at for at, _ in own])
-            self.assertEqual((list(file.lasts()), file.ended()[0], list(file.starts)), (
+            self.assertEqual([found.position for found in file.list_subtitles()],
+                             [at for at, _ in own])
+            self.assertEqual((list(file.list_last_blocks()), file.count_ended()[0],
+                              list(file.start_blocks)), (
                 lasts, len(lasts), [one.blocks[0] for one in groups]))
-            self.assertEqual(file.ended()[1], sum(data[at + 3] == LAST for at in range(
+            self.assertEqual(file.count_ended()[1], sum(data[at + 3] == LAST_BLOCK for at in range(
                 GSI, len(data), 128)))
             for at, one in enumerate(groups, 1):
                 earlier = [some for place, some in own if some.blocks[0] < one.blocks[0]]
                 for block in one.blocks:
-                    found = file.at_block(block)
-                    self.assertEqual((found and (found.position, found.number), file.first_before(
+                    found = file.find_by_block(block)
+                    self.assertEqual((found and (found.position, found.number),
+                                      file.find_previous_first(
                         block), file.is_outside(block)), (
                             (at, at + (at > 3)), earlier[-1].blocks[0] if earlier else None,
                             outside[at - 1]), block)
                 self.assertEqual(file.text(one.blocks[-1]), one.text, (at, one))
             for frame in range(0, 300, 3):
                 due = [at for at, one in own if (one.begin or 0) <= frame < (one.end or 0)]
-                found = file.at_frame(frame)
+                found = file.find_by_frame(frame)
                 self.assertEqual([found.position] if found else [], due, frame)
             if groups[-1].is_ended:
-                self.assertEqual([one.text for one in stl.subtitles_in(data)],
+                self.assertEqual([one.text for one in stl.read_stored_subtitles(data)],
                                  [one.text for one in groups])
                 self.assertEqual([(one.index, one.begin, one.end, one.text) for one in
-                                  stl.subtitles_read(data)],
+                                  stl.decode_subtitles(data)],
                                  [(at, one.begin, one.end, one.text) for at, one in enumerate(
                                      groups, 1) if one.begin is not None and one.end != one.begin])
 
@@ -179,8 +185,9 @@ class Files(Case):
         for byte in {*range(256)} - {0x8F}:
             file = SubtitleFile(self.write("one.stl", make_gsi_block(b"", 1, 1) + make_tti_block(
                 1, 25, 50, 20, 2, b"a" + bytes([byte]))))
-            self.assertEqual(file.letter(1, 1), (f"{byte:02X}", None if byte < 0x20 or 0x7F <= byte
-                                                 < 0xA0 else letters_of(bytes([byte]))), byte)
+            self.assertEqual(file.describe_byte(1, 1), (f"{byte:02X}", None if byte < 0x20 or
+                                                        0x7F <= byte
+                                                 < 0xA0 else decode_text(bytes([byte]))), byte)
 
 
     def test_reads_one_byte_more_than_check_accepts(self) -> None:
@@ -188,10 +195,10 @@ class Files(Case):
         for more in (-1, 0, 1):
             with open(path, "wb") as file:
                 file.truncate(most + more)
-            self.assertEqual(len(stl.stl_bytes(path)), most + min(more, 0), more)
+            self.assertEqual(len(stl.read_stl(path)), most + min(more, 0), more)
         with subprocess.Popen(["cat", path], stdout=subprocess.PIPE) as run:
             assert run.stdout
-            self.assertEqual(len(stl.stl_bytes(f"/dev/fd/{run.stdout.fileno()}")), most)
+            self.assertEqual(len(stl.read_stl(f"/dev/fd/{run.stdout.fileno()}")), most)
             run.stdout.close()
 
 
@@ -210,9 +217,9 @@ class Titles(Case):
                 (b"860", b"\x84", b"", ["ã"]), (b"863", b"\x84", b"", ["Â"]),
                 (b"865", b"\x9d", b"", ["Ø"]), (b"999", b"\xd0", b"", ["ð"])]
         for page, first, second, wanted in of_titles:
-            self.assertEqual(titles_in(self.write("one.stl", block(page, first, second))), wanted,
+            self.assertEqual(read_titles(self.write("one.stl", block(page, first, second))), wanted,
                              (page, first, second))
-        self.assertEqual(titles_in(self.write("one.stl", b"")), [])
+        self.assertEqual(read_titles(self.write("one.stl", b"")), [])
 
 
 class Lines(unittest.TestCase):
@@ -220,7 +227,7 @@ class Lines(unittest.TestCase):
 
     def test_knows_the_kind_of_each_fault_number(self) -> None:
         kinds = {"stl": listing.STL_FAULTS, "ends": listing.ENDS_READING,
-                 "passed": listing.PASSED_OVER}
+                 "passed": listing.SKIPPED_PACKETS}
         for number in range(100):
             wanted = {"stl"} if 10 <= number <= 25 or 50 <= number <= 57 else set[str]()
             wanted |= {"ends"} if number in (30, 31, 32, 44) else set()
@@ -239,19 +246,19 @@ class Lines(unittest.TestCase):
         for fault, place in ((one, ""), (one._replace(block=0), " block 0"), (one._replace(
                 block=7), " block 7"), (one._replace(time="00:00:01:00"), " frame 00:00:01:00")):
             self.assertEqual(fault.line, f"refused not shown{place}", (fault, place))
-        self.assertEqual({*listing.named_meanings()}, {*listing.FAULT_NAMES})
-        self.assertTrue(all(map(all, listing.named_meanings().values())))
-        self.assertEqual(listing.plain("`a` [b c](d#e) f, [g](h)"), "a b c f, g")
+        self.assertEqual({*listing.read_named_meanings()}, {*listing.FAULT_NAMES})
+        self.assertTrue(all(map(all, listing.read_named_meanings().values())))
+        self.assertEqual(listing.remove_markup("`a` [b c](d#e) f, [g](h)"), "a b c f, g")
 
     def test_takes_only_a_complete_line(self) -> None:
         for line in ("accepted 1 frames 2 transmissions", "trusted frames 00:00:01:00 00:00:02:00",
                      "5 faults", "refused 72 Content frame 00:00:01:00 row 3 column 4",
                      "ended 72 Content frame 00:00:01:00", "refused 50 Character block 3 at 4",
                      "refused 68 Parity frame 00:00:01:00 packet 5", "refused 33 Flags pes 6"):
-            self.assertTrue(listing.is_line(line), line)
+            self.assertTrue(listing.is_check_line(line), line)
             for other in (f"x {line}", f" {line}", f"{line} ", f"{line} x", f"{line}\n",
                           line.rpartition(" ")[0], line.replace(" ", "  ", 1), line.upper()):
-                self.assertFalse(listing.is_line(other), other)
+                self.assertFalse(listing.is_check_line(other), other)
 
     def test_reads_parts_of_a_line_as_the_complete_line(self) -> None:
         places = ("", " block 7", " block 0 at 111", " pes 12", " frame 23:59:59:24",
@@ -259,28 +266,28 @@ class Lines(unittest.TestCase):
         for word, number, place in itertools.product(
                 ("refused", "ended", "fault", "usage"), self.NUMBERS, places):
             line = f"{word} {number} Name{place}"
-            found = listing.fault_of_line(line)
+            found = listing.parse_fault_line(line)
             assert found
             self.assertEqual((found.word, found.number, found.name, found.is_fault),
                              (word, number, "Name", word == "refused"), (word, number, place))
-            self.assertEqual(listing.number_of(line), number if word == "refused" else None,
-                             (word, number, place))
+            self.assertEqual(listing.parse_fault_number(line), number if word ==
+                             "refused" else None, (word, number, place))
             parts = line.split(" ")
-            self.assertEqual(listing.line_words(line), parts[:5] + [" ".join(parts[5:])] * (
+            self.assertEqual(listing.split_line(line), parts[:5] + [" ".join(parts[5:])] * (
                 len(parts) > 5), (word, number, place))
             if found.time:
-                self.assertEqual(found.frame, listing.frame_of_place(found.time),
+                self.assertEqual(found.frame, listing.parse_place_time(found.time),
                                  (word, number, place))
                 self.assertIn(found.frame, (2_159_999, 25, 900_001), (word, number, place))
             else:
                 self.assertIsNone(found.frame, (word, number, place))
-            self.assertTrue(listing.is_line(line), (word, number, place))
+            self.assertTrue(listing.is_check_line(line), (word, number, place))
         for line, is_one in (("5 faults", True), ("accepted 1 frames 2 transmissions", True),
                              ("trusted frames a b", True), ("faults", False), ("", False)):
-            self.assertEqual(listing.is_line(line), is_one, (line, is_one))
+            self.assertEqual(listing.is_check_line(line), is_one, (line, is_one))
         for line in ("refused", "refused ", "refused x Name", "refused \u0661 Name", "ended 5 Name",
                      "refused5 6 Name"):
-            self.assertIsNone(listing.number_of(line + " "), line)
+            self.assertIsNone(listing.parse_fault_number(line + " "), line)
 
 
 class Order(unittest.TestCase):
@@ -294,16 +301,16 @@ class Order(unittest.TestCase):
             for frame in range(18):
                 begun = [one for one in all_of if one.begin <= frame]
                 due = [one for one in all_of if one.begin <= frame < one.end]
-                self.assertEqual((programme.place_at(frame), programme.due(frame),
+                self.assertEqual((programme.find_place(frame), programme.count_begun(frame),
                                   programme.subtitle(frame)),
                                  (len(begun) - 1, (len(begun), bool(due)), due[0] if due else None),
                                  frame)
                 for last in range(frame, 18):
-                    self.assertEqual(programme.edges(frame, last), [
+                    self.assertEqual(programme.list_cues(frame, last), [
                         one for pair in times for one in pair if frame < one <= last], last)
                 for count in range(1, len(times) + 1):
                     places = list(range(0, len(times), count))
-                    self.assertEqual(programme.nearest(places, frame), min(
+                    self.assertEqual(programme.find_nearest(places, frame), min(
                         places, key=lambda place: abs(times[place][0] - frame)),
                                      count)  # the first of two
             self.assertEqual([programme.before(at) for at in range(len(times))],
@@ -327,7 +334,7 @@ class CodeTable(unittest.TestCase):
                              (b"a\xc2", "a\ufffd"), (b"\xa0\xaf\xb0\xbf", "\xa0↓°¿"),
                              (b"\xd0\xd7\xd8\xdb\xdc\xe4\xe5\xe6\xef\xf0\xfe\xff",
                               "—¦\ufffd\ufffd⅛Ħ\ufffdĲŉĸŋ\ufffd"), (b"\xc2e\xc2a!", "éá!")):
-            self.assertEqual(letters_of(text), wanted, text)
+            self.assertEqual(decode_text(text), wanted, text)
 
     def test_agrees_with_the_iso_6937_of_iconv(self) -> None:
         if not shutil.which("iconv"):
@@ -342,5 +349,5 @@ class CodeTable(unittest.TestCase):
                                   check=False, capture_output=True)
             if done.returncode == 0:
                 compared += 1
-                self.assertEqual(letters_of(text), done.stdout.decode(), text)
+                self.assertEqual(decode_text(text), done.stdout.decode(), text)
         self.assertGreater(compared, 200)

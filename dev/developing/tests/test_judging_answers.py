@@ -13,13 +13,13 @@ from developing.pes import make_pes_packet
 from developing.stl import make_gsi_block
 from subtitles.common.command_line import Stop, Words
 from subtitles.common.times import FRAMES_OF_A_DAY, NO_FRAME, Span, TICKS
-from subtitles.formats.listing import fault_of_line
+from subtitles.formats.listing import parse_fault_line
 from subtitles.formats.stl import SubtitleFile
 from subtitles.judging.check import CheckOutput, run_check
 from subtitles.judging.pair import PairJudge
 from subtitles.judging.subtitles import AT_MIDNIGHT, advise_on_midnight, falls_at_midnight
-from subtitles.report.blocks import readable
-from subtitles.request.lines import request_of_line
+from subtitles.report.blocks import show_byte
+from subtitles.request.lines import make_line_request
 from subtitles.request.request import Unclear, add_options
 from subtitles.stream.receiver import decode_near, find_pauses
 from .bench import Case, example, example_bytes
@@ -94,7 +94,7 @@ class Answers(Case):
                 self.assertTrue(not wanted or made.line == [*faults, lines[-1]][0])
                 self.assertEqual([one.line for one, _ in made.read_faults()],
                                  [one for one in lines if one[:8] == "refused " and
-                                  fault_of_line(one)])
+                                  parse_fault_line(one)])
                 self.assertEqual([begin for begin, _ in made.trusted_frames],
                                  [150] * (TRUSTED in lines))
 
@@ -164,12 +164,12 @@ class Midnight(Case):
                 ("refused 56 Order block 5", False), ("refused 56 Order block 3", False),
                 ("refused 56 Order block 1", False), ("refused 20 Other block 2", False),
                 ("refused 57 Other block 4", False), ("refused 21 Times", False)):
-            reported = fault_of_line(line)
+            reported = parse_fault_line(line)
             assert reported
             self.assertEqual(advise_on_midnight(reported, subtitles),
                              AT_MIDNIGHT if is_told else "",
                              line)
-        reported = fault_of_line("refused 56 Order block 2")
+        reported = parse_fault_line("refused 56 Order block 2")
         for begin, wanted in ((day - 90_001, ""), (day - 90_000, AT_MIDNIGHT)):
             subtitles = SubtitleFile(write_programme(self, [(begin, day - 100), (10, 60)]))
             self.assertEqual(reported and advise_on_midnight(reported, subtitles), wanted, begin)
@@ -187,7 +187,7 @@ class LineOptions(Case):
                 ("--start tcp --every 50", "--origin 9", (9, None, 50)),
                 ("--start tcp", "--origin=9 --every 25", (9, None, 25)),
                 ("--start tcp", "--every 25", (None, "tcp", 25))):
-            request = request_of_line(["a.stl", "a.ts", *line.split()],
+            request = make_line_request(["a.stl", "a.ts", *line.split()],
                                     parser.parse_args(call.split()))
             self.assertEqual((request.origin, request.start, request.every), wanted, (call, line))
         for name, wanted_name in (("-", "-"), ("-a", "./-a"), ("a", "a"), ("", ""), (None, None)):
@@ -195,7 +195,7 @@ class LineOptions(Case):
                              (name, wanted_name))
             self.assertEqual(request_for("-a.stl", name).stl, "./-a.stl", (name, wanted_name))
         for words in (["a.stl", "-"], ["a.stl", "a.ts", "--origin", "1", "--start", "tcp"]):
-            self.assertRaises(Stop, request_of_line, words, parser.parse_args([]))
+            self.assertRaises(Stop, make_line_request, words, parser.parse_args([]))
 
     def test_auto_takes_the_option_of_the_language_code(self) -> None:
         for code, word in ((b"08", "german"), (b"09", "english"), (b"  ", "english"),
@@ -243,8 +243,8 @@ class ChangingFiles(Case):
             place = f"{change}: {name}, {when}"
             self.check(place, (found.word, known["verdict"]), (word, word))
             self.must(f"{place}: the reason", (
-                f"{self.path(name)} was replaced or written to while it was judged: judge it again "
-                "when it is complete" in (known["reason"] or "")) == (word == "not judged"), known)
+                f"{self.path(name)} changed while it was judged: judge it again when it is "
+                "complete" in (known["reason"] or "")) == (word == "not judged"), known)
             with contextlib.suppress(FileNotFoundError):
                 os.unlink(self.path(name))
 
@@ -285,4 +285,4 @@ class Decisions(Case):
     def test_escapes_characters_of_a_page(self) -> None:
         for byte, wanted in ((ord("<"), "&lt;"), (ord("&"), "&amp;"), (ord(">"), "&gt;"),
                              (ord("A"), "A"), (0x0B, "<i>0B</i>")):
-            self.must(f"{byte:02X}", markup_text(readable(byte)) == wanted)
+            self.must(f"{byte:02X}", markup_text(show_byte(byte)) == wanted)

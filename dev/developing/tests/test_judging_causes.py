@@ -10,7 +10,7 @@ from typing import Any
 from subtitles.common.command_line import counted
 from subtitles.common.program import TOP, read
 from subtitles.common.times import Span, Spans, TICKS, time_of
-from subtitles.formats.listing import fault_of_line
+from subtitles.formats.listing import parse_fault_line
 from subtitles.formats.stl import Subtitle
 from subtitles.judging.causes import (
     Cause, CAUSE_NAMES, CauseDescriber, Causes, EARLY, LATE, NEVER, NOT_ERASED, OTHER_TEXT,
@@ -163,7 +163,7 @@ def fake_answer(spans: list[tuple[int, int]], *edges: tuple[int, int]) -> Any:
 
     frames with refused content, and other faults by number and frame.
     """
-    firsts = {number: fault_of_line(f"refused {number} Edge frame {time_of(frame)}")
+    firsts = {number: parse_fault_line(f"refused {number} Edge frame {time_of(frame)}")
               for number, frame in edges}
     return SimpleNamespace(first_faults=firsts, fault_spans={72: Spans(spans)})
 

@@ -14,8 +14,8 @@ from subtitles.cli.measure import (
     propose_pace)
 from subtitles.common.program import TOP, read
 from subtitles.common.times import TICKS, time_of
-from subtitles.request.lines import profile_at, read_options
-from subtitles.request.request import CHOICES, option_line, request_of
+from subtitles.request.lines import read_profile, read_options
+from subtitles.request.request import CHOICES, describe_option, make_request
 from subtitles.stream.pace import PAUSED, Pace, REGULAR
 from subtitles.stream.repeats import Repeats
 from .bench import Case, example, tool_path
@@ -116,10 +116,10 @@ class Choices(Case):
         for language, (option, why) in LANGUAGES.items():
             path = self.write(
                 "one.stl", b"" if language is None else data[:14] + language + data[16:])
-            request = request_of(make_parser("").parse_args([path, "--option", "auto"]))
+            request = make_request(make_parser("").parse_args([path, "--option", "auto"]))
             self.must(f"{language!r}", request.option == option and
-                      option_line(request) == f"option: {option}, since {why}",
-                      option_line(request))
+                      describe_option(request) == f"option: {option}, since {why}",
+                      describe_option(request))
 
     def test_chooses_the_option_of_each_pair_of_a_batch(self) -> None:
         self.write("list", "\n".join([" ".join(PES), f"{' '.join(PES)} --option english"]).encode())
@@ -242,7 +242,7 @@ class Profiles(Case):
         """Return the output of `--measure`; check that it is a valid profile."""
         done = self.tool("qc", "--measure", *words)
         self.must(f"{words}", done.status == 0 and not done.told, done)
-        profile_at(self.write("profile", done.out))
+        read_profile(self.write("profile", done.out))
         return done.out.decode().splitlines()
 
     def proposed(self, *words: str) -> list[str]:
@@ -255,13 +255,13 @@ class Profiles(Case):
             (paces, "--pace 4"), (paces[:1], "--pace 2"), ([], ""),
             ([*paces, Pace(PAUSED, 9, 9)], "")]
         for some, words in rows:
-            self.must(f"{some}", propose_pace(some).words == words, propose_pace(some))
+            self.must(f"{some}", propose_pace(some).text == words, propose_pace(some))
 
     def test_proposes_the_longest_distance_of_repeats(self) -> None:
         several = [Repeats(9, 30, 5, 25), Repeats(8, 50, 7, 26), Repeats(3, 40, 9, None)]
         for some in itertools.permutations(several):
             found = propose_every(some)
-            self.must(f"{some}", (found.words, *found.lines) == (
+            self.must(f"{some}", (found.text, *found.lines) == (
                 "--every 50", "every: at most 50 frames from one header of the page to the next, "
                 "first from 00:00:00:07 on, in 20 headers; 26 are usual"), found)
 

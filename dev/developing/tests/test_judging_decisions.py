@@ -20,10 +20,10 @@ from subtitles.judging.part import choose_parts, refuse_missing_subtitles
 from subtitles.judging.timing import add_delay, make_unclear_origin
 from subtitles.judging.verdict import measure_delay
 from subtitles.recording.notices import character_set_notices, count_notices, page_notices
-from subtitles.request.lines import of_folder, request_of_line
+from subtitles.request.lines import find_folder_pairs, make_line_request
 from subtitles.request.request import Unclear
-from subtitles.results.files import hint_in
-from subtitles.results.schema import REQUEST, total
+from subtitles.results.files import find_hint
+from subtitles.results.schema import REQUEST, add_known
 from subtitles.stream.packets import Packets
 from subtitles.stream.receiver import BLANK_PAGE, FEW, Rows, Timeline
 from subtitles.stream.survey import Announced
@@ -38,7 +38,7 @@ class Results(Case):
             ([], None), ([3], 3), ([None], None), ([3, 4, 5], 12), ([None, 4, 5], None),
             ([3, None, 5], None), ([3, 4, None], None), ([0], 0)]
         for numbers, wanted in of_numbers:
-            self.must(f"{numbers}", total(numbers) == wanted, total(numbers))
+            self.must(f"{numbers}", add_known(numbers) == wanted, add_known(numbers))
 
     def test_takes_the_hint_of_the_named_fault(self) -> None:
         hints = ["5: of none", "7: of none", "72: of the content", "72: once more", "6: of none"]
@@ -47,9 +47,9 @@ class Results(Case):
                 ("waived: refused 72 Content", "of the content"), ("refused 7 Other", "of none"),
                 ("accepted 72 frames", ""), (None, ""),
                 ("not accepted, since TS packets are lost: waived: refused 5 X", "of none")):
-            found = hint_in({"worst_fault": line, "hints": hints})
+            found = find_hint({"worst_fault": line, "hints": hints})
             self.must(f"{line}", found == wanted, found)
-        self.must("no hints", hint_in({"worst_fault": "refused 72 Content", "hints": []}) == "")
+        self.must("no hints", find_hint({"worst_fault": "refused 72 Content", "hints": []}) == "")
 
     def test_a_request_survives_conversion_to_arguments(self) -> None:
         options = [["--page", "150"], ["--every", "50"], ["--option", "german"], ["--origin", "7"],
@@ -60,7 +60,7 @@ class Results(Case):
         every = [word for one in options if one[0] != "--start" for word in one]
         for words in [list[str](), *options, every]:
             request = request_for("one.stl", "one.pes", *words)
-            again = request_of_line(call_arguments(request), default_options())
+            again = make_line_request(call_arguments(request), default_options())
             self.must(f"{words}", REQUEST.made(again) == REQUEST.made(request), again)
 
 
@@ -79,8 +79,8 @@ class Folders(Case):
             os.mkdir(folder)
             for file in files:
                 self.write(f"{name}/{file}", b"")
-            items = of_folder(folder, default_options())
-            found = [item.name + "?" * (item.asked is None) for item in items]
+            items = find_folder_pairs(folder, default_options())
+            found = [item.name + "?" * (item.request is None) for item in items]
             self.must(name, [one.lower() if wanted == ["a"] else one for one in found] == wanted,
                       found)
 
@@ -103,13 +103,14 @@ class Folders(Case):
                     self.write("a file", b"")
                     os.symlink({"to file": self.path("a file"), "to folder": folder}.get(
                         kind, "nowhere"), path)
-            [item] = of_folder(folder, default_options())
-            self.must(f"{first} {second}", (item.asked is not None) == is_pair, item)
+            [item] = find_folder_pairs(folder, default_options())
+            self.must(f"{first} {second}", (item.request is not None) == is_pair, item)
         wrong = default_options("--origin", "5")
         wrong.start = "tcp"
         for options in (default_options(), wrong):  # inputs in both cases
-            [item] = of_folder(self.path("0"), options)
-            self.must("files", ((item.asked is None) == (options is wrong), {*item.files} - {None})
+            [item] = find_folder_pairs(self.path("0"), options)
+            self.must("files", ((item.request is None) == (options is wrong), {*item.files} -
+                                {None})
                       == (True, {self.path("0/a.stl"), self.path("0/a.ts")}), item)
 
     def test_judges_a_pair_once_it_has_settled(self) -> None:
@@ -121,7 +122,7 @@ class Folders(Case):
         def due(clock: Callable[[], float]) -> list[str]:
             with mock.patch("time.monotonic", clock):
                 return [item.name for item in watch.ready_items(
-                    of_folder(self.path("in"), default_options()))]
+                    find_folder_pairs(self.path("in"), default_options()))]
 
         for now, wanted in ((100, []), (109, []), (110, ["one"]), (111, []), (150, [])):
             self.must(f"at {now}", due(lambda: now) == wanted)
@@ -148,7 +149,7 @@ class Folders(Case):
         def errors(now: float) -> int:
             with contextlib.redirect_stderr(io.StringIO()) as errors:
                 with mock.patch("time.monotonic", lambda: now):
-                    watch.ready_items(of_folder(self.path("in"), default_options()))
+                    watch.ready_items(find_folder_pairs(self.path("in"), default_options()))
             return len(errors.getvalue().splitlines())
 
         self.write("in/one.stl", b"1")

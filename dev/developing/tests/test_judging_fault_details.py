@@ -9,7 +9,7 @@ from unittest import mock
 from developing.pes import make_pes_packet
 from developing.stl import make_gsi_block, make_tti_block
 from subtitles.common.times import CLOCK, TICKS, time_of
-from subtitles.formats.listing import NamedFault, meanings, plain
+from subtitles.formats.listing import NamedFault, read_meanings, remove_markup
 from subtitles.formats.stl import Subtitle
 from subtitles.judging import faults as judging_faults
 from subtitles.judging.causes import Causes, NEVER
@@ -48,7 +48,7 @@ class FaultDetails(Case):
             f"list{number}")), number, request=request_for("one.stl", "one.pes", "--from", times[0],
                                                          "--to", times[1]),
                          causes=causes if kind == "r" else None)
-        made.names.given = stl
+        made.names.program_stl = stl
         return made
 
     def test_lists_the_faults_of_each_part_in_order(self) -> None:
@@ -92,7 +92,7 @@ class FaultDetails(Case):
                          b"".join(make_tti_block(at, begin, end, 20, 2, b"\xc8a", comment=at == 9)
                                   for at, begin, end in ((1, 25, 50), (2, night, 5), (9, 0, 0),
                                                          (3, 10, 20))))
-        known = meanings()
+        known = read_meanings()
         rows: list[tuple[str, str, str]] = [
             ("67 Control frame 00:00:01:00 packet 0", "C4 (erase page) is clear: a repeat that "
              "does not erase", ""), ("50 Character block 1 at 0", "",
@@ -108,7 +108,7 @@ class FaultDetails(Case):
                          packets=survey_packets(self, make_pes_packet(25 * TICKS,
                                                                       [NO_C4, CLOSING])),
                          pes=(0, 0), drawing_differences="drawn otherwise")
-        part.names.given = stl
+        part.names.program_stl = stl
         verdict = verdict_of([part])
         firsts = {line[:2]: means or do for line, means, do in reversed(rows)}
         self.assertEqual(list(list_hints(verdict)), [
@@ -119,7 +119,8 @@ class FaultDetails(Case):
             (None, None), ("C8", "\u00e4"), (None, None)])
         found = [(one["meaning"], one["remedy"]) for one in make_faults(verdict)]
         self.assertEqual(found, [
-            (means or plain(known[int(line[:2])].means), do or plain(known[int(line[:2])].do))
+            (means or remove_markup(known[int(line[:2])].meaning), do or
+             remove_markup(known[int(line[:2])].remedy))
             for line, means, do in rows])
 
     def test_gives_pes_packet_and_time_of_each_fault(self) -> None:
@@ -133,7 +134,7 @@ class FaultDetails(Case):
                              packets=survey_packets(self,
                                                     b"".join(make_pes_packet(one, [HEADER, CLOSING])
                                                              for one in pts)))
-            part.names.given = write_programme(self, [(0, 50)])
+            part.names.program_stl = write_programme(self, [(0, 50)])
             found = [(one["pes"], one["pes_pts"], one["pes_time"], bool(one["subtitle"]))
                      for one in make_faults(verdict_of([part]))]
             self.assertEqual(found, [*((at, pts[at], time_of(frame), place == 3) for place, (
@@ -149,7 +150,7 @@ class FaultDetails(Case):
                              packets=survey_packets(self, data), pes=(0, 0),
                              expected_pages=lambda: ExpectedPages(
                                  [Subtitle(1, 1, 25, 50, 20, 2, b"")], [due]))
-            part.names.given = write_programme(self, [(25, 50)])
+            part.names.program_stl = write_programme(self, [(25, 50)])
             verdict = verdict_of([part])
             verdict.request = request_for("one.stl", "one.pes", "--within", str(within), "--option",
                                         option)

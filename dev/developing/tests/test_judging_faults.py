@@ -11,7 +11,7 @@ from unittest import mock
 from developing.pes import make_packet, make_pes_packet
 from subtitles.common.program import proved_line
 from subtitles.common.times import CLOCK, Span, TICKS
-from subtitles.formats.listing import fault_of_line
+from subtitles.formats.listing import parse_fault_line
 from subtitles.judging.causes import (
     Cause, EARLY, LATE, NEVER, NOT_ERASED, OTHER_TEXT, TEXT_IN_PAUSE, UNKNOWN_CAUSE,
     WRONG_ATTRIBUTE, WRONG_PLACE, WRONG_TEXT)
@@ -20,7 +20,7 @@ from subtitles.judging.faults import (
 from subtitles.judging.part import report_causes
 from subtitles.judging.sentence import Facts, FaultCount, describe_causes, describe_faults
 from subtitles.judging.transmissions import run_program
-from subtitles.request.commands import CLEAR, Listener, Progress, Speech
+from subtitles.request.commands import CLEAR_LINE, Listener, Progress, Printer
 from subtitles.request.request import Unclear
 from subtitles.stream.packets import PacketRun, Packets
 from subtitles.stream.receiver import BLANK_PAGE, SpanIndex
@@ -99,7 +99,7 @@ class Descriptions(Case):
                          'expected "Ä", received "Ü".')
 
     def test_lists_other_faults_after_a_cause(self) -> None:
-        content = fault_of_line("refused 72 Content frame 00:00:01:00 row 1 column 1")
+        content = parse_fault_line("refused 72 Content frame 00:00:01:00 row 1 column 1")
         several = causes_of(cause(2, LATE, 3))
         for numbers, wanted in (
                 ({72: 9}, ""), ({72: 9, 68: 1}, "; also 68 Name"), ({63: 1, 72: 9, 74: 1}, ""),
@@ -119,7 +119,7 @@ class Descriptions(Case):
         for counts, wanted in (([FaultCount(68, "Parity", 3)], "; 3 faults in all"),
                                ([FaultCount(73, "Gap", 1), FaultCount(68, "Parity", 2)],
                                 "; 3 faults in all: 68 Parity (2) and 73 Gap")):
-            words = describe_faults(Facts("refused", 9, fault_of_line(
+            words = describe_faults(Facts("refused", 9, parse_fault_line(
                 "refused 68 Parity frame 00:00:01:00 packet 1"), False, 3, counts, "a letter"))
             self.must(wanted, words == f"at 00:00:01:00 a letter{wanted}", words)
 
@@ -145,13 +145,13 @@ class Descriptions(Case):
                 ("refused 68 Parity frame 00:00:00:10 packet 1", 1, 1),
                 ("refused 68 Parity frame 00:00:00:10 packet 2", 1, 2),
                 ("refused 38 UnitLength pes 3", 0, 3)):
-            packets, fault = survey_packets(self, data), fault_of_line(line)
+            packets, fault = survey_packets(self, data), parse_fault_line(line)
             assert fault
             found = find_fault_place(fault, packets, decode_packets(self, data, 0, within))
             self.must(f"{line} {within}", found.pes == pes, found)
         data = b"".join(make_pes_packet(10 * TICKS, [HEADER, row_packet(20, text)])
                         for text in (b"a", b"b"))
-        fault, decoded = fault_of_line(
+        fault, decoded = parse_fault_line(
             "refused 72 X frame 00:00:00:10 row 20 column 2"), decode_packets(
             self, data)
         assert fault
@@ -161,7 +161,7 @@ class Descriptions(Case):
                       find_fault_place(fault, decoded.packets, decoded, due).pes == number)
         decoded = decode_packets(self, make_pes_packet(0, [HEADER]) + make_pes_packet(9, [CLOSING]),
                                  0, 1)
-        fault = fault_of_line("refused 67 Control frame 00:00:00:00 packet 0")
+        fault = parse_fault_line("refused 67 Control frame 00:00:00:00 packet 0")
         self.must("headers",
                   fault and len(find_fault_place(fault, decoded.packets, decoded).headers) == 1)
 
@@ -223,23 +223,23 @@ class Descriptions(Case):
         for count in (0, 1, 40, 41, 42, 50):
             recorder = LineRecorder()
             for at in range(count):
-                recorder.of_list(f"{at}")
+                recorder.print_list_line(f"{at}")
             recorder.end_list(f"{count - 1}")
             more = [f".. {count - 41} more lines"] * (count > 41)
             wanted = [*map(str, range(min(count, 40))), *more, *[f"{count - 1}"] * (count > 40)]
             self.must(f"{count}", recorder.lines == wanted, recorder.lines)
-            recorder.command("next")
-            recorder.of_list("first")
+            recorder.print_command("next")
+            recorder.print_list_line("first")
             self.must(f"{count}: another list", recorder.lines[len(wanted):] == ["+ next", "first"])
         with contextlib.redirect_stdout(io.StringIO()) as out:
-            speech = Speech(Progress())
+            printer = Printer(Progress())
             for line in ("a", "b"):
-                speech.say(line)
-            speech.is_quiet = True
-            speech.say("c")
-            speech.end("Good.", "b")
-        self.must("the verdict last", (out.getvalue(), speech.last) == ("a\nb\nGood.\nb\n", "b"),
-                  out.getvalue())
+                printer.print_line(line)
+            printer.is_quiet = True
+            printer.print_line("c")
+            printer.print_verdict("Good.", "b")
+        self.must("the verdict last", (out.getvalue(), printer.last_line) ==
+                  ("a\nb\nGood.\nb\n", "b"), out.getvalue())
         with mock.patch("subtitles.judging.part.CauseDescriber") as wording:
             wording.return_value.format_line = lambda one: f"cause {one}"
             for count in (0, 40, 41, 45):
@@ -292,6 +292,6 @@ class Versions(Case):
                         progress.show(lambda: "x" * 500)
                 progress.clear()
                 progress.clear()
-            lines = errors.getvalue().split(CLEAR)
+            lines = errors.getvalue().split(CLEAR_LINE)
             self.must(f"{is_terminal}", len(lines) == (shown + 2 if shown else 1) and
                       all(0 < len(line) < 500 for line in lines[1:-1]), lines)

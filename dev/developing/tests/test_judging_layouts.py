@@ -14,7 +14,8 @@ from developing.pes import make_pes_packet
 from developing.stl import make_gsi_block, make_subtitle_blocks
 from subtitles.common.command_line import quoted
 from subtitles.common.times import TICKS
-from subtitles.formats.layout import Layout, PLAIN, Refused, drawn, fault_in, layout_of, page_rows
+from subtitles.formats.layout import (
+    Layout, PLAIN, TextFault, draw_text, find_layout_fault, make_page_rows, parse_layout)
 from subtitles.formats.stl import Subtitle
 from subtitles.formats.teletext import ENGLISH
 from subtitles.judging.pages import describe_row_difference
@@ -102,8 +103,8 @@ class DecodedPages(Case):
 class LayoutMessages(Case):
     def test_reports_faults_of_a_layout(self) -> None:
         for text, fault in FAULTS:
-            self.must(text, fault_in(text) == fault and (layout_of(text) is None) == bool(fault),
-                      fault_in(text))
+            self.must(text, find_layout_fault(text) == fault and (parse_layout(text) is None) ==
+                      bool(fault), find_layout_fault(text))
 
     def test_reports_what_replaces_auto(self) -> None:
         done = self.tool("qc", "one.stl", "one.ts", "--layout", "auto")
@@ -117,16 +118,18 @@ class LayoutMessages(Case):
                  "the text instead of 0A 0A"),
                 ("before=060B0B", "row 18, column 16 instead of 17, 06 0B 0B before the text "
                  "instead of 0B 0B")):
-            due, sent = (page_rows(lines) for layout in (PLAIN, layout_of(text)) if layout and
-                         not isinstance(lines := drawn(b"Hi", 18, 2, layout, ENGLISH), Refused))
+            due, sent = (make_page_rows(lines) for layout in
+                         (PLAIN, parse_layout(text)) if layout and
+                         not isinstance(lines := draw_text(b"Hi", 18, 2, layout, ENGLISH),
+                                        TextFault))
             self.must(text, describe_row_difference(due, sent) == wanted,
                       describe_row_difference(due, sent))
         for first, second, wanted in (
                 (b"Hi Ho", b"Hi\x8aHo", "2 rows instead of 1"),
                 (b"H i", b"H\x02i", "row 18, other codes within the text"),
                 (b"Hi\x8aH o", b"Hi\x8aH\x02o", "row 19, other codes within the text")):
-            due, sent = (page_rows(lines) for text in (first, second) if not isinstance(
-                lines := drawn(text, 18, 2, PLAIN, ENGLISH), Refused))
+            due, sent = (make_page_rows(lines) for text in (first, second) if not isinstance(
+                lines := draw_text(text, 18, 2, PLAIN, ENGLISH), TextFault))
             self.must(f"{second!r}", describe_row_difference(due, sent) == wanted,
                       describe_row_difference(due, sent))
 
@@ -203,14 +206,14 @@ class Programme(NamedTuple):
 
     @property
     def layout(self) -> Layout:
-        found = layout_of(self.text) if self.text else PLAIN
+        found = parse_layout(self.text) if self.text else PLAIN
         assert found is not None
         return found
 
     def page(self, printed: Said) -> object:
         """Return the page of a text in the layout."""
-        lines = drawn(printed[0], 18, printed[1], self.layout, ENGLISH)
-        return lines if isinstance(lines, Refused) else page_rows(lines)
+        lines = draw_text(printed[0], 18, printed[1], self.layout, ENGLISH)
+        return lines if isinstance(lines, TextFault) else make_page_rows(lines)
 
     def is_right(self) -> bool:
         """Return whether each transmitted cell is correct."""
@@ -231,13 +234,13 @@ def programme_of(seed: int) -> Programme:
     while len(found.file) < count:
         printed = between.join(line(some, has_codes) for _ in range(some.choice([1, 2, 2]))), \
             some.choice([2, 2, 2, 1, 3, 0])
-        if not isinstance(found.page(printed), Refused):
+        if not isinstance(found.page(printed), TextFault):
             found.file.append(printed)
     found.sent.extend(found.file)
     kind = some.randrange(8)
     for at in some.sample(range(count), some.choice((0, 0, 0, 1, 1, 2, 5, 9))):
         printed = altered(found.file[at], kind)
-        if not isinstance(found.page(printed), Refused):
+        if not isinstance(found.page(printed), TextFault):
             found.file[at] = printed
     # After all else, so that seeds keep their programmes.
     kind = some.randrange(4)

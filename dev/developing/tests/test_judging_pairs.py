@@ -15,7 +15,7 @@ from subtitles.formats.listing import NamedFault, NEVER_SENT, NOT_SHOWN
 from subtitles.judging import pair
 from subtitles.judging.pair import PairJudge
 from subtitles.recording.notices import NeverSent
-from subtitles.request.commands import CommandWords, Names
+from subtitles.request.commands import CommandPaths, OutputNames
 from .bench import Case, example, example_bytes
 from .judged import FEW, ProgrammeCase, judge_files
 from .parts import request_for, make_part
@@ -89,8 +89,8 @@ class UnreadablePackets(ProgrammeCase):
                    for before, after in ((21, 24), (60, 62))], found.result["losses"])
         reported = [line for line in found.told if "between" in line or "record" in line]
         self.must("told",
-                  len(reported) == 3 and reported[2] == "record that part again: what is missing "
-                                                        "was not checked", reported)
+                  len(reported) == 3 and reported[2] == "record that part again: the missing "
+                                                        "frames were not checked", reported)
         severity = self.write("severity", b"45 warning\n")
         others = self.write("others", b"others warning\n")
         rows: list[tuple[list[str], str]] = [
@@ -125,7 +125,7 @@ class Steps(Case):
         verdict, nothing = verdict_of([make_part(0, 9, 0, number=number)
                                        for number in range(1, count + 1)]), mock.Mock()
         verdict.request = request_for("one.stl", "one.pes", *words)
-        return PairJudge(verdict, CommandWords("tools/qc", self.bench.program), Names(
+        return PairJudge(verdict, CommandPaths("tools/qc", self.bench.program), OutputNames(
             "one", self.folder, None), nothing, False)
 
     def test_gives_each_part_its_subtitles_and_files(self) -> None:
@@ -154,7 +154,7 @@ class Steps(Case):
         with mock.patch.object(pair, "schedule_pages") as due:
             self.pair().make_expected_pages(of_part, [])
         due.assert_called_once_with(self.bench.program, "", [], (1, 0x50), "german",
-                                    Between(25, 50), of_part.words_of_pages())
+                                    Between(25, 50), of_part.schedule_arguments())
 
     def test_adds_a_fault_for_a_page_never_sent(self) -> None:
         hidden, never = NamedFault(NOT_SHOWN, "hidden"), NamedFault(NEVER_SENT, "never")
@@ -166,7 +166,7 @@ class Steps(Case):
         self.must("both", one.verdict.named_faults == [hidden, never] and
                   one.verdict.recording is recording.file, one.verdict.named_faults)
         listener: Any = one.listener
-        listener.said.assert_has_calls([mock.call("one"), mock.call("two")])
+        listener.print_line.assert_has_calls([mock.call("one"), mock.call("two")])
 
 
 class Sentences(ProgrammeCase):

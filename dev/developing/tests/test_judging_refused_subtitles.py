@@ -16,10 +16,10 @@ from developing.every_place import due as defined
 from developing.every_place.arguments import parse_options
 from developing.multiplex import BEGINS, PACKET, PAYLOAD, make_head
 from developing.stl import make_gsi_block, make_tti_block
-from subtitles.cli.collection import pair_row, summary_table
+from subtitles.cli.collection import make_pair_row, format_summary
 from subtitles.common.command_line import counted
 from subtitles.common.times import ALL_DAY, Between
-from subtitles.formats.listing import fault_of_line
+from subtitles.formats.listing import parse_fault_line
 from subtitles.formats.stl import NamedSubtitle, Subtitle, SubtitleFile
 from subtitles.formats.teletext import BY_WORD, OPTIONS, has_characters
 from subtitles.judging import subtitles
@@ -27,8 +27,8 @@ from subtitles.judging.pair import PairJudge
 from subtitles.judging.subtitles import (
     RefusedSubtitle, SubtitleCounts, ValidSubtitles, draw_valid_pages, find_valid_subtitles,
     has_valid_subtitles)
-from subtitles.request.commands import Names
-from subtitles.results.files import row_of_object
+from subtitles.request.commands import OutputNames
+from subtitles.results.files import make_row
 from subtitles.stream.receiver import national_option
 from .bench import Case, example_bytes
 from .judged import JudgedPair, judge_files
@@ -120,9 +120,9 @@ class RefusedSubtitles(Case):
         self.must("table", [one["verdict"] for one in rows] == ["refused", *verdicts], rows)
         words, case = "8 subtitles judged, 2 refused", tree.fromstring(self.read("x.xml"))
         self.must("case", words in "".join(case.itertext()))
-        row = row_of_object(known, "one")
-        self.must("collected", words in "".join(summary_table([row])) and
-                  words in pair_row(self.folder, row).source)
+        row = make_row(known, "one")
+        self.must("collected", words in "".join(format_summary([row])) and
+                  words in make_pair_row(self.folder, row).source)
         for more, counts in (((self.stl, self.pes, *WORDS), {"judged": 10, "refused": 0}),
                              ((self.stl,), {"judged": 10, "refused": 0}),
                              ((self.write_stl(3),), None)):
@@ -260,8 +260,9 @@ class RefusedSubtitles(Case):
             found = find_valid_subtitles(file, faults, "english")
         self.must("once", len(found.judged) == 758 and request.call_count <= 759 * len(OPTIONS),
                   request.call_count)
-        names, verdict, nothing = Names("many", self.folder, None), verdict_of([]), mock.Mock()
-        names.give(self.path("many.stl"))
+        names, verdict, nothing = OutputNames("many", self.folder,
+                                              None), verdict_of([]), mock.Mock()
+        names.set_subtitle_file(self.path("many.stl"))
         reported = PairJudge(verdict, nothing, names, nothing,
                              False).find_valid_subtitles(make_answer(
             [*(one.line for one in faults), "refused 60 Empty", "43 faults"],
@@ -347,14 +348,14 @@ class RandomFiles(Case):
                 continue
             beside += 1
             file = SubtitleFile(self.write("one.stl", data), between)
-            found = find_valid_subtitles(file, filter(None, map(fault_of_line, wanted.lines)),
+            found = find_valid_subtitles(file, filter(None, map(parse_fault_line, wanted.lines)),
                                          "english")
             self.must(f"{wanted.lines}", [(one.begin, one.end) for one in found.judged] == [
                 (one.tci, one.tco) for one in wanted.records], found)
             first, places = dict[int, str](), {one.index for one in found.judged}
             for line in wanted.lines:
-                reported = fault_of_line(line)
-                own = file.at_block(
+                reported = parse_fault_line(line)
+                own = file.find_by_block(
                     reported.block) if reported and reported.block is not None else None
                 if own:
                     first.setdefault(own.position, line)
@@ -362,7 +363,8 @@ class RandomFiles(Case):
                 (each.subtitle.position, each.fault.line) for each in found.refused] ==
                 sorted(first.items()), found.refused)
             self.must("left out", not places & found.skipped_positions and (between != ALL_DAY or (
-                places | found.skipped_positions) == {*range(1, len(file.starts) + 1)}), found)
+                places | found.skipped_positions) == {*range(1, len(file.start_blocks) + 1)}),
+                      found)
             self.must("words", len(first) < 2 or found.describe().startswith(
                 f"{len(first)} of {len(places | found.skipped_positions)} subtitles "),
                 found.describe())

@@ -12,9 +12,9 @@ from typing import Any, Callable
 
 from developing.pes import make_packet
 from subtitles.common.times import CLOCK, TICKS, time_of
-from subtitles.formats.layout import PLAIN, Refused, cell_lines, prepared
+from subtitles.formats.layout import PLAIN, TextFault, make_cell_lines, prepare_line
 from subtitles.clock.start import clock_advice
-from subtitles.formats.listing import NamedFault, NOT_SHOWN, fault_of_line, meanings
+from subtitles.formats.listing import NamedFault, NOT_SHOWN, parse_fault_line, read_meanings
 from subtitles.formats.stl import Subtitle
 from subtitles.formats.teletext import ENGLISH, OPTIONS
 from subtitles.judging.causes import CAUSE_NAMES, TEXT_IN_PAUSE
@@ -55,9 +55,9 @@ class HeaderOptions(unittest.TestCase):
 
 class Sentences(unittest.TestCase):
     def test_describes_each_verdict(self) -> None:
-        fault = fault_of_line("refused 73 Gap frame 10:00:00:00")
-        packet = fault_of_line("refused 34 Pts pes 0")
-        block = fault_of_line("refused 24 Unfinished block 12")
+        fault = parse_fault_line("refused 73 Gap frame 10:00:00:00")
+        packet = parse_fault_line("refused 34 Pts pes 0")
+        block = parse_fault_line("refused 24 Unfinished block 12")
         for seen, wanted in (
                 (Facts(NOT_JUDGED, 0, reason="no\nmore"), "Not judged: no."),
                 (Facts(NOT_JUDGED, 0), "Not judged: check gave no verdict."),
@@ -77,11 +77,12 @@ class Sentences(unittest.TestCase):
                  "faults are declared as warnings: from 10:00:00:00 on no header."),
                 (Facts(WARNED, 2, warnings=["page", "page", "pause"]), "Not accepted: --strict "
                  "counts warnings (page, pause); everything that was received is right."),
-                (Facts(REFUSED, 1234, first=fault_of_line("refused 72 Content frame 10:00:00:00"),
+                (Facts(REFUSED, 1234,
+                       first=parse_fault_line("refused 72 Content frame 10:00:00:00"),
                        faults=2, delay=50,
                        counts=[FaultCount(72, "Content", 1), FaultCount(73, "Gap", 1)]),
                  "Refused: all 1,234 subtitles appeared 50 frames late; also 73 Gap."),
-                (Facts(REFUSED, 1, first=fault_of_line("refused 63 Early frame 10:00:00:00"),
+                (Facts(REFUSED, 1, first=parse_fault_line("refused 63 Early frame 10:00:00:00"),
                        faults=1, delay=-1), "Refused: the subtitle appeared 1 frame early."),
                 (Facts(REFUSED, 2, first=fault, faults=1, hint="no header", delay=50),
                  "Refused: from 10:00:00:00 on no header."),
@@ -101,7 +102,7 @@ class Sentences(unittest.TestCase):
                 (Facts(RELATIVE, 2, first=fault, faults=1, hint="no header"), "Waived, since "
                  "these faults are declared as warnings: from 10:00:00:00 on no header. No clock "
                  f"was given, so a delay that all subtitles share {ADD}."),
-                (Facts(REFUSED, 2, first=fault_of_line("refused 45 Lost pes 7"), faults=3, lost=[
+                (Facts(REFUSED, 2, first=parse_fault_line("refused 45 Lost pes 7"), faults=3, lost=[
                     "a", "b"], counts=[FaultCount(45, "Lost", 2), FaultCount(73, "Gap", 1)]),
                  "Refused: a, and in 1 more place; record that part again; also 73 Gap."),
                 (Facts(REFUSED, 2, first=fault, faults=1, hint="no header"),
@@ -120,13 +121,13 @@ class Sentences(unittest.TestCase):
 
     def test_has_a_sentence_for_each_number(self) -> None:
         self.assertEqual(set(FAULT_CLAUSES), FAULT_NUMBERS - OF_PACKETS)
-        known = {number for number, one in meanings().items() if number in FAULT_NUMBERS}
+        known = {number for number, one in read_meanings().items() if number in FAULT_NUMBERS}
         self.assertLessEqual(known - OF_PACKETS, set(FAULT_CLAUSES))
         for number, words in FAULT_CLAUSES.items():
             for place, begin in (("frame 10:00:00:00", "at 10:00:00:00"),
                                  ("pes 7", "in PES packet 7"), ("block 0", "in block 0"),
                                  ("", "")):
-                reported = fault_of_line(f"refused {number} Name {place}".rstrip())
+                reported = parse_fault_line(f"refused {number} Name {place}".rstrip())
                 found = write_sentence(Facts(REFUSED, 1, first=reported, faults=1))
                 with self.subTest(number=number, place=place):
                     self.assertEqual(found, " ".join(["Refused:", *begin.split(), words]) + ".")
@@ -387,7 +388,7 @@ class VisibleRows(Case):
         blank = BLANK_PAGE[0]
         rows = [blank, *(next(cells for cells, sight, _ in ROWS if sight == one).ljust(40)
                          for one in Visibility)]
-        file: Any = SimpleNamespace(starts=[2, 5, 6])
+        file: Any = SimpleNamespace(start_blocks=[2, 5, 6])
         for cells in itertools.product(rows, repeat=4):
             subtitles = [Subtitle(index, index, 25 * index, 25 * index + 9, 1, 2, b"")
                          for index in (1, 3)]
@@ -398,7 +399,7 @@ class VisibleRows(Case):
             printed = [(find_visibility(one) == Visibility.NONE,
                      f"{subtitle.name} at {time_of(subtitle.begin)}, "
                      f"row {row}: {describe_hidden_characters(one, 'english')}",
-                     file.starts[subtitle.index - 1], time_of(subtitle.begin))
+                     file.start_blocks[subtitle.index - 1], time_of(subtitle.begin))
                     for subtitle, row, one in wanted]
             found = find_hidden_rows(subtitles, pages, file, "english")
             self.assertEqual(found.faults, [NamedFault(NOT_SHOWN, words, block=block)
@@ -414,8 +415,9 @@ class VisibleRows(Case):
             texts = [b"one", b"two", b"three"]
             texts[at] = texts[at][:at] + bytes([code]) + texts[at][at:]
             subtitles = [Subtitle(1, 1, 25, 50, 20, 2, text) for text in texts]
-            lines = cell_lines(texts[at], ENGLISH)
-            drawn = [] if isinstance(lines, Refused) else [prepared(one, PLAIN) for one in lines]
+            lines = make_cell_lines(texts[at], ENGLISH)
+            drawn = [] if isinstance(lines, TextFault) else [prepare_line(one, PLAIN) for one in
+                                                             lines]
             found = may_hide_rows(subtitles, has_layout)
             self.assertEqual(found, has_layout or code in (0x0A, 0x0B, 0x1D), (code, at))
             self.assertTrue(found or all(find_visibility(one) == Visibility.ALL for one in drawn),

@@ -9,9 +9,10 @@ from typing import Any, Sequence
 
 from subtitles.common.command_line import Stop
 from subtitles.formats.listing import (
-    Accepted, FAULT_NAMES, FaultLine, NamedFault, NEVER_SENT, STL_FAULTS, Trusted, accepted_of,
-    count_of, fault_of_line, meanings, number_of, trusted_of)
-from subtitles.formats.stl import Subtitle, subtitles_shown
+    Accepted, FAULT_NAMES, FaultLine, NamedFault, NEVER_SENT, STL_FAULTS, Trusted,
+    parse_accepted_line,
+    parse_count_line, parse_fault_line, read_meanings, parse_fault_number, parse_trusted_line)
+from subtitles.formats.stl import Subtitle, parse_subtitles
 from subtitles.judging.causes import Cause, CAUSE_NAMES
 from subtitles.judging.check import CheckOutput
 from subtitles.judging.sentence import (
@@ -284,7 +285,7 @@ class LeadingFaults(Case):
         self.must("causes", set(CAUSE_RANKS) == set(CAUSE_NAMES))
         self.must("numbers", set(NUMBER_RANKS) == FAULT_NUMBERS - OF_PACKETS,
                   set(NUMBER_RANKS) ^ (FAULT_NUMBERS - OF_PACKETS))
-        for number, one in meanings().items():
+        for number, one in read_meanings().items():
             rank = rank_number(number)
             if number in STL_FAULTS:
                 self.must(f"{number}", rank == Rank.FILE)
@@ -399,23 +400,26 @@ class ParsedLines(Case):
                  ("ended", 72, "Content", NONE, NONE, NONE, "00:00:03:00", NONE, NONE, NONE)),
                 ("fault 91 Memory",
                  ("fault", 91, "Memory", NONE, NONE, NONE, NONE, NONE, NONE, NONE))):
-            self.must(line, fault_of_line(line) == FaultLine(line, *wanted), fault_of_line(line))
+            self.must(line, parse_fault_line(line) == FaultLine(line, *wanted),
+                      parse_fault_line(line))
             is_fault = line.startswith("refused ")
-            self.must(f"number of {line}", number_of(line) == (wanted[1] if is_fault else None))
+            self.must(f"number of {line}", parse_fault_number(line) ==
+                      (wanted[1] if is_fault else None))
         for line in ("", "refused", "refused 72", "refused x Content", "refused 72 Content frame",
                      "refused 72 Content row 1 column 2", "refused 72 Content pes 1 more",
                      " refused 72 Content", "accepted 72 Content"):
-            self.must(f"no such line: {line}", fault_of_line(line) is None, fault_of_line(line))
+            self.must(f"no such line: {line}", parse_fault_line(line) is None,
+                      parse_fault_line(line))
 
     def test_parses_accepted_trusted_and_count_lines(self) -> None:
-        self.must("accepted", accepted_of("accepted 226 frames 5 transmissions") ==
+        self.must("accepted", parse_accepted_line("accepted 226 frames 5 transmissions") ==
                   Accepted(226, 5))
-        self.must("trusted", trusted_of("trusted frames 00:00:01:00 00:00:02:00") ==
+        self.must("trusted", parse_trusted_line("trusted frames 00:00:01:00 00:00:02:00") ==
                   Trusted("00:00:01:00", "00:00:02:00"))
-        self.must("counted", count_of("12 faults") == 12)
+        self.must("counted", parse_count_line("12 faults") == 12)
         for line in ("accepted", "accepted 1 frames", "accepted 1 frames 2 transmissions more",
                      "refused 60 Empty", "12 faults more", "faults", ""):
-            found = [accepted_of(line), trusted_of(line), count_of(line)]
+            found = [parse_accepted_line(line), parse_trusted_line(line), parse_count_line(line)]
             self.must(f"none of {line}", found == [None] * 3, found)
 
     def test_parses_subtitles(self) -> None:
@@ -423,14 +427,14 @@ class ParsedLines(Case):
                               (["0 subtitles"], []),
                               ([FIRST, "refused 16 Cumulative block 2"], [ONE]),
                               (["refused 10 Format block 0"], [])):
-            self.must(str(lines), subtitles_shown(lines) == wanted, subtitles_shown(lines))
+            self.must(str(lines), parse_subtitles(lines) == wanted, parse_subtitles(lines))
         unread: list[list[str]] = [
             [], [FIRST], [FIRST, SECOND_LINE], [FIRST, "2 subtitles"], [FIRST, "fault 91 Memory"],
             [FIRST + " ", "1 subtitles"], [FIRST.replace("vp", "row"), "1 subtitles"],
             [FIRST.replace("00:00:01:00", "00:00:01:25"), "1 subtitles"], ["", "1 subtitles"]]
         for lines in unread:
             try:
-                found: object = subtitles_shown(lines)
+                found: object = parse_subtitles(lines)
             except Stop as reason:
                 found = str(reason)
             self.must(f"not read: {lines}", str(found).startswith("`show` printed no "), found)

@@ -31,7 +31,8 @@ from subtitles.recording.notices import (
     pause_notices, pmt_notices, repeat_notices)
 from subtitles.recording.recording import is_recording
 from subtitles.request.commands import (
-    CommandWords, Names, NamesOfList, again, files_in, pair_name, part_name, shell_line)
+    CommandPaths, ListNames, OutputNames, list_pair_files, make_qc_command, pair_name, part_name,
+    shell_line)
 from subtitles.request.request import Selection, Unclear
 from subtitles.stream import gaps
 from subtitles.stream.gaps import ClockJump
@@ -244,14 +245,14 @@ def page_with(*rows: tuple[int, bytes]) -> tuple[bytes, ...]:
 class NamesOfFiles(Case):
     def test_names_the_files_of_a_pair_and_its_parts(self) -> None:
         for out in (None, "out"):
-            names = Names("one", self.folder, out)
-            for one, name in ((names, "one"), (names.of_part(2), "one.2")):
+            names = OutputNames("one", self.folder, out)
+            for one, name in ((names, "one"), (names.name_part(2), "one.2")):
                 typed = os.path.join(out or "", name)
-                self.must(f"{out} {name}: typed", one.report == f"{typed}.html")
-                self.must(f"{out} {name}: here", (one.whole_path, one.list_path) == (
+                self.must(f"{out} {name}: typed", one.report_path == f"{typed}.html")
+                self.must(f"{out} {name}: here", (one.recording_path, one.list_path) == (
                     os.path.join(self.folder, f"{name}.recording"),
                     os.path.join(self.folder, f"{name}.txt")))
-                self.must(f"{out} {name}: object", one.machine == (f"{typed}.json" if out else
+                self.must(f"{out} {name}: object", one.json_path == (f"{typed}.json" if out else
                                                                    None))
 
     def test_gives_no_two_results_the_same_name(self) -> None:
@@ -269,18 +270,18 @@ class NamesOfFiles(Case):
         for _ in range(20_000):
             stem = "".join(chance.choice(["a", "1", ".", "~", "%", "2", "index", "line ", "\udce9",
                                           "\n", "é" * 50]) for _ in range(chance.randrange(1, 7)))
-            copies, part, names = chance.randrange(1, 4), chance.randrange(3), NamesOfList()
-            name = [names.pair(f"{stem}.stl") for _ in range(copies)][-1]
+            copies, part, names = chance.randrange(1, 4), chance.randrange(3), ListNames()
+            name = [names.name_pair(f"{stem}.stl") for _ in range(copies)][-1]
             name = part_name(name, part) if part else name
             self.assertEqual(seen.setdefault(name, (stem, copies, part)), (stem, copies, part))
             self.assertFalse(name == "index" or HIDDEN.search(name)
                              or re.fullmatch("line [0-9]+(~[0-9]+)?", name)
                              or name[0] == "." or len(os.fsencode(f".{name}.recording.pes")) > 255,
                              name)
-        names = NamesOfList()
-        self.must("of a list", [names.pair(one) for one in (
+        names = ListNames()
+        self.must("of a list", [names.name_pair(one) for one in (
             "a.stl", "b/a.stl", "a~2.stl", "b.stl", "a.STL")] == ["a", "a~2", "a%7E2", "b", "a~3"])
-        self.must("of lines", [names.line(one) for one in (2, 3, 2)] ==
+        self.must("of lines", [names.name_line(one) for one in (2, 3, 2)] ==
                   ["line 2", "line 3", "line 2~2"])
 
     def test_finds_the_files_of_an_earlier_call(self) -> None:
@@ -293,18 +294,18 @@ class NamesOfFiles(Case):
         for name in [*own, *others]:
             with open(os.path.join(out, name), "wb"):
                 pass
-        found = [os.path.basename(path) for path in files_in(out, "one")]
+        found = [os.path.basename(path) for path in list_pair_files(out, "one")]
         self.must("own", sorted(found) == sorted([*own, "one.cut.pes", "one.recording.pes",
                                                   "one.recording.ts",
                                                   "one.txt", "one.html", "one.json"]), found)
         for name in ("a[1]", "a*", "a?"):
             path = self.write(f"out/{name}.1.txt", b"")
-            kept = files_in(out, name)
+            kept = list_pair_files(out, name)
             self.must(name, path in kept and os.path.join(out, "one.1.txt") not in kept, kept)
-        self.must("no folder", len(files_in(self.path("none"), "one")) == 6)
+        self.must("no folder", len(list_pair_files(self.path("none"), "one")) == 6)
 
     def test_prints_the_call_with_other_options(self) -> None:
-        typed = CommandWords("tools/qc", self.bench.program)
+        typed = CommandPaths("tools/qc", self.bench.program)
         request = request_for("one.stl", "one.ts", "--page", "150", "--every", "50",
                               "--no-complete",
                           "--pid", "0x101", "--origin", "7", "--within", "2", "--breaks", "1",
@@ -317,21 +318,21 @@ class NamesOfFiles(Case):
                              (("--breaks", "0"), whole.replace(" --breaks 1", "") + " --breaks 0"),
                              (("--within", "5"), whole.replace(" --within 2", "") + " --within 5"),
                              (("--pes", "1-2"), whole.replace(" --pes 2-9", "") + " --pes 1-2")):
-            self.must(f"{more}", again(request, typed, *more) == wanted,
-                      again(request, typed, *more))
+            self.must(f"{more}", make_qc_command(request, typed, *more) == wanted,
+                      make_qc_command(request, typed, *more))
         start = request_for("one.stl", None, "--start", "tcp")
-        self.must("start", again(start, typed) == "tools/qc one.stl --start tcp")
-        self.must("an origin instead", again(start, typed, "--origin", "T") ==
+        self.must("start", make_qc_command(start, typed) == "tools/qc one.stl --start tcp")
+        self.must("an origin instead", make_qc_command(start, typed, "--origin", "T") ==
                   "tools/qc one.stl --origin T")
         self.must("words", shell_line("cat", "a b", ">", "c", "|", "d'e") ==
                   "cat 'a b' >c | 'd'\"'\"'e'")
         for called, tool, program in (("tools/qc", "tools/air", "subttx"),
                                       ("./qc", "./air", "../subttx"), ("qc", "./air", "../subttx"),
                                       ("/a/tools/qc", "/a/tools/air", "/a/subttx")):
-            made = CommandWords(called, self.bench.program)
-            self.check(called, made.tool("air"), tool)
-            self.must(f"{called}: beside", os.path.normpath(made.beside()) ==
-                      os.path.normpath(program), made.beside())
+            made = CommandPaths(called, self.bench.program)
+            self.check(called, made.tool_command("air"), tool)
+            self.must(f"{called}: beside", os.path.normpath(made.default_program()) ==
+                      os.path.normpath(program), made.default_program())
 
 
 class RecordingKinds(Case):
@@ -420,20 +421,21 @@ class PageDifferences(Case):
         other = make_tti_block(300, 75, 99, 20, 2, b"$")
         data = make_gsi_block(b"", 6, 2) + b"".join([comment, first, user, comment, last, other])
         file = SubtitleFile(self.write("one.stl", data + b"x" * 127))
-        self.assertEqual((file.count(), file.ended(), list(file.lasts())), (6, (2, 4), [5, 6]))
+        self.assertEqual((file.count(), file.count_ended(), list(file.list_last_blocks())),
+                         (6, (2, 4), [5, 6]))
         self.assertEqual((file.text(5), file.text(6)), (b"a\xc2e\x80\xf9\xff", b"$"))
-        self.assertEqual([file.letter(5, at) for at in range(7)], [
+        self.assertEqual([file.describe_byte(5, at) for at in range(7)], [
             ("61", "a"), ("C2", "é"), ("65", "e"), ("80", None), ("F9", "ø"), ("FF", "\ufffd"),
             (None, None)])
-        self.assertEqual([file.letter(at, 0) for at in (0, 7)], [(None, None)] * 2)
-        self.assertEqual([file.first_before(at) for at in (2, 5, 6)], [None, None, 2])
-        found = [file.at_block(at) for at in range(8)]
+        self.assertEqual([file.describe_byte(at, 0) for at in (0, 7)], [(None, None)] * 2)
+        self.assertEqual([file.find_previous_first(at) for at in (2, 5, 6)], [None, None, 2])
+        found = [file.find_by_block(at) for at in range(8)]
         self.assertEqual([one and (one.position, one.number, one.begin) for one in found], [
             None, (0, 7, "00:00:01:00"), (1, 7, "00:00:01:00"), (1, 7, "00:00:01:00"),
             (1, 7, "00:00:01:00"), (1, 7, "00:00:01:00"), (2, 300, "00:00:03:00"), None])
-        self.assertEqual([file.at_frame(frame) for frame in (24, 25, 49, 50, 75, 98, 99)], [
+        self.assertEqual([file.find_by_frame(frame) for frame in (24, 25, 49, 50, 75, 98, 99)], [
             None, found[2], found[2], None, found[6], found[6], None])
-        self.assertEqual([*file.all()], [found[2], found[6]])
+        self.assertEqual([*file.list_subtitles()], [found[2], found[6]])
         advice = OptionAdvice(file, "english")
         self.assertTrue(advice.advise(5, 4).startswith("ø is in no option"))
         self.assertEqual((advice.advise(5, 6), advice.complete_options), ("", []))

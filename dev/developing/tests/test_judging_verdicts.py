@@ -21,9 +21,9 @@ from subtitles.judging.verdict import (
     DELAYING_FAULTS, DelaySpread, Gap, Unjudged, Verdict, count_fault_numbers, find_gaps, make_gaps,
     summarize_delays)
 from subtitles.recording.notices import Notice
-from subtitles.request.commands import Names
+from subtitles.request.commands import OutputNames
 from subtitles.request.request import Request
-from subtitles.results.schema import Writing, trusted_of
+from subtitles.results.schema import ResultSource, list_trusted_frames
 from subtitles.stream.gaps import LossPlace
 from subtitles.stream.packets import PacketRun, Packets
 from .bench import Case
@@ -231,8 +231,8 @@ class Verdicts(Case):
             parts = [make_part(100, 199, 0, make_answer(printed), 1),
                      make_part(100, 199, 0, make_answer(printed), 2, places=places,
                                request=request_for("a.stl", "a.pes", *words))]
-            known = Writing(verdict_of(parts), MadeWith("1", "0" * 64, None))
-            found = [(one["part"], one["from"], one["to"]) for one in trusted_of(known)]
+            known = ResultSource(verdict_of(parts), MadeWith("1", "0" * 64, None))
+            found = [(one["part"], one["from"], one["to"]) for one in list_trusted_frames(known)]
             self.must(f"{places} {words}", found == [(1, time_of(100), time_of(199)), *(
                 (2, time_of(first), time_of(last)) for first, last in wanted)], found)
 
@@ -316,7 +316,7 @@ class PartDecisions(Case):
             HEADER, row_packet(20, b"%d" % at), CLOSING]) for at in range(10, 60, 10)))
         recording: Any = SimpleNamespace(packets=packets)
         request = request_for("a.stl", "a.pes", "--within", "1")
-        part = Part(3, request, Names("a", "", None), make_answer(),
+        part = Part(3, request, OutputNames("a", "", None), make_answer(),
                     TimedPart(10, 50, Clock(0, GIVEN)),
                     recording, {4})
         summed = SummedFile("a", 9, "")

@@ -122,7 +122,7 @@ class Announcements(Case):
         try:
             Recording.refuse_silent(recording, carriers)
         except Unclear as reason:
-            return [*reason.to_type]
+            return [*reason.commands]
         return None
 
     def test_expects_the_page_if_a_subtitle_is_recorded(self) -> None:

@@ -13,7 +13,7 @@ from subtitles.common.command_line import Stop
 from subtitles.common.times import TICKS
 from subtitles.recording.notices import NeverSent
 from subtitles.recording.recording import Recording, refuse_stream
-from subtitles.request.commands import Names
+from subtitles.request.commands import OutputNames
 from subtitles.request.request import Unclear
 from subtitles.stream.gaps import SECOND
 from subtitles.stream.packets import GapMarker, PES, PacketRun, Packets
@@ -28,11 +28,11 @@ def read_recording(survey: Survey, *words: str, name: str = "one.ts", kind: int 
              folder: str = "") -> Any:
     """Return a recording with these lines of `survey`."""
     lines = list[str]()
-    listener: Any = SimpleNamespace(lines=lines, said=lines.append,
-                                    chosen=lambda one: lines.append(one.line))
+    listener: Any = SimpleNamespace(lines=lines, print_line=lines.append,
+                                    add_selection=lambda one: lines.append(one.line))
     with mock.patch("os.stat", return_value=SimpleNamespace(st_mode=kind)):
         made: Any = Recording(request_for("a.stl", name, *words), mock.Mock(),
-                              Names("one", folder, None), listener, [(100, 150)])
+                              OutputNames("one", folder, None), listener, [(100, 150)])
     made.survey, made.suggest_call = survey, lambda *more: " ".join(more)
     made.with_contents, made.header_problem = str, lambda packets: ""
     return made
@@ -80,7 +80,7 @@ class ChosenPids(Case):
             except NeverSent:
                 found = NeverSent
             except Unclear as reason:
-                found = [*reason.to_type]
+                found = [*reason.commands]
             self.must(f"{lines} {words}", found == wanted, found)
         for count in (0, 1):
             packets = read_recording(read_survey("size 0", *[pes_line(PES)] * count)).chosen()
@@ -162,7 +162,7 @@ class Messages(Case):
                                                 (0x104, b"0x104\n")]
         for pid, wanted in rows:
             one, found = read_recording(read_survey("size 188"), folder=self.folder), None
-            one.typed.program_path, one.packets = path, Packets(pid)
+            one.command_paths.program_path, one.packets = path, Packets(pid)
             try:
                 found = b"".join(one.kept())
             except subprocess.CalledProcessError:

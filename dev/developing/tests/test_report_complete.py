@@ -16,8 +16,8 @@ from subtitles.judging.transmissions import ExpectedPages
 from subtitles.judging.verdict import Gap, Unjudged, Verdict
 from subtitles.recording.notices import Notice
 from subtitles.report import page as report_page
-from subtitles.report.page import BETWEEN, DELAY
-from subtitles.request.commands import CommandWords
+from subtitles.report.page import UNCHECKED_GAP, UNCHECKED_DELAY
+from subtitles.request.commands import CommandPaths
 from subtitles.stream.gaps import LossPlace
 from subtitles.stream.packets import Packets, PES
 from subtitles.stream.receiver import BLANK_PAGE, Timeline
@@ -51,7 +51,7 @@ class CompletePage(Case):
                              make_answer(self.KINDS[kind], path=self.path(f"{number}.txt")),
                              number, RECORDING if is_estimated and number == len(kinds) else GIVEN,
                              delays=[0], drawing_differences=f"drawn {number}", **given)
-            part.names.given = example("story.stl")
+            part.names.program_stl = example("story.stl")
             parts.append(part)
         verdict = verdict_of(parts)
         verdict.request = request_for(example("story.stl"), "one.pes")
@@ -63,7 +63,7 @@ class CompletePage(Case):
         return verdict
 
     def test_shows_all_losses_notes_warnings_and_faults(self) -> None:
-        typed = CommandWords("tools/qc", self.bench.program)
+        typed = CommandPaths("tools/qc", self.bench.program)
         cases: list[tuple[bool, int, str | None]] = [
             (False, 0, None), (True, 0, None), (False, 1, None), (True, 3, None), (False, 1, "why")]
         for kinds, (is_estimated, named, why) in itertools.product(
@@ -74,18 +74,18 @@ class CompletePage(Case):
             verdict.named_faults = [NamedFault("not shown", f"row {at}", block=at)
                                     for at in range(1, named + 1)]
             verdict.unjudged = Unjudged(why, ("type <this>",)) if why else None
-            page = markup_text(report_page.report_page(verdict, typed))
+            page = markup_text(report_page.make_report_page(verdict, typed))
             box, text = (re.sub("<[^>]*>", "", one) for one in (
                 page.partition("</div></div>")[0], page))
             reported = [verdict.sentence, *verdict.notes]
             reported += [warning.warning_text() for warning in verdict.warnings]
             reported += ["not judged", "why", "type <this>"] if why else [
                 verdict.worst_line or "",
-                *(f"{one.line}: {one.words}" for one in verdict.named_faults),
+                *(f"{one.line}: {one.text}" for one in verdict.named_faults),
                 *[gap.format_line() for gap in verdict.gaps] * bool(kinds)]
             reported += [ESTIMATED_NOTE[1:]] * (is_estimated and len(kinds) == 1 and not why)
-            each = [] if why else [DELAY] * is_estimated
-            each += [BETWEEN] * (len(kinds) > 1 and not why)
+            each = [] if why else [UNCHECKED_DELAY] * is_estimated
+            each += [UNCHECKED_GAP] * (len(kinds) > 1 and not why)
             for number, kind in enumerate("" if why else kinds, 1):
                 each += [f"drawn {number}", *(line.partition(" ")[2] for line in self.KINDS[kind]
                                               if line.startswith("refused"))]

@@ -12,9 +12,9 @@ from subtitles.judging.cues import Cue, CueJudge, find_decoded_times
 from subtitles.judging.status import (
     ACCEPTED, LOST, NOT_JUDGED, REFUSED, RELATIVE, WAIVED, WARNED)
 from subtitles.judging.transmissions import ExpectedPages
-from subtitles.report.blocks import field_markup, marked_text, marked_times, readable
-from subtitles.report.cue_list import CueList, CueRow, mark_difference, signed
-from subtitles.report.page import SHAPES, with_options
+from subtitles.report.blocks import mark_field, mark_text, mark_times, show_byte
+from subtitles.report.cue_list import CueList, CueRow, mark_difference, format_signed
+from subtitles.report.page import SHAPES, keep_options_together
 from subtitles.stream.packets import Packets, PES
 from subtitles.stream.receiver import BLANK_PAGE, Rows, Timeline
 from .bench import Case
@@ -124,19 +124,20 @@ class TextMarkup(Case):
     def test_prints_the_first_200_wrong_rows(self) -> None:
         made: Any = SimpleNamespace(
             rows=[CueRow(at, look, [], [at]) for look in ("ok", "bad") for at in range(203)],
-            part=SimpleNamespace(number=1), kinds=[], caption=lambda: "")
-        text = markup_text(CueList.list_section(made))
+            part=SimpleNamespace(number=1), kinds=[], make_caption=lambda: "")
+        text = markup_text(CueList.make_list(made))
         self.check("rows", (text.count('class="bad"'), text.count('class="bad more"')), (200, 3))
         self.must("texts", "203 right subtitles" in text and "and 3 more rows" in text, text[:900])
 
     def test_writes_numbers_with_their_signs(self) -> None:
-        self.must("signs", [signed(one) for one in (None, 0, 12, -3)] == ["", "0", "+12", "-3"])
+        self.must("signs", [format_signed(one) for one in (None, 0, 12, -3)] ==
+                  ["", "0", "+12", "-3"])
 
     def test_breaks_no_option_between_lines(self) -> None:
         for text, wanted in (("give --origin or --start", "give <b>--origin</b> or <b>--start</b>"),
                              ("--every 25 <x>", "<b>--every 25</b> &lt;x&gt;"), ("a - b", "a - b")):
-            self.must(text, markup_text(with_options(text)) == wanted,
-                      markup_text(with_options(text)))
+            self.must(text, markup_text(keep_options_together(text)) == wanted,
+                      markup_text(keep_options_together(text)))
 
     def test_gives_each_verdict_a_class_and_a_shape(self) -> None:
         words = (ACCEPTED, WAIVED, RELATIVE, REFUSED, LOST, WARNED, NOT_JUDGED)
@@ -154,13 +155,13 @@ class RefusedFiles(Case):
         for number in range(10, 60):
             line = f"refused {number} X block {int(number > 14)}"
             head, _, value = fields.get(number, "").rpartition(" ")
-            reported = markup_text(field_markup(made, fault_of(line))).strip()
+            reported = markup_text(mark_field(made, fault_of(line))).strip()
             self.must(line, reported == (f"{head} <mark>{value}</mark>" if head else ""), reported)
-        self.must("no block", markup_text(field_markup(made, fault_of("refused 14 Cct"))) == "")
+        self.must("no block", markup_text(mark_field(made, fault_of("refused 14 Cct"))) == "")
 
     def test_marks_the_byte_or_line_that_a_fault_names(self) -> None:
         def marked(*lines: str) -> str:
-            return markup_text(marked_text(b"a b\x8ac", [fault_of(line) for line in lines]))
+            return markup_text(mark_text(b"a b\x8ac", [fault_of(line) for line in lines]))
 
         for lines, words in (
                 ((), "a b<br/>c"), (("refused 50 X block 2 at 0",), "<mark>a</mark> b<br/>c"),
@@ -169,7 +170,7 @@ class RefusedFiles(Case):
                 (("refused 53 X block 2 at 0", "refused 50 X block 2 at 2"),
                  "<mark>a <mark>b</mark></mark><br/>c"), (("refused 21 X block 2",), "a b<br/>c")):
             self.must(f"{lines}", marked(*lines) == words, marked(*lines))
-        letters = [markup_text(readable(byte)) for byte in (0x20, 0x41, 0x7E, 0x7F, 0x1F)]
+        letters = [markup_text(show_byte(byte)) for byte in (0x20, 0x41, 0x7E, 0x7F, 0x1F)]
         self.must("letters", letters == ["\u2423", "A", "~", "<i>7F</i>", "<i>1F</i>"])
 
     def test_marks_the_times_that_a_fault_names(self) -> None:
@@ -180,7 +181,7 @@ class RefusedFiles(Case):
                 ("refused 56 X block 6", (f"<mark>{begin}</mark>", end)),
                 ("refused 57 X block 6", (f"<mark>{begin}</mark>", end)),
                 ("refused 20 X block 6", (begin, end)), ("refused 50 X block 6", (begin, end))):
-            self.must(line, (*map(markup_text, marked_times(one, [fault_of(line)])),) == wanted)
+            self.must(line, (*map(markup_text, mark_times(one, [fault_of(line)])),) == wanted)
         wrong = one._replace(begin="99:00:00:00")
-        reported = [*map(markup_text, marked_times(wrong, [fault_of("refused 20 X block 6")]))]
+        reported = [*map(markup_text, mark_times(wrong, [fault_of("refused 20 X block 6")]))]
         self.must("no time", reported == ["<mark>99:00:00:00</mark>", end])

@@ -7,8 +7,8 @@ from typing import Any
 
 from subtitles.formats.teletext import ENGLISH
 from subtitles.report.pictures import (
-    CellStyle, LOW_ROWS, differences, draw_row, frames_of, is_boxed, picture, rows_to_draw,
-    styled_spans)
+    CellStyle, LOW_ROWS, find_differences, draw_row, draw_frames, is_boxed, draw_picture,
+    find_used_rows, style_row)
 from subtitles.stream.receiver import BLANK_PAGE, HIT, OLD, Rows
 from .parts import markup_text
 
@@ -24,7 +24,7 @@ def page(**rows: bytes) -> Rows:
 class Attributes(unittest.TestCase):
     def look(self, row: bytes, number: int = 20, is_boxed_page: bool = True) -> CellStyle:
         """Return the style of the last cell of a row."""
-        return styled_spans(row, number, 0, is_boxed_page)[-1]
+        return style_row(row, number, 0, is_boxed_page)[-1]
 
     def test_applies_each_spacing_attribute_until_it_ends(self) -> None:
         plain = CellStyle("A", 7, 0, False, False, False)
@@ -32,14 +32,14 @@ class Attributes(unittest.TestCase):
                 (b"A", {}), (b"\x0b\x0bA", {"boxed": True}), (b"\x0bA", {}), (b"\x0b \x0bA", {}),
                 (b"\x0b\x0b\x0a\x0aA", {}), (b"\x0b\x0b\x0aA", {"boxed": True}),
                 (b"\1A", {"ink": 1}), (b"\0A", {"ink": 0}), (b"\x07A", {}),
-                (b"\1\2A", {"ink": 2}), (b"\x17A", {}), (b"\x11A", {"ink": 1, "letters": "A"}),
+                (b"\1\2A", {"ink": 2}), (b"\x17A", {}), (b"\x11A", {"ink": 1, "characters": "A"}),
                 (b"\x08A", {"flash": True}), (b"\x08\x09A", {}), (b"\x0dA", {"double": True}),
                 (b"\x0d\x0cA", {}), (b"\1\x1dA", {"ink": 1, "paper": 1}),
                 (b"\1\x1d\x1cA", {"ink": 1}), (b"\1\x1d\2A", {"ink": 2, "paper": 1}),
                 (b"\x8b\x8bA", {"boxed": True}), (b"\x18A", {}), (b"\x10A", {"ink": 0})]
         for row, change in rows:
             with self.subTest(row=row):
-                self.assertEqual(self.look(row)._replace(letters="A"), plain._replace(**change))
+                self.assertEqual(self.look(row)._replace(characters="A"), plain._replace(**change))
         for number, wanted in ((22, True), (23, False), (24, False)):
             self.assertEqual(self.look(b"\x0dA", number).double, wanted, number)
         for row in (b"A", b"\x0b\x0bA", b"\x0a\x0aA"):
@@ -65,8 +65,8 @@ class Attributes(unittest.TestCase):
                  "     f      ", " ddddddd    "),
                 ("0b 61 0a 62 0b 0b 02 1d 07 61 0a 0a", "777777722777", "000000022222",
                  "     bbbbbb ", " " * 12, " " * 12)):
-            cells = [one for one in styled_spans(bytes.fromhex(codes), 20, ENGLISH.bits, True)
-                     for _ in one.letters]
+            cells = [one for one in style_row(bytes.fromhex(codes), 20, ENGLISH.bits, True)
+                     for _ in one.characters]
             found = ["".join(letters) for letters in zip(*(
                 (str(cell.ink), str(cell.paper), " b"[cell.boxed], " f"[cell.flash],
                  " d"[cell.double]) for cell in cells))]
@@ -76,13 +76,13 @@ class Attributes(unittest.TestCase):
         for row, letters in ((b"\x11a", "\u2592"), (b"\x11A", "A"), (b"\x11 ", " "),
                              (b"\x11\1a", "a"), (b"\x11!", "\u2592"), (b"a", "a"),
                              (b"\x10a", "\u2592"), (b"\x17a", "\u2592"), (b"\x0fa", "a")):
-            self.assertEqual(self.look(row).letters, letters, row)
+            self.assertEqual(self.look(row).characters, letters, row)
 
 
 class Drawings(unittest.TestCase):
     def test_draws_the_used_rows(self) -> None:
         rows = page(r20=b"\x0b\x0b\x0dtall", r21=b"\x0b\x0bcovered", r22=b"\x0b\x0b\1seen <")
-        drawn = markup_text(picture(rows, SUBTITLE_HEADER, (19, 23), [(22, 3), (22, 4)]))
+        drawn = markup_text(draw_picture(rows, SUBTITLE_HEADER, (19, 23), [(22, 3), (22, 4)]))
         self.assertEqual(("tall" in drawn, "covered" in drawn, "seen &lt;</text>" in drawn),
                          (True, False, True))
         for part, count in (('class="n"', 2), ('<rect class="p0" x="12" width="468" height="30"/>',
@@ -91,10 +91,10 @@ class Drawings(unittest.TestCase):
                             ('<rect class="d1" x="36" y="315" width="24" height="15"/>', 1)):
             self.assertEqual(drawn.count(part), count, part)
         for header, count in ((PLAIN_HEADER, 3), (SUBTITLE_HEADER, 1)):
-            self.assertEqual(markup_text(picture(rows, header, (18, 20))).count('class="n"'), count,
-                             (header, count))
+            self.assertEqual(markup_text(draw_picture(rows, header, (18, 20))).count('class="n"'),
+                             count, (header, count))
         for last, is_there in ((21, False), (22, True)):
-            drawn = markup_text(picture(rows, PLAIN_HEADER, (18, last)))
+            drawn = markup_text(draw_picture(rows, PLAIN_HEADER, (18, last)))
             self.assertEqual("seen" in drawn, is_there, last)
         marked = markup_text(draw_row(bytes([OLD] * 3 + [0x41, HIT, HIT]).ljust(40), 20, 0,
                                       True)[0])
@@ -109,33 +109,33 @@ class Drawings(unittest.TestCase):
             ([(5, 1), (6, 1)], [], 1), ([(5, 1), (7, 1)], [], 2), ([(5, 1), (7, 1)], [5], 1),
             ([(5, 1), (6, 1), (6, 2)], [], 2)]
         for cells, tall, count in rows:
-            drawn = markup_text(frames_of(cells, set(tall)))
+            drawn = markup_text(draw_frames(cells, set(tall)))
             self.assertEqual(drawn.count('class="d1"'), count, cells)
             self.assertEqual(drawn.count('class="d2"'), count, cells)
         self.assertIn('x="12" y="60" width="12" height="30"',
-                      markup_text(frames_of([(6, 1), (5, 1)], set())))
+                      markup_text(draw_frames([(6, 1), (5, 1)], set())))
 
     def test_shows_the_used_rows_and_one_more_on_each_side(self) -> None:
         for pages, wanted in (
                 ([BLANK_PAGE], LOW_ROWS), ([page(r20=b"x")], (19, 21)),
                 ([page(r1=b"x")], (1, 2)), ([page(r24=b"x")], (23, 24)),
                 ([page(r20=b"x"), page(r5=b"x")], (4, 21))):
-            self.assertEqual(rows_to_draw(pages), wanted, pages)
+            self.assertEqual(find_used_rows(pages), wanted, pages)
 
     def test_finds_cells_whose_codes_differ(self) -> None:
         one = page(r20=b"abc", r22=b"x")
         for other, wanted in ((one, []), (page(r20=b"abd", r22=b"x"), [(20, 2)]),
                               (page(r20=b"Abd"), [(20, 0), (20, 2), (22, 0)]),
                               (page(r20=b"abc\xa0", r22=b"\xf8"), [])):
-            self.assertEqual(differences(one, other), wanted, other)
+            self.assertEqual(find_differences(one, other), wanted, other)
         for row, column in itertools.product(range(24), range(40)):  # each cell alone
             cells = bytearray(one[row])
             cells[column] ^= 1
             other = (*one[:row], bytes(cells), *one[row + 1:])
-            self.assertEqual(differences(one, other), [(row + 1, column)], (row, column))
+            self.assertEqual(find_differences(one, other), [(row + 1, column)], (row, column))
 
     def test_draws_characters_of_the_header_option(self) -> None:
         for option, letter in ((0, "\u2190"), (4, "\u00c4"), (0, "\u2190"), (7, "\u25a1")):
             header = bytes([*SUBTITLE_HEADER[:7], option << 1])
-            self.assertIn(f">{letter}</text>", markup_text(picture(
+            self.assertIn(f">{letter}</text>", markup_text(draw_picture(
                 page(r20=b"\x0b\x0b["), header, (19, 21))), (option, letter))

@@ -15,7 +15,7 @@ from developing.pes import (
 from developing.stl import box_line, make_gsi_block, make_subtitle_blocks, make_tti_block
 from subtitles.common.times import CLOCK, FRAMES_OF_A_DAY, TICKS, frame_of, time_of
 from subtitles.formats.listing import (
-    BEGIN, ENDS_READING, FaultLine, PASSED_OVER, fault_of_line)
+    BEGIN, ENDS_READING, FaultLine, SKIPPED_PACKETS, parse_fault_line)
 from subtitles.formats.stl import NEW_LINE, USER_DATA
 from subtitles.formats.teletext import page_name
 from .bench import BENCH, example_bytes
@@ -279,12 +279,12 @@ class Reports(unittest.TestCase):
             root = tree.fromstring(page)
             rows = cue_rows(root)
             with open(os.path.join(out, "one.txt"), encoding="utf-8") as file:
-                reported = [fault for fault in map(fault_of_line, file.read().splitlines())
+                reported = [fault for fault in map(parse_fault_line, file.read().splitlines())
                         if fault and fault.is_fault]
             self.check_rows(found, reported, rows)
             self.check_counts(found, root)
             numbers = found.verdict.parts[0].check_output.fault_numbers
-            passed = numbers & {*PASSED_OVER, *ENDS_READING, 62}
+            passed = numbers & {*SKIPPED_PACKETS, *ENDS_READING, 62}
             if found.verdict.request.recording and not passed:
                 self.check_times(found, rows)
 

@@ -19,15 +19,15 @@ from unittest import mock
 
 from subtitles.cli import batch, collection, main, measure, single
 from subtitles.cli.main import (
-    OPTION_MODES, find_mode, make_parser, output_path_in, pair_name_in, read_jobs, read_line_number,
-    read_seconds, refuse_options)
+    OPTION_MODES, find_mode, make_parser, find_output_path, find_pair_name, read_jobs,
+    read_line_number, read_seconds, refuse_options)
 from subtitles.common.command_line import Stop, ended
 from subtitles.common.program import TOP, read
-from subtitles.request.commands import CommandWords
-from subtitles.request.lines import request_of_line
+from subtitles.request.commands import CommandPaths
+from subtitles.request.lines import make_line_request
 from subtitles.request.request import (
     ALONE, BATCH, COLLECT, LINE, MEASURE, MODES, Mode, PAIR, WATCH)
-from subtitles.results.files import FORMULA
+from subtitles.results.files import FORMULA_BEGINNINGS
 from .bench import Case, Done, example, is_python, import_script, tool_path
 from .parts import default_options
 
@@ -59,7 +59,7 @@ def refusal(mode: Mode, name: str, folder: str) -> str | None:
     """Return the error message about an option in a mode, or `None`."""
     try:
         if mode is LINE:
-            request_of_line(["a.stl", "a.ts", *option_arguments(name, folder)], default_options())
+            make_line_request(["a.stl", "a.ts", *option_arguments(name, folder)], default_options())
         else:
             line = [*CALLS[mode], *option_arguments(name, folder)]
             refuse_options(make_parser(""), line, find_mode(make_parser("").parse_args(line)))
@@ -75,7 +75,7 @@ class Modes(Case):
             for mode in MODES:
                 error = refusal(mode, name, self.folder)
                 is_right = error is None if mode in taken_by else name in (error or "")
-                self.must(f"{name} and {mode.words}", is_right, error)
+                self.must(f"{name} and {mode.text}", is_right, error)
 
     def test_takes_the_last_of_repeated_options(self) -> None:
         for words, name, value in (
@@ -132,7 +132,7 @@ class Modes(Case):
     def test_finds_the_mode_of_a_call(self) -> None:
         for mode, line in CALLS.items():
             found = find_mode(make_parser("").parse_args(line))
-            self.must(mode.words, found is mode, found)
+            self.must(mode.text, found is mode, found)
         for line in (["--batch", "a", "--collect", "b"], ["--watch", "a", "--batch", "b"],
                      ["--batch", "a", "b.stl"]):
             with self.assertRaises(Stop):
@@ -158,9 +158,10 @@ class Modes(Case):
                     ("/some/tools/qc", "/some/tools/air", "/some/subttx"),
                     ("/some/subttx-qc", "/some/subttx-air", "/some/subttx"),
                     (self.path("subttx-qc"), "subttx-air", "subttx")):
-                typed = CommandWords(called, program)
-                self.must(called, (typed.tool("air"), typed.beside()) == (tool, beside), (
-                    typed.tool("air"), typed.beside()))
+                typed = CommandPaths(called, program)
+                self.must(called, (typed.tool_command("air"), typed.default_program()) ==
+                          (tool, beside), (
+                    typed.tool_command("air"), typed.default_program()))
 
 
 class PartialCommandLines(unittest.TestCase):
@@ -172,27 +173,27 @@ class PartialCommandLines(unittest.TestCase):
                            (["--json", "a", "--json", "b"], "b"), (["--jsonx", "a"], None),
                            (["--json=a", "--json", "b"], "b"), ([], None)]
         for line, path in paths:
-            self.assertEqual(output_path_in(line, "--json"), path, line)
+            self.assertEqual(find_output_path(line, "--json"), path, line)
             others = [word.replace("json", "junit") for word in line]
-            self.assertEqual(output_path_in(others, "--junit"), path, others)
+            self.assertEqual(find_output_path(others, "--junit"), path, others)
         names: list[tuple[list[str], str]] = [
             (["a.STL", "b.ts"], "a"), (["--x", "dir/one.stl"], "one"), ([], ""), (["b.ts"], ""),
             (["one.stl", "two.stl"], "one")]
         for line, name in names:
-            self.assertEqual(pair_name_in(line), name, line)
+            self.assertEqual(find_pair_name(line), name, line)
 
     def test_writes_the_reason_into_each_requested_file(self) -> None:
         with tempfile.TemporaryDirectory() as folder:
             for at, kinds in enumerate(itertools.product(("new", "none", "other"), repeat=3)):
                 paths: dict[str, str | None] = {}
-                for option, kind in zip(main.PIECES, kinds):
+                for option, kind in zip(main.MAKE_CONTENTS, kinds):
                     path = os.path.join(folder, "none" * (kind == "none"), f"{at}{option}")
                     paths[option] = path
                     if kind == "other":
                         with open(path, "wb") as file:
                             file.write(b"other")
                 main.write_unjudged("one", paths, "the reason")
-                for option, kind in zip(main.PIECES, kinds):
+                for option, kind in zip(main.MAKE_CONTENTS, kinds):
                     data = read(paths[option] or "") or ""
                     self.assertEqual(("the reason" in data, data == "other"),
                                      (kind == "new", kind == "other"), (kinds, option))
@@ -287,7 +288,7 @@ class WrongArguments(Case):
             self.must(f"{words}", done.status == 2 and known["verdict"] == "not judged" and
                       known["reason"] == reported, known)
             one = dict(zip(head, row))
-            cell = "'" * reported.startswith(FORMULA) + reported
+            cell = "'" * reported.startswith(FORMULA_BEGINNINGS) + reported
             self.must(f"{words}: table", not more and
                       (one["verdict"], one["reason"]) == ("not judged", cell), row)
             cases = list(suite.iter("testcase"))

@@ -13,11 +13,11 @@ from typing import Any
 from subtitles.common.command_line import Lateness, Stop, Words, late_text, late_word
 from subtitles.common.shapes import Flag, Text
 from subtitles.common.times import FRAMES_OF_A_DAY
-from subtitles.request.commands import CommandWords, again, profile_line
-from subtitles.request.lines import pairs_at, profile_at, request_of_line
+from subtitles.request.commands import CommandPaths, make_qc_command, profile_line
+from subtitles.request.lines import read_pairs, read_profile, make_line_request
 from subtitles.request.request import (
     ALONE, JUDGED, LINE, MEASURE, OPTIONS, Option, Request, add_options, keep_stl,
-    option_words as options_of, plain, request_with)
+    list_arguments as options_of, remove_markup, make_file_request)
 from subtitles.results.schema import REQUEST
 from .. import DEV
 from .bench import Case, example
@@ -32,9 +32,10 @@ import dataclasses, json, sys, developing
 from subtitles.common.shapes import Flag, Maybe, Text
 from subtitles.request import request as options
 options.OPTIONS = (*options.OPTIONS, options.Option(
-    "--new-one", "K", "a [new](x.md) `one`", options.JUDGED, "`none`", "new_one", of_check=None,
-    of_pages=True, shape=Maybe(Text()), note="What is new."), options.Option(
-    "--newer", None, "it is newer", options.PAIRS, "", "newer", default=False, of_check=False,
+    "--new-one", "K", "a [new](x.md) `one`", options.JUDGED, "`none`", "new_one",
+    check_default=None, changes_pages=True, shape=Maybe(Text()), note="What is new."),
+    options.Option(
+    "--newer", None, "it is newer", options.PAIRS, "", "newer", default=False, check_default=False,
     shape=Flag()))
 options.Request = dataclasses.make_dataclass("Request", [
     ("new_one", object, None), ("newer", bool, False)], bases=(options.Request,))
@@ -46,10 +47,9 @@ from subtitles.results.schema import REQUEST
 from subtitles.cli.main import find_mode, refuse_options
 from subtitles.results.schema import schema
 from subtitles.common.command_line import Stop
-from subtitles.request.lines import request_of_line
-from subtitles.request.request import request_of
-from subtitles.request.commands import again
-from subtitles.request.commands import CommandWords
+from subtitles.request.lines import make_line_request
+from subtitles.request.request import make_request
+from subtitles.request.commands import CommandPaths, make_qc_command
 
 def said(does):
     try:
@@ -63,21 +63,22 @@ def taken(*line):
 
 program, folder = sys.argv[1:]
 pair, given = ["a.stl", "a.ts"], ["--new-one", "5", "--newer"]
-asked = request_of(make_parser("").parse_args([*pair, *given]))
-none = request_of(make_parser("").parse_args(pair))
+asked = make_request(make_parser("").parse_args([*pair, *given]))
+none = make_request(make_parser("").parse_args(pair))
 help = make_parser("").format_help()
 print(json.dumps({
     "help": help, "man page": pages.tool_parts(help)["options"],
     "chapter": pages.chapter_parts()["options"],
     "completion": pages.completion_parts("  check STL PES  does\\n", "", [help])["values"],
     "asked": REQUEST.made(asked), "left out": REQUEST.made(none), "call": call_arguments(asked),
-    "again": again(asked, CommandWords("tools/qc", program)), "check": asked.check_words(),
-    "file": asked.check_words(True), "pages": asked.words_of_pages(),
+    "again": make_qc_command(asked, CommandPaths("tools/qc", program)),
+    "check": asked.check_arguments(),
+    "file": asked.check_arguments(True), "pages": asked.schedule_arguments(),
     "schema": schema()["definitions"]["request"]["properties"],
-    "same": request_of(make_parser("").parse_args(call_arguments(asked))) == asked,
+    "same": make_request(make_parser("").parse_args(call_arguments(asked))) == asked,
     "not with": [taken("a.stl", *given), taken(*pair, *given),
                  taken("--collect", "x", "--new-one", "5")],
-    "line": REQUEST.made(request_of_line([*pair, *given], default_options()))}))
+    "line": REQUEST.made(make_line_request([*pair, *given], default_options()))}))
 """
 # An option with its value, and its member of a result.
 ROWS: list[tuple[str, str, Any]] = [
@@ -111,10 +112,10 @@ class NewOptions(Case):
                 ("completion", " --new-one ")):
             self.must(name, line in made[name], made[name])
         self.must("a flag has no value", "--newer" not in made["completion"])
-        for name, members in (("asked", ("5", True)), ("left out", (None, False)),
+        for name, request_members in (("asked", ("5", True)), ("left out", (None, False)),
                               ("line", ("5", True))):
             found = made[name]["new_one"], made[name]["newer"]
-            self.must(name, found == members, found)
+            self.must(name, found == request_members, found)
         self.must("call", made["call"] == [*given, "--", "a.stl", "a.ts"] and made["same"], made)
         self.must("again", made["again"] == "tools/qc a.stl a.ts " + " ".join(given), made["again"])
         self.must("check", made["check"] == ["--complete", *given] and made["file"] == given[:2] ==
@@ -142,20 +143,20 @@ class OptionRows(Case):
             self.must(f"{name}: a call",
                       sorted(call_arguments(request)) == sorted([*words, "--", "one.stl",
                                                                  "one.pes"]))
-            once_more = request_with("one.stl", "one.pes", parser.parse_args(words))
+            once_more = make_file_request("one.stl", "one.pes", parser.parse_args(words))
             self.must(f"{name}: again", once_more == request)
             known = REQUEST.made(request)
             key = name.replace("--no-", "--").strip("-").replace("-", "_")
             self.must(f"{name}: result", known == {
                 **without, **({"within": 5} if name == "--late" else {}), key: member}, known)
-            self.must(f"{name}: pages", request.words_of_pages() == (
-                words if name in ("--layout", "--open") else []), request.words_of_pages())
-            line = request_of_line(["one.stl", "one.pes", *words], plain_words)
+            self.must(f"{name}: pages", request.schedule_arguments() == (
+                words if name in ("--layout", "--open") else []), request.schedule_arguments())
+            line = make_line_request(["one.stl", "one.pes", *words], plain_words)
             self.must(f"{name}: line", line == request, line)
         every = [word for name, value, _ in ROWS if name != "--start"
                  for word in ([name, value] if value else [name])]
         request = request_for("one.stl", "one.pes", *every)
-        typed = again(request, CommandWords("tools/qc", self.bench.program))
+        typed = make_qc_command(request, CommandPaths("tools/qc", self.bench.program))
         for name, _, _ in ROWS:
             self.must(f"{name}: typed", (f" {name}" in typed) == (name != "--start"), typed)
         self.must("complete",
@@ -163,8 +164,9 @@ class OptionRows(Case):
 
     def test_each_row_is_complete(self) -> None:
         for one in OPTIONS:
-            self.must(one.name, bool(one.means and one.without and one.modes) and
-                      {*one.modes} <= {*JUDGED, MEASURE} and one.help == plain(one.help), one)
+            self.must(one.name, bool(one.description and one.default_text and one.modes) and
+                      {*one.modes} <= {*JUDGED, MEASURE} and one.help == remove_markup(one.help),
+                      one)
             self.must(f"{one.name}: member", (one.member is None) == one.name.startswith("--no-"))
             self.must(f"{one.name}: lines", LINE in one.modes, one.modes)
         self.must("of a file", [one.name for one in OPTIONS if ALONE in one.modes] == [
@@ -179,7 +181,7 @@ class OptionRows(Case):
                 ("--from 00:00:01:00 --to 23:59:59:24", 25, day - 1)):
             request = request_for("a.stl", "a.ts", *words.split())
             self.assertEqual(request.between, (first, end), words)
-            self.assertEqual(request.of_part(first, end).between, (first, end), words)
+            self.assertEqual(request.restrict_to(first, end).between, (first, end), words)
         for option, time in itertools.product(("--from", "--to"), (
                 "24:00:00:00", "00:00:00:25", "00:00:00", "10", "")):
             with self.assertRaises(Stop):
@@ -188,14 +190,14 @@ class OptionRows(Case):
     def test_omits_default_values(self) -> None:
         number = Option("--n", "N", "", JUDGED, field="n", default=5, shape=Text())
         flag = Option("--f", None, "", JUDGED, field="f", default=False, shape=Flag())
-        other = Option("--no-f", None, "", JUDGED, field="f", default=True, sets=False)
+        other = Option("--no-f", None, "", JUDGED, field="f", default=True, flag_value=False)
         for one, value, words in ((number, 5, []), (number, None, []), (number, 0, ["--n", "0"]),
                                   (flag, False, []), (flag, True, ["--f"]), (other, True, []),
                                   (other, False, ["--no-f"])):
-            self.must(f"{one.name} {value}", one.words(value, one.default) == words)
+            self.must(f"{one.name} {value}", one.format_arguments(value, one.default) == words)
         for text, wanted in (("a [b c](d.md#e) `f` [g](h)", "a b c f g"), ("none", "none"),
                              ("[a](b)", "a"), ("`[x]`", "[x]")):
-            self.must(text, plain(text) == wanted, plain(text))
+            self.must(text, remove_markup(text) == wanted, remove_markup(text))
 
 
 # Profiles: their lines, overriding options, and their paths.
@@ -222,7 +224,7 @@ class ProfileFiles(Case):
             ("--start tcp\n--relative", {"start": "tcp", "is_relative_allowed": True}),
             ("--origin 5", {"origin": 5})]
         for text, wanted in rows:
-            profile = profile_at(self.write("house", text.encode()))
+            profile = read_profile(self.write("house", text.encode()))
             found = {field: setting.value for field, setting in profile.settings.items()}
             self.must(text, found == wanted, found)
             self.must(f"{text}: sum", (profile.name, profile.sha256) == (
@@ -253,7 +255,7 @@ class ProfileFiles(Case):
         self.must("typed", (typed.option, typed.language) == ("swedish", None), typed)
 
     def test_refuses_wrong_lines_by_number(self) -> None:
-        not_there = f"is not an option of a profile, which may have {MAY}"
+        not_there = f"is not allowed in a profile: use {MAY}"
         for text, number, printed in (
                 ("--every 25\n\n--breaks 1", 3, f"--breaks {not_there}"),
                 *((f"{name}=1", 1, f"{name} {not_there}") for name in (
@@ -274,12 +276,12 @@ class ProfileFiles(Case):
                  "in-cues, a slash and out-cues, as 0:31,1:40,2:29/0:100")):
             path = self.write("house", text.encode())
             with self.assertRaises(Stop) as refused:
-                profile_at(path)
+                read_profile(path)
             self.must(text, str(refused.exception) == f"{path}, line {number}: {printed}",
                       refused.exception)
 
     def test_allows_the_options_that_its_message_lists(self) -> None:
-        self.assertEqual(", ".join(one.name for one in OPTIONS if one.in_profile), MAY)
+        self.assertEqual(", ".join(one.name for one in OPTIONS if one.is_in_profile), MAY)
 
     def test_reads_delay_counts(self) -> None:
         for text, begins, ends in (
@@ -301,7 +303,7 @@ class Overrides(Case):
         """Return the request of a call, or of a line of its list."""
         words = default_options(*call.split())
         return request_for("a.stl", "a.ts", *call.split()) if line is None else \
-            request_of_line(["a.stl", "a.ts", *line.split()], words, self.folder)
+            make_line_request(["a.stl", "a.ts", *line.split()], words, self.folder)
 
     def test_given_options_override_the_profile(self) -> None:
         house = self.write("house", b"--every 25\n--keeping\n--within 2\n--late 0:1,2:1/0:1\n")
@@ -370,12 +372,12 @@ class Overrides(Case):
             self.write(name, data)
         pair = f"{self.path('a.stl')} {self.path('a.ts')} --profile"
         path = self.write("in/list", f"{pair} house\n{pair} bad\n{pair} none\n".encode())
-        good, bad, none = pairs_at(path, default_options())
-        self.must("good", good.asked and good.asked.every == 25 and self.path("in/house") in
+        good, bad, none = read_pairs(path, default_options())
+        self.must("good", good.request and good.request.every == 25 and self.path("in/house") in
                   good.files, good)
-        printed = f"{path}, line 2: {self.path('in/bad')}, line 2: --breaks is not an option of a "
-        self.must("bad", bad.asked is None and str(bad.reason).startswith(printed), bad.reason)
-        self.must("none", none.asked is None and f"{self.path('in/none')}" in str(none.reason),
+        printed = f"{path}, line 2: {self.path('in/bad')}, line 2: --breaks is not allowed in a "
+        self.must("bad", bad.request is None and str(bad.reason).startswith(printed), bad.reason)
+        self.must("none", none.request is None and f"{self.path('in/none')}" in str(none.reason),
                   none.reason)
 
 
@@ -407,7 +409,7 @@ class ProfileVerdicts(Case):
         request = request_for("a.stl", "a.ts", "--profile", path, "--every", "50")
         self.must("line", request.profile and profile_line(request.profile) ==
                   f"profile {path}: --every 25 --no-complete --layout fit,up")
-        none = profile_at(self.write("none", b"#\n"))
+        none = read_profile(self.write("none", b"#\n"))
         self.must("nothing", profile_line(none) == f"profile {none.name}: no options")
         found = judge_files(self, STORY, RECORDING, "--profile", path, "--layout", "up", "--every",
                             "50")

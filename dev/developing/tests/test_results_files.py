@@ -18,11 +18,12 @@ from subtitles.common.program import MadeWith, TOP, read
 from subtitles.common.shapes import Integer, Listed
 from subtitles.formats.listing import SILENT, UNDECIDED
 from subtitles.judging.verdict import Unjudged
-from subtitles.request.commands import CommandWords
-from subtitles.request.lines import Item
+from subtitles.request.commands import CommandPaths
+from subtitles.request.lines import BatchItem
 from subtitles.results import files
-from subtitles.results.files import object_at, object_of, table_lines, unjudged
-from subtitles.results.schema import FAULT as ROWS_OF_FAULT, FORMAT, LISTS, VERDICT, misfit, schema
+from subtitles.results.files import read_result, write_result, table_lines, make_unjudged
+from subtitles.results.schema import (
+    FAULT as ROWS_OF_FAULT, FORMAT, LISTS, VERDICT, find_misfit, schema)
 from ..pages import SCHEMA, format_json
 from .bench import Case, example_bytes
 from .judged import judge_files
@@ -42,10 +43,9 @@ STRANGE: list[Any] = [
     {}, [[]], [{}], {"a": 1}, "accepted", "refused", "not judged", "2026-99-99T99:99:99Z"]
 # File contents, and why each is no result.
 TEXTS = {
-    b"[" * 100_000: "it is too deep", b'{"a":' * 100_000: "it is too deep",
-    b'{"verdict": ' + b"9" * 5_000 + b"}": "is not a "
-                                           "number", b'{"verdict": NaN}': "is not a "
-                                                                                   "number",
+    b"[" * 100_000: "it is nested too deeply", b'{"a":' * 100_000: "it is nested too deeply",
+    b'{"verdict": ' + b"9" * 5_000 + b"}": "is not a number",
+    b'{"verdict": NaN}': "is not a number",
     b'{"verdict": -Infinity}': "is not a number", b"": "Expecting value",
     b"\xff": "codec can't decode",
     b"\xef\xbb\xbf{}": "Unexpected UTF-8 BOM", b'{"verdict"': "Expecting"}
@@ -96,9 +96,9 @@ class WrittenResults(Case):
             self.must("schema", known["properties"]["new"] == {
                 "description": row.meaning, "type": "integer", "minimum": 3, "maximum": 3} or
                 known["properties"]["new"]["maximum"] == 3, known["properties"]["new"])
-            self.must("read", misfit(make_result(faults=[FAULT])) == ".faults[0].new" and
-                      misfit(found) is None)
-        self.must("no more", misfit(found) == ".faults[0].new")
+            self.must("read", find_misfit(make_result(faults=[FAULT])) == ".faults[0].new" and
+                      find_misfit(found) is None)
+        self.must("no more", find_misfit(found) == ".faults[0].new")
 
     def judge(self) -> dict[str, Any]:
         """Return the result of a recording with four faults."""
@@ -109,7 +109,7 @@ class WrittenResults(Case):
         for number, fits in ((9, False), (10, True), (UNDECIDED, True), (SILENT, True),
                              (80, False)):
             known = make_result(faults=[{**FAULT, "number": number}])
-            self.must(f"{number}", (misfit(known) is None) == fits != any(
+            self.must(f"{number}", (find_misfit(known) is None) == fits != any(
                 violations(known, read_schema())))
 
     def test_counts_omitted_items_of_each_list(self) -> None:
@@ -142,29 +142,29 @@ class WrittenResults(Case):
             ("refused", 1, {}, True), ("refused", 3, {}, False), ("lost", 1, {}, True)]
         for word, status, request, fits in rows:
             known = make_result(word, status=status, request={**REQUEST, "origin": None, **request})
-            self.must(f"{word} {status} {request}", (misfit(known) is None) == fits and
-                      (not [*all_violations(known)]) == fits, misfit(known))
+            self.must(f"{word} {status} {request}", (find_misfit(known) is None) == fits and
+                      (not [*all_violations(known)]) == fits, find_misfit(known))
 
     def test_cuts_a_text_that_is_too_long(self) -> None:
-        self.must("cut", len(unjudged("x", "y" * 70_000)["reason"]) == 65_536 and
-                  misfit(unjudged("x", "y" * 70_000)) is None)
+        self.must("cut", len(make_unjudged("x", "y" * 70_000)["reason"]) == 65_536 and
+                  find_misfit(make_unjudged("x", "y" * 70_000)) is None)
         found = judge_files(self, self.write("story.stl", example_bytes("story.stl")))
         program = MadeWith("1", "0" * 64, None)
         found.verdict.unjudged = Unjudged("why")
-        known = json.loads("".join(object_of(found.verdict, program)))
-        self.must("not judged", known["verdict"] == "not judged" and misfit(known) is None)
+        known = json.loads("".join(write_result(found.verdict, program)))
+        self.must("not judged", known["verdict"] == "not judged" and find_misfit(known) is None)
 
 
 class UntrustedResults(Case):
     def test_table_and_schema_agree_on_changed_results(self) -> None:
         chance, fitting = random.Random(SEED), 0
-        known = [self.known(), unjudged("one", "why")]
+        known = [self.known(), make_unjudged("one", "why")]
         for number in range(CHANGES):
             made = changed(known[number % 9 == 8], chance)
             wrong = [*violations(made, read_schema())]
             is_pair = isinstance(made, dict) and "pairs" not in made
-            self.must(f"{number}", not is_pair or (misfit(made) is None) == (not wrong),
-                      (wrong, misfit(made)))
+            self.must(f"{number}", not is_pair or (find_misfit(made) is None) == (not wrong),
+                      (wrong, find_misfit(made)))
             if second_validator() and number % 9 == 0:
                 self.must(f"{number}: second reader",
                           second_validator().is_valid(made) == (not wrong), wrong)
@@ -190,7 +190,7 @@ class UntrustedResults(Case):
 
     def all_read(self) -> list[dict[str, Any]]:
         """Return the messages of each mode that reads results, and the names of all pairs."""
-        words, typed = self.words(), CommandWords("tools/qc", self.bench.program)
+        words, typed = self.words(), CommandPaths("tools/qc", self.bench.program)
         with contextlib.redirect_stdout(io.StringIO()), contextlib.redirect_stderr(io.StringIO()):
             status = collection.collect(words)
             rows = collection.FolderRows(self.path("out")).rows
@@ -200,10 +200,10 @@ class UntrustedResults(Case):
         self.must("names", sorted(rows) == names, rows)
         calls = PairRunner(typed, self.folder, self.path("out"), False)
         request = request_for(self.path("story.stl"), self.path("x.pes"))
-        resumed_rows(calls, [Item(name, request, None) for name in names])
+        resumed_rows(calls, [BatchItem(name, request, None) for name in names])
         pairs: list[dict[str, Any]] = json.loads(self.read("x.json"))["pairs"]
         self.must("all pairs", len(pairs) == len(names) and status == 2, (len(pairs), names))
-        self.must("all fit", all(misfit(one) is None for one in pairs))
+        self.must("all fit", all(find_misfit(one) is None for one in pairs))
         return pairs
 
     def test_reads_any_changed_result(self) -> None:
@@ -224,15 +224,15 @@ class UntrustedResults(Case):
         self.words()
         for number, (text, reported) in enumerate(TEXTS.items()):
             path = self.write(f"out/{number}.json", text)
-            found = object_at(path)
+            found = read_result(path)
             self.must(reported, found is not None and found["verdict"] == "not judged" and
                       found["name"] == f"{number}" and reported in found["reason"], found)
         self.write("out/whole.json", json.dumps(make_result("accepted")).encode())
         self.all_read()
         size = os.path.getsize(self.path("out/whole.json"))
         for most, is_read in ((size, True), (size - 1, False)):
-            with mock.patch.object(files, "MOST_READ", most):
-                found = object_at(self.path("out/whole.json"))
+            with mock.patch.object(files, "MOST_RESULT_BYTES", most):
+                found = read_result(self.path("out/whole.json"))
             self.must(f"{most}", found is not None and (found["verdict"] == "accepted") == is_read,
                       found)
         os.mkdir(self.path("empty"))
@@ -240,10 +240,10 @@ class UntrustedResults(Case):
 
     def test_reads_back_the_largest_result(self) -> None:
         known = self.known()
-        self.must("it fits", misfit(known) is None and known["format"] == FORMAT)
+        self.must("it fits", find_misfit(known) is None and known["format"] == FORMAT)
         self.must("all lists", {one.name for one in VERDICT.members
                                 if isinstance(one.shape, Listed)} == {one.name for one in LISTS})
-        self.must("room", files.MOST_READ == 2 * files.MOST_BYTES)
+        self.must("room", files.MOST_RESULT_BYTES == 2 * files.MOST_BYTES)
         text = json.dumps({**FAULT, "cause": {"name": "late", "line": "a, b, c", "subtitle": 1}})
         values = 20_000 * 2 * sum(map(text.count, ",{[")) + 100_000 * 4
         self.must("values of full lists of faults, causes and subtitles",
@@ -260,16 +260,16 @@ class CollectedResults(Case):
                                 ("recording start", files.NO_CLOCK),
                                 ("start recording", files.LATER_CLOCK)):
             parts = [{"clock": {"source": source}} for source in sources.split()]
-            self.check(sources, files.clock_in({"parts": [*parts, {"clock": None}]}), wanted)
+            self.check(sources, files.describe_clock({"parts": [*parts, {"clock": None}]}), wanted)
 
     def test_prints_columns_as_wide_as_their_widest_cell(self) -> None:
-        self.must("table", list(collection.summary_table(self.ROWS)) == [
+        self.must("table", list(collection.format_summary(self.ROWS)) == [
             "pair    verdict     faults  worst fault", "one     accepted         0",
             "second  refused         12  72 Content frame 1: a hint",
             "c       not judged          why", "d       waived           3  waived: refused 5 X",
             "4 pairs: 1 accepted, 1 refused, 1 not judged, 1 waived"],
-                  list(collection.summary_table(self.ROWS)))
-        self.must("one", list(collection.summary_table(self.ROWS[:1]))[-1] == "1 pair: 1 accepted")
+                  list(collection.format_summary(self.ROWS)))
+        self.must("one", list(collection.format_summary(self.ROWS[:1]))[-1] == "1 pair: 1 accepted")
 
     def end(self, **outputs: str) -> tuple[int, str, str]:
         """Return status, output and error output for all rows."""
@@ -277,7 +277,7 @@ class CollectedResults(Case):
         vars(words).update(outputs)
         paths = [self.path(f"{one.name}.json") for one in self.ROWS]
         for one, path in zip(self.ROWS, paths):
-            have = unjudged("c", "why\nmore") if one.name == "c" else \
+            have = make_unjudged("c", "why\nmore") if one.name == "c" else \
                 make_result(one.verdict, line=one.line)
             self.write(os.path.basename(path), json.dumps(have).encode())
         out, errors = io.StringIO(), io.StringIO()
@@ -286,10 +286,10 @@ class CollectedResults(Case):
         return status, out.getvalue(), errors.getvalue()
 
     def test_prints_the_table_unless_a_file_uses_standard_output(self) -> None:
-        table = "".join(f"{line}\n" for line in collection.summary_table(self.ROWS))
+        table = "".join(f"{line}\n" for line in collection.format_summary(self.ROWS))
         self.must("none", self.end() == (2, table, ""), self.end())
         for name in ("csv", "junit", "json"):
-            with mock.patch.object(collection, "put_file"):
+            with mock.patch.object(collection, "write_file"):
                 self.must(f"{name} to -", self.end(**{name: "-"}) == (2, "", table))
         status, out, reported = self.end(csv=self.path("no/x"), junit=self.path("no/y"))
         self.must("failed", status == 2 and
@@ -337,7 +337,8 @@ class CollectedResults(Case):
         self.write("in/one.json", json.dumps(make_result("accepted")).encode())
         status, out, errors = collect()
         self.must("accepted", status == 0 and "1 pair: 1 accepted" in out and
-                  errors.count(".json is not a JSON result of a pair and is skipped") == 2, errors)
+                  errors.count(".json is not the JSON result of a pair and is skipped") == 2,
+                  errors)
         with self.assertRaises(Stop):
             collection.refuse_output_names(argparse.Namespace(
                 json=None, csv=self.path("in"), junit=None))

@@ -5,7 +5,7 @@ import random
 from typing import NamedTuple, Sequence
 
 from subtitles.formats.layout import (
-    Layout, PLAIN, Refused, drawn, layout_of, layout_text, page_rows)
+    Layout, PLAIN, TextFault, draw_text, parse_layout, format_layout, make_page_rows)
 from subtitles.formats.teletext import ENGLISH
 from subtitles.stream.layout import (
     Evidence, ItemEvidence, LayoutChoice, MOST_ITEMS, SentSubtitle, add_items, choose_layouts,
@@ -85,16 +85,16 @@ TAKEN = [
 
 def meant(text: str) -> Layout:
     """Parse a layout."""
-    found = layout_of(text) if text else PLAIN
+    found = parse_layout(text) if text else PLAIN
     assert found is not None, text
     return found
 
 
 def rows_of(text: bytes, justify: int, layout: Layout, row: int = 18) -> tuple[bytes, ...]:
     """Return the page that a layout draws."""
-    lines = drawn(text, row, justify, layout, ENGLISH)
-    assert not isinstance(lines, Refused), text
-    return page_rows(lines)
+    lines = draw_text(text, row, justify, layout, ENGLISH)
+    assert not isinstance(lines, TextFault), text
+    return make_page_rows(lines)
 
 
 def sent_of(several: Sequence[SentText], layout: Layout = PLAIN) -> list[SentSubtitle]:
@@ -118,8 +118,8 @@ class ItemDecisions(Case):
     def test_reads_and_writes_layout_items(self) -> None:
         for text, items in ITEMS:
             layout = meant(text)
-            reported = [(layout_text(add_items(PLAIN, [item], layout)),
-                         layout_text(remove_items(layout, [item])))
+            reported = [(format_layout(add_items(PLAIN, [item], layout)),
+                         format_layout(remove_items(layout, [item])))
                         for item in list_items(layout)]
             self.must(text, reported == items, reported)
             self.must(f"{text}, all", remove_items(layout, list_items(layout)) == PLAIN
@@ -128,7 +128,7 @@ class ItemDecisions(Case):
     def test_knows_which_items_hide_something(self) -> None:
         for text, missing in TAKEN:
             layout = meant(text)
-            reported = layout_text(add_items(PLAIN, find_questionable_items(layout), layout))
+            reported = format_layout(add_items(PLAIN, find_questionable_items(layout), layout))
             self.must(text, reported == missing, reported)
 
     def test_takes_an_item_that_nine_in_ten_subtitles_draw(self) -> None:
@@ -151,7 +151,7 @@ class ProposedItems(Case):
             several = [row.one] * row.times + plain(100 - row.times)
             closest, choice = choose_layouts(sent_of(several), ENGLISH)
             left = [(one.text, one.more) for one in choice.left]
-            self.must(row.name, layout_text(choice.layout) == row.taken and choice.total == 100
+            self.must(row.name, format_layout(choice.layout) == row.taken and choice.total == 100
                       and choice.as_sent == 100 - (row.times if row.left else 0)
                       and left == ([(row.left, row.more)] if row.left else [])
                       and closest.as_sent == 100, (closest, choice))
@@ -166,7 +166,7 @@ class ProposedItems(Case):
         for count, taken in ((1, ""), (9, ""), (10, "right=2")):
             right = [moved(one, 2) for one in sent_of([SentText(b"Hi", b"Hi", 3)] * count)]
             choice = choose_layouts([*sent_of(plain(100 - count)), *right], ENGLISH)[1]
-            self.must(f"{count}", layout_text(choice.layout) == taken and choice.as_sent == 100 - (
+            self.must(f"{count}", format_layout(choice.layout) == taken and choice.as_sent == 100 - (
                 count if not taken else 0), choice)
 
     def test_puts_codes_before_a_lines_own_colour(self) -> None:
@@ -177,7 +177,7 @@ class ProposedItems(Case):
             closest, choice = choose_layouts(sent, ENGLISH)
             left = [(one.text, one.more) for one in choice.left]
             self.must(f"{count}", closest.as_sent == 100 and choice.as_sent == drawn_so and
-                      layout_text(choice.layout) == text and choice.is_clear == bool(text) and
+                      format_layout(choice.layout) == text and choice.is_clear == bool(text) and
                       left == [("before=*070B0B", 100 - drawn_so)], choice)
 
     def test_needs_nine_in_ten_of_the_affected_subtitles(self) -> None:
@@ -188,7 +188,7 @@ class ProposedItems(Case):
             found = Evidence(sent, ENGLISH)
             layout, missing = found.remove_unsupported(Layout(double=True))
             self.must(f"{otherwise}",
-                      layout_text(layout) == taken and bool(missing) == (not taken) and
+                      format_layout(layout) == taken and bool(missing) == (not taken) and
                       found.item_evidence(Layout(double=True), [("double", 0)]) ==
                       ItemEvidence("double", 10 + otherwise, 10), (layout, missing))
 
@@ -236,8 +236,8 @@ class ProposedItems(Case):
         house = Layout(text=True, after=b"\x0a")
         sent = [*sent_of([*plain(99), COLOUR], house)]
         choice = choose_layouts(sent, ENGLISH)[1]
-        self.must("seen", layout_text(choice.layout) == "after=0A,text" or
-                  layout_text(choice.layout) == "after=0A", choice)
+        self.must("seen", format_layout(choice.layout) == "after=0A,text" or
+                  format_layout(choice.layout) == "after=0A", choice)
         self.must("left", [one.text for one in choice.left] == ["strip=03"], choice)
         several = [SentText(b"\x0dHi", b"Hi")] * 20 + plain(80)
         found = Evidence(sent_of(several, Layout(before=b"\x0d\x0b\x0b")), ENGLISH)

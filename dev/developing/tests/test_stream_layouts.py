@@ -8,9 +8,9 @@ from typing import Iterable
 from developing.pes import decode_address
 from developing.stl import make_gsi_block, make_subtitle_blocks
 from subtitles.formats.layout import (
-    Layout, PLAIN, Refused, drawn, layout_of, layout_text, letters_of_text, letters_on, page_rows,
-    simplicity)
-from subtitles.formats.listing import fault_of_line
+    Layout, PLAIN, TextFault, draw_text, parse_layout, format_layout, find_text_letters,
+    find_page_letters, make_page_rows, complexity_key)
+from subtitles.formats.listing import parse_fault_line
 from subtitles.formats.teletext import BY_WORD, ENGLISH, Page
 from subtitles.stream.layout import (
     LayoutChoice, SentSubtitle, choose_layouts, count_misdrawn, is_found)
@@ -79,8 +79,8 @@ def text_bytes(printed: str) -> bytes:
 
 def drawing_of(text: bytes, row: int, justify: int, layout: Layout) -> str:
     """Return what is drawn, in the format of the table."""
-    found = drawn(text, row, justify, layout, ENGLISH)
-    if isinstance(found, Refused):
+    found = draw_text(text, row, justify, layout, ENGLISH)
+    if isinstance(found, TextFault):
         return f"{found.number} at {found.at}"
     return " ".join(f"{one.row} {one.column} {one.cells[:-2].hex().upper()} "
                     f"{one.cells[-2:].hex().upper()}" for one in found)
@@ -101,49 +101,49 @@ def programme(some: random.Random, has_codes: bool, leaves_room: bool, layout: L
         between = b"\x8a\x8a" if leaves_room else b"\x8a"
         text = between.join(line(some, has_codes) for _ in range(some.choice([1, 2, 2])))
         row, justify = some.choice([16, 18, 20]), some.choice([2, 2, 2, 1, 3, 0])
-        lines = drawn(text, row, justify, layout, ENGLISH)
-        if not isinstance(lines, Refused):
-            sent.append(SentSubtitle(text, row, justify, page_rows(lines)))
+        lines = draw_text(text, row, justify, layout, ENGLISH)
+        if not isinstance(lines, TextFault):
+            sent.append(SentSubtitle(text, row, justify, make_page_rows(lines)))
     return sent
 
 
 class Layouts(Case):
     def test_each_text_means_one_layout(self) -> None:
         for text in NONE:
-            self.must(f"none: {text!r}", layout_of(text) is None, layout_of(text))
+            self.must(f"none: {text!r}", parse_layout(text) is None, parse_layout(text))
         for text, simple in MEANS:
-            found = layout_of(text)
-            self.must(text, found and layout_text(found) == simple, found)
-            self.must(f"{text}, read again", (layout_of(simple) if simple else PLAIN) == found)
+            found = parse_layout(text)
+            self.must(text, found and format_layout(found) == simple, found)
+            self.must(f"{text}, read again", (parse_layout(simple) if simple else PLAIN) == found)
         order = ["", "up", "fit", "text", "last", "after=", "row=-1", "before=0D070B0B", "fit,up"]
-        self.must("the simplest first", sorted(order[::-1], key=lambda text: simplicity(
-            layout_of(text) or PLAIN)) == ["", "up", "fit", "last", "text", *order[5:]])
+        self.must("the simplest first", sorted(order[::-1], key=lambda text: complexity_key(
+            parse_layout(text) or PLAIN)) == ["", "up", "fit", "last", "text", *order[5:]])
 
     def test_draws_each_line(self) -> None:
         for printed, row, justify, text, want in DRAWN:
-            layout = layout_of(text) if text else PLAIN
+            layout = parse_layout(text) if text else PLAIN
             assert layout is not None, text
             found = drawing_of(text_bytes(printed), row, justify, layout)
             self.must(f"{printed} {text}", found == want, (found, want))
-        pair = drawn(b"a\x0a\xc8a", 5, 2, Layout(strip=b"\x0a"), GERMAN)
-        self.must("letters", [letters_of_text(text, ENGLISH) for text in (
+        pair = draw_text(b"a\x0a\xc8a", 5, 2, Layout(strip=b"\x0a"), GERMAN)
+        self.must("letters", [find_text_letters(text, ENGLISH) for text in (
             b"a\xe6b", b" \x03 ", b"a\x8a\x03b")] == [None, b"", b"ab"])
-        self.must("a pair", not isinstance(pair, Refused)
+        self.must("a pair", not isinstance(pair, TextFault)
                   and pair[0].cells == b"\x0b\x0ba{\x0a\x0a", pair)
-        parted = drawn(b"\xc8\x0aa", 5, 2, Layout(strip=b"\x0a"), GERMAN)
-        self.must("a pair that is parted", parted == Refused(50, 0), parted)
+        parted = draw_text(b"\xc8\x0aa", 5, 2, Layout(strip=b"\x0a"), GERMAN)
+        self.must("a pair that is parted", parted == TextFault(50, 0), parted)
 
 
 class LayoutSearch(Case):
     def test_finds_each_layout(self) -> None:
         some = random.Random(7)
         for has_codes, leaves_room, text in HOUSES:
-            layout = layout_of(text) if text else PLAIN
+            layout = parse_layout(text) if text else PLAIN
             assert layout is not None, text
             sent = programme(some, has_codes, leaves_room, layout)
             found = choose_layouts(sent, ENGLISH)[1]
             self.must(text, found.as_sent == found.total == len(sent) and found.is_clear
-                      and simplicity(found.layout) <= simplicity(layout), found)
+                      and complexity_key(found.layout) <= complexity_key(layout), found)
 
     def test_a_wrong_page_shows_no_layout(self) -> None:
         some = random.Random(8)
@@ -157,7 +157,7 @@ class LayoutSearch(Case):
                   and found.total == sum(is_found(one, ENGLISH) for one in sent), found)
 
     def test_finds_columns_although_one_subtitle_differs(self) -> None:
-        house, other = layout_of("left=3,text"), layout_of("left=3,text,after=0A")
+        house, other = parse_layout("left=3,text"), parse_layout("left=3,text,after=0A")
         assert house is not None and other is not None
         sent, otherwise = (programme(random.Random(10), False, False, one)
                            for one in (house, other))
@@ -195,19 +195,20 @@ class StoredRows(Case):
 
     def test_tools_draw_what_the_program_sends(self) -> None:
         for text, row, justify, words, want in self.rows():
-            layout = layout_of(words) if words != "-" else PLAIN
+            layout = parse_layout(words) if words != "-" else PLAIN
             if layout is None:
                 self.must(words, want == "usage 89 Layout", want)
                 continue
-            lines = drawn(bytes.fromhex(text), int(row), int(justify), layout, ENGLISH)
-            fault = fault_of_line(want)
-            found: object = lines if isinstance(lines, Refused) else format_rows(
-                enumerate(page_rows(lines), 1))
+            lines = draw_text(bytes.fromhex(text), int(row), int(justify), layout, ENGLISH)
+            fault = parse_fault_line(want)
+            found: object = lines if isinstance(lines, TextFault) else format_rows(
+                enumerate(make_page_rows(lines), 1))
             self.must(f"{text} {row} {justify} {words}", found == (
-                Refused(fault.number, fault.at or 0) if fault else want), (found, want))
-            letters = letters_of_text(bytes.fromhex(text), ENGLISH)
-            if not isinstance(lines, Refused):
-                self.must(f"letters of {text}", letters == letters_on(page_rows(lines)), letters)
+                TextFault(fault.number, fault.at or 0) if fault else want), (found, want))
+            letters = find_text_letters(bytes.fromhex(text), ENGLISH)
+            if not isinstance(lines, TextFault):
+                self.must(f"letters of {text}", letters == find_page_letters(make_page_rows(lines)),
+                          letters)
 
     def test_the_program_sends_and_accepts_each_row(self) -> None:
         for number, (text, row, justify, layout, want) in enumerate(self.rows()):

@@ -145,7 +145,7 @@ class DepartureFaults(Case):
         faults, notes = find_desync(survey_with(lines_of(steps, origin)), PID, TimedPart(
             1000, 2000, Clock(origin, source)), within, 1)
         self.check("kinds", {(one.name, one.part) for one in faults} - {(PICTURES_LEFT, 1)}, set())
-        return [(one.time, one.until, one.words.partition(" on subtitles are ")[2].partition(
+        return [(one.time, one.until, one.text.partition(" on subtitles are ")[2].partition(
             " for viewers")[0]) for one in faults], notes
 
     def test_reports_departures_as_early_or_late(self) -> None:

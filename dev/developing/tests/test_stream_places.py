@@ -13,9 +13,9 @@ from subtitles.cli.main import make_parser
 from subtitles.common.command_line import Stop
 from subtitles.common.program import MadeWith
 from subtitles.common.times import CLOCK, TICKS
-from subtitles.request.lines import pairs_at
-from subtitles.request.request import request_of
-from subtitles.results.files import found, is_current
+from subtitles.request.lines import read_pairs
+from subtitles.request.request import make_request
+from subtitles.results.files import describe_inputs, is_current
 from subtitles.results.schema import PROGRAM, REQUEST
 from subtitles.stream.gaps import (
     ClockJump, LossPlace, MOST_LATE, SECOND, describe_loss, find_clock_jumps, find_loss_places,
@@ -218,8 +218,9 @@ class PaceOptions(Case):
         for word, pace in (("none", None), ("1", 1), ("0025", 25), ("2160000", 2160000)):
             request = request_for("one.stl", "one.ts", "--pace", word)
             given = ["--pace", str(pace)] if pace else []
-            self.must(word, request.check_words() == ["--complete", *given] and request.pace == pace
-                      and request_of(self.options(*call_arguments(request))) == request)
+            self.must(word, request.check_arguments() == ["--complete", *given] and request.pace ==
+                      pace
+                      and make_request(self.options(*call_arguments(request))) == request)
             self.must(f"{word}: result", REQUEST.made(request)["pace"] == str(pace or "none"))
         self.must("left out", REQUEST.made(request_for("one.stl", "one.ts"))["pace"] is None)
         for word in ("0", "", "-1", "x", "None", "2160001", "9" * 5000, "1.5", "\u0661"):
@@ -228,10 +229,11 @@ class PaceOptions(Case):
 
     def test_takes_the_pace_of_a_line_of_a_list(self) -> None:
         line = f"{self.path('one.stl')} {self.path('one.ts')}"
-        items = pairs_at(self.write("list", f"{line}\n{line} --pace 9\n{line} --pace none\n"
+        items = read_pairs(self.write("list", f"{line}\n{line} --pace 9\n{line} --pace none\n"
                                             f"{line} --pace 0\n".encode()),
                          self.options("--batch", "list", "--pace", "7"))
-        self.must("lines", [item.asked and item.asked.pace for item in items] == [7, 9, None, None]
+        self.must("lines", [item.request and item.request.pace for item in items] ==
+                  [7, 9, None, None]
                   and str(items[3].reason).endswith(
                       "line 4: argument --pace: 0 is not a PES interval: give 1 to 2160000 frames"),
                   items)
@@ -242,7 +244,7 @@ class PaceOptions(Case):
                  for words in ((), ("--pace", "none"), ("--pace", "16"))]
         for one in request:
             words = REQUEST.made(one)
-            known = {"request": words, "files_at_start": found(one),
+            known = {"request": words, "files_at_start": describe_inputs(one),
                      "program": PROGRAM.made(program)}
             self.must(f"{one.pace}", [is_current(known, other, program) for other in request] ==
                       [other == one for other in request])

@@ -5,7 +5,7 @@ import os
 
 from developing.stl import make_gsi_block, make_subtitle_blocks, make_tti_block
 from subtitles.common.times import Between, FRAMES_OF_A_DAY, TICKS, time_of
-from subtitles.formats.stl import Subtitle, SubtitleFile, subtitles_read
+from subtitles.formats.stl import Subtitle, SubtitleFile, decode_subtitles
 from subtitles.judging.pair import find_adjoining_end, find_nearest_pauses
 from subtitles.judging.subtitles import HOUR, advise_on_title
 from subtitles.judging.transmissions import read_subtitles
@@ -139,9 +139,9 @@ class SkippedSubtitles(Case):
                 (Between(26, 100), [75], [3, 7]), (Between(75, 101), [75, 100], [3, 4, 7]),
                 (Between(101, 100), [], [7])):
             file = SubtitleFile(path, between)
-            self.must(f"{between}", ([*file.begins], [*file.lasts()]) == (begins, lasts),
-                      (file.begins, [*file.lasts()]))
-            at = [file.at_block(block) for block in range(1, 8)]
+            self.must(f"{between}", ([*file.begins], [*file.list_last_blocks()]) == (begins, lasts),
+                      (file.begins, [*file.list_last_blocks()]))
+            at = [file.find_by_block(block) for block in range(1, 8)]
             self.must(f"{between}: places", [one and one.position for one in at] == [
                 1, 2, 2, 3, 3, 4, 5], at)
 
@@ -149,13 +149,14 @@ class SkippedSubtitles(Case):
         path = write_programme(self, [(9, 20), (20, 30), (40, 50)], 2)
         with open(path, "rb") as file:
             self.must("read",
-                      subtitles_read(file.read()) == read_subtitles(self.bench.program, path))
+                      decode_subtitles(file.read()) == read_subtitles(self.bench.program, path))
         data = b"".join(make_subtitle_blocks(at, 50 * at, 50 * at + 9, 20 + at, at % 4, text)
                         for at, text in enumerate((b"one", b"", b"x" * 38 + b"\x8a" + b"y" * 80,
                                                    b"\x8f".join([b"z"] * 60))))
         path = self.write("long.stl", make_gsi_block(b"", 6, 4) + data)
         shown = read_subtitles(self.bench.program, path)
-        self.must("long texts", len(shown) == 4 and subtitles_read(self.read(path)) == shown, shown)
+        self.must("long texts", len(shown) == 4 and decode_subtitles(self.read(path)) == shown,
+                  shown)
 
     def test_passes_from_and_to_to_check(self) -> None:
         for between, words in ((Between(), ""), (Between(25), "--from 00:00:01:00"),

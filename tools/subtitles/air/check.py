@@ -18,9 +18,9 @@ from ..common.times import FRAMES_A_SECOND, TICKS, pts_of, ticks_between
 from ..judging.part import Part
 from ..judging.status import ACCEPTED, NOT_JUDGED, REFUSED, RELATIVE, WAIVED
 from ..judging.verdict import Verdict
-from ..request.commands import CommandWords
+from ..request.commands import CommandPaths
 from ..request.request import Request, Unclear
-from ..results.files import ENDING, left_by_call
+from ..results.files import ENDING, read_call_result
 from ..stream.survey import survey
 from .schedule import RECORDING
 from .segments import Unbroken
@@ -155,7 +155,7 @@ class Checker:
                     os.unlink(os.path.join(self.work, file))
         if status == FAILED or status < 0:
             return Outcome(None, lines[-1] if lines else "the process that judged it was killed")
-        result = left_by_call(os.path.join(self.work, name + ENDING), name,
+        result = read_call_result(os.path.join(self.work, name + ENDING), name,
                               1 if status == UNFINISHED else status, lines)
         return Outcome(result, result["reason"] or result["worst_fault"], status != UNFINISHED)
 
@@ -167,7 +167,7 @@ class Checker:
             head = os.path.join(self.work, HEAD)
             with open(head, "wb") as file:
                 file.writelines(stretch.read(first, time))
-            program = CommandWords(self.program_name, self.program).program_path
+            program = CommandPaths(self.program_name, self.program).program_path
             found = survey(program, head, request.page)
             return {pid: packets.count for pid, packets in found.by_pid.items()}
 
@@ -184,11 +184,11 @@ class Checker:
             return FAILED
 
 
-def run_forked(does: Callable[[], int], longest: float) -> tuple[int, list[str]]:
+def run_forked(function: Callable[[], int], longest: float) -> tuple[int, list[str]]:
     """Run a function in a process of its own; return its exit status and its lines on standard
     error. `Stop` if it takes longer than so many seconds. Nothing of it goes on afterwards."""
     with hold_signals():
-        process = ForkedProcess(does)
+        process = ForkedProcess(function)
     try:
         if not wait_for_any([process], longest):
             raise Stop(f"it was not judged within {longest:.0f} seconds")

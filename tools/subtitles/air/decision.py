@@ -5,7 +5,7 @@ from __future__ import annotations
 from typing import NamedTuple, Sequence
 
 from ..cli.single import now as date
-from ..results.files import unjudged
+from ..results.files import make_unjudged
 from .check import Outcome
 from .segments import Unbroken
 
@@ -61,7 +61,7 @@ def decide(name: str, outcomes: Sequence[Outcome], gaps: Sequence[str], has_pass
     rest = f"; of the rest: {outcomes[0].reason}" if outcomes else ""
     before = f"; before that: {failure}" if failure else ""
     reason = f"not recorded: {shown}{more}{rest}{before}"
-    return Outcome(unjudged(name, reason), reason)
+    return Outcome(make_unjudged(name, reason), reason)
 
 
 def seconds_to_next_try(window: Window, now: float) -> float:

@@ -13,8 +13,8 @@ import time
 from ..cli.single import handle_signals, hold_lock, now as date
 from ..common.command_line import Stop, error_line, say
 from ..common.files import BEGIN, result_file
-from ..request.commands import CommandWords
-from ..results.files import ENDING, object_text, unjudged
+from ..request.commands import CommandPaths
+from ..results.files import ENDING, result_bytes, make_unjudged
 from .check import Checker, Outcome
 from .decision import SOON, Window, decide, gaps_in, seconds_to_next_try
 from .schedule import Programme, Schedule, length_of, read_schedule
@@ -38,7 +38,7 @@ class Judge:
 
     def __init__(self, args: argparse.Namespace, program_name: str) -> None:
         self.args, self.segments, self.out = args, args.segments, args.out
-        self.program = CommandWords(program_name, args.program).program_path
+        self.program = CommandPaths(program_name, args.program).program_path
         self.checker = Checker(args.program, program_name, args.work or args.out, args.out,
                                args.margin, args.is_kept)
         self.tries: dict[str, Tries] = {}
@@ -117,7 +117,7 @@ class Judge:
         if not os.path.exists(programme.request.stl):
             reason = f"{programme.request.stl} does not exist"
             is_over = has_passed and not segments
-            return Outcome(unjudged(name, reason) if is_over else None, reason)
+            return Outcome(make_unjudged(name, reason) if is_over else None, reason)
         stretches, outcomes = [*stretches_in(segments, self.args.pause)], list[Outcome]()
         for stretch in filter(window.may_hold, stretches):
             outcomes.append(self.checker.check(programme.request, name, window.begin, stretch))
@@ -149,7 +149,7 @@ class Judge:
                     with open(os.path.join(work, file), "rb") as source:
                         shutil.copyfileobj(source, target)
                 else:
-                    target.write(object_text(outcome.result))
+                    target.write(result_bytes(outcome.result))
         self.checker.clear()
         self.tries.pop(name, None)
         self.monitor.last_result = f"{name}: {outcome.reason}"

@@ -3,7 +3,7 @@ from __future__ import annotations
 
 import os
 
-from ..cli.main import number_reader, read_seconds
+from ..cli.main import make_number_parser, read_seconds
 from ..common.command_line import Stop, Words, add_program
 from ..common.files import plain_name
 from ..common.program import TOP
@@ -12,8 +12,8 @@ from ..request.request import add_options
 from .judge import judge_schedule
 from .recorder import Limits, record
 
-hours_word = number_reader("hours", 1, 99_999)
-megabytes_word = number_reader("megabytes", 0, 999_999_999)
+hours_word = make_number_parser("hours", 1, 99_999)
+megabytes_word = make_number_parser("megabytes", 0, 999_999_999)
 
 
 def record_parser() -> Words:

@@ -12,9 +12,9 @@ from typing import NamedTuple, Sequence
 from ..common.command_line import Stop, error_line
 from ..common.files import Damaged
 from ..common.times import Between, FRAMES_A_SECOND, FRAMES_OF_A_DAY
-from ..formats.stl import stl_bytes, subtitle_times, subtitles_in
+from ..formats.stl import read_stl, subtitle_times, read_stored_subtitles
 from ..request.commands import pair_name
-from ..request.lines import Line, lines_in, list_at, request_of_line
+from ..request.lines import Line, split_lines, read_list, make_line_request
 from ..request.request import Request
 
 TIME = re.compile(r"\d{4}-\d\d-\d\dT\d\d:\d\d:\d\d(\.\d{1,6})?(Z|[+-]\d\d:\d\d)", re.ASCII)
@@ -70,7 +70,7 @@ def result_name(begin: float, stl: str) -> str:
 def read_schedule(path: str, options: argparse.Namespace, known: Schedule = Schedule()) -> Schedule:
     """Read the schedule in a file. A line counts once its line feed is there: the rest may still be
     being written. `known` is returned if nothing has changed since then."""
-    text = list_at(path)
+    text = read_list(path)
     text = text[:text.rfind("\n") + 1]
     return known if text == known.text else parse_schedule(text, os.path.dirname(path), options)
 
@@ -79,7 +79,7 @@ def parse_schedule(text: str, folder: str, options: argparse.Namespace) -> Sched
     """Return the schedule in a text; the names of its files are relative to a folder."""
     programmes, faults = dict[str, Programme](), list[str]()
     lines = dict[str, int]()
-    for line in lines_in(text):
+    for line in split_lines(text):
         try:
             programme = parse_line(line, folder, options)
         except (Stop, OSError, ValueError) as reason:
@@ -97,11 +97,11 @@ def parse_line(line: Line, folder: str, options: argparse.Namespace) -> Programm
     """Return the programme of a line: a time of air, a subtitle file, and options."""
     if line.fault:
         raise Stop(line.fault)
-    begin, end = times_of_air(line.words[0])
-    if len(line.words) < 2:
+    begin, end = times_of_air(line.arguments[0])
+    if len(line.arguments) < 2:
         raise Stop("it has no subtitle file: write the time of air, then the subtitle file")
-    stl = os.path.join(folder, line.words[1])
-    request = request_of_line([stl, RECORDING, *line.words[2:]], options, folder)
+    stl = os.path.join(folder, line.arguments[1])
+    request = make_line_request([stl, RECORDING, *line.arguments[2:]], options, folder)
     if request.start or request.pes:
         raise Stop("--start and --pes depend on where the programme is in the segments, which is "
                    "not known: remove them")
@@ -120,7 +120,7 @@ def length_in(path: str, _modified: int, _size: int, between: Between) -> float:
     """Return the length of a subtitle file as it is now."""
     times = list[tuple[int, int]]()
     with contextlib.suppress(Damaged, Stop):
-        for subtitle in subtitles_in(stl_bytes(path)):
+        for subtitle in read_stored_subtitles(read_stl(path)):
             begin, end = subtitle_times(subtitle)
             if begin is not None and end is not None and between.has(begin):
                 times.append((begin, end))

@@ -1,8 +1,8 @@
-"""What a call of `qc` does: a pair, many pairs, a folder.
+"""The commands of qc: judging a pair, many pairs, or a folder.
 
-single         one pair: judged, said and written, in a folder that belongs to one call
-collection     one table, one page, and the files for machines, of many results
-main           the words of the command line, and which option goes with what
-measure        a profile of recordings that are right: --measure
-batch          many pairs: of a folder, a list, or a folder that is watched
+single         judging one pair: printing the verdict, and writing its files
+collection     tables, pages and files about many results
+main           the command line, and the options of each mode
+measure        --measure: a profile of correct recordings
+batch          judging the pairs of a folder, a list, or a watched folder
 """

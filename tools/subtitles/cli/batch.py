@@ -1,4 +1,4 @@
-"""Many pairs: of a folder, a list, or a folder that is watched, each in a process of its own."""
+"""Judge the pairs of a folder, a list, or a watched folder, each in its own process."""
 from __future__ import annotations
 
 import argparse
@@ -19,21 +19,21 @@ from ..common.files import IsInput, NOTHING, temporary_folder
 from ..common.program import MadeWith, TOP, about_program
 from ..judging.status import NOT_JUDGED
 from ..report import page
-from ..request.commands import CommandWords, PartFiles, Progress
-from ..request.lines import Item, at_line, inputs_of, no_file, of_folder, pairs_at
+from ..request.commands import CommandPaths, PartFiles, Progress
+from ..request.lines import (
+    BatchItem, collect_inputs, find_folder_pairs, find_path_problem, read_line_pair, read_pairs)
 from ..request.request import Request
 from ..results.files import (
-    ENDING, Row, found, is_current, left_by_call, object_at, put_object, row_of_object, unjudged)
+    ENDING, Row, describe_inputs, is_current, read_call_result, read_result, write_result_file,
+    make_row, make_unjudged)
 from .main import write_unjudged
 from .single import (
     FilesInUse, PairOptions, SIGNALS, claim_folder, claim_pair, handle_signals, ignore_signals,
     judge_and_report, refuse_folder_files, refuse_pair_files, remove_results)
 
 
-# Each pair is judged in a process forked from one that has loaded all modules and has no threads.
-#
-# Starting Python and loading the modules takes ten times as long as judging a small pair. A process
-# that dies or hangs costs only its own pair.
+# Each pair is judged in a forked process, since loading the modules takes ten times as long as
+# judging a small pair. If a process crashes or hangs, only its own pair is not judged.
 
 PRELOADED = page  # loaded before the forks: each process may draw a report
 INPUT, OUTPUT, ERRORS = range(3)
@@ -41,12 +41,13 @@ FILES = "/proc/self/fd"  # the open files of this process
 
 
 def judge_forked_pair(request: Request, call: PairOptions) -> int:
-    """Judge a pair in a process of its own, and return its status. If that ends early, write the
-    reason to its JSON result. A pipe that has replaced a file is refused: reading could wait
-    forever."""
+    """Judge a pair in a forked process and return the exit status. On an error, write the reason
+    to the JSON result. A file that was replaced by a pipe is refused: reading it might never end.
+    """
     def judge(_: Sequence[str]) -> int:
         try:
-            if reason := no_file(request.stl) or no_file(request.recording or ""):
+            if reason := find_path_problem(request.stl) or \
+                    find_path_problem(request.recording or ""):
                 raise Stop(reason)
             return judge_and_report(request, call, os.path.join(TOP, "tools", "qc")).status
         except (Exception, KeyboardInterrupt) as reason:
@@ -58,12 +59,12 @@ def judge_forked_pair(request: Request, call: PairOptions) -> int:
 
 
 class ForkedProcess:
-    """A process that does something, and ends with the status of that. Nothing is read and printed
-    there; its lines on standard error are known once it has ended."""
+    """A forked process that calls a function and exits with its status. It has no standard input
+    and output; its lines on standard error can be read when it has ended."""
 
-    def __init__(self, does: Callable[[], int]) -> None:
+    def __init__(self, function: Callable[[], int]) -> None:
         # A file in memory, since the disk may be full.
-        self.errors = open(os.memfd_create("told"), "w+b", buffering=0)
+        self.errors = open(os.memfd_create("errors"), "w+b", buffering=0)
         # The process keeps it open until it ends; its children do not inherit it.
         self.alive_pipe, alive = os.pipe()
         with hold_signals():
@@ -75,11 +76,11 @@ class ForkedProcess:
                 os.close(alive)
                 raise Stop(f"a process could not be started: {error.strerror}") from None
             if not self.pid:
-                run_and_exit(does, self.errors.fileno(), alive)
+                run_and_exit(function, self.errors.fileno(), alive)
             os.close(alive)
 
     def fileno(self) -> int:
-        """Return the pipe that ends when the process ends, for `select`."""
+        """Return the pipe that is closed when the process ends, for `select`."""
         return self.alive_pipe
 
     def stop(self) -> None:
@@ -112,11 +113,11 @@ class ForkedProcess:
 
 
 def cpu_seconds_of(process: str) -> float:
-    """Return the CPU time in seconds of a process and of its children that have ended; 0 if it is
-    gone."""
+    """Return the CPU time in seconds of a process and of its children that have ended; 0 if the
+    process does not exist."""
     try:
         with open(f"/proc/{process}/stat", encoding="utf-8", errors="replace") as file:
-            times = file.read().rpartition(")")[2].split()[11:15]  # behind its name, in brackets
+            times = file.read().rpartition(")")[2].split()[11:15]  # after its name in brackets
     except OSError:
         return 0.0
     return sum(map(int, times)) / os.sysconf("SC_CLK_TCK")
@@ -124,7 +125,7 @@ def cpu_seconds_of(process: str) -> float:
 
 @contextlib.contextmanager
 def hold_signals() -> Iterator[None]:
-    """Delay signals that end this call until the block is complete."""
+    """Block the signals that end this call until the `with` block is complete."""
     before = signal.pthread_sigmask(signal.SIG_BLOCK, SIGNALS)
     try:
         yield
@@ -132,7 +133,7 @@ def hold_signals() -> Iterator[None]:
         signal.pthread_sigmask(signal.SIG_SETMASK, before)
 
 
-def run_and_exit(does: Callable[[], int], told: int, alive: int) -> NoReturn:
+def run_and_exit(function: Callable[[], int], errors_file: int, alive: int) -> NoReturn:
     """Make this forked process independent, run the function and exit, without the parent's
     cleanup."""
     status = 2
@@ -140,22 +141,23 @@ def run_and_exit(does: Callable[[], int], told: int, alive: int) -> NoReturn:
         try:
             gc.freeze()  # the collector leaves the parent's objects, so their pages stay shared
             os.setsid()
-            redirect_files(told, alive)
+            redirect_files(errors_file, alive)
             handle_signals()
             signal.pthread_sigmask(signal.SIG_UNBLOCK, SIGNALS)
-            status = does()
+            status = function()
         finally:
             os._exit(status)
     finally:
-        os._exit(2)  # a signal interrupted that
+        os._exit(2)  # a signal interrupted the inner block
 
 
-def redirect_files(told: int, alive: int) -> None:
-    """Close all files of the parent, locks too, but standard error and the pipe that shows that
-    this process lives; read from /dev/null."""
-    told, alive = (fcntl.fcntl(one, fcntl.F_DUPFD_CLOEXEC, ERRORS + 1) for one in (told, alive))
+def redirect_files(errors_file: int, alive: int) -> None:
+    """Close all files of the parent, including locks, except `errors_file` and the pipe `alive`.
+    Redirect standard input and output to /dev/null, and standard error to `errors_file`."""
+    errors_file, alive = (fcntl.fcntl(one, fcntl.F_DUPFD_CLOEXEC, ERRORS + 1) for one in
+                          (errors_file, alive))
     nothing = os.open(os.devnull, os.O_RDWR)
-    for file, place in ((nothing, INPUT), (nothing, OUTPUT), (told, ERRORS)):
+    for file, place in ((nothing, INPUT), (nothing, OUTPUT), (errors_file, ERRORS)):
         os.dup2(file, place)
     for name in os.listdir(FILES):
         with contextlib.suppress(OSError):
@@ -164,63 +166,61 @@ def redirect_files(told: int, alive: int) -> None:
 
 
 def wait_for_any(calls: Collection[ForkedProcess], seconds: float) -> list[ForkedProcess]:
-    """Wait until a process ends, or some seconds; return those that have ended."""
-    by_file, poll = {call.fileno(): call for call in calls}, select.poll()
-    for file in by_file:
+    """Wait until a process ends, but at most some seconds; return the ended processes."""
+    calls_by_file, poll = {call.fileno(): call for call in calls}, select.poll()
+    for file in calls_by_file:
         poll.register(file, select.POLLIN)
-    return [by_file[file] for file, _ in poll.poll(1000 * seconds)]
+    return [calls_by_file[file] for file, _ in poll.poll(1000 * seconds)]
 
 
-# Many pairs: each in a process of its own, by default one for each processor.
+# Judging many pairs at the same time, by default one for each processor.
 
-POLL_SECONDS = 0.2  # seconds to wait for ended processes
-# CPU time limit of a pair in seconds without --limit: even a small file can take hours.
-LEAST_SECONDS, BYTES_PER_SECOND = 60, 10_000_000  # one more for each so many bytes
-GRACE_SECONDS = 10  # seconds from SIGTERM to SIGKILL, in which a process may write its result
+POLL_SECONDS = 0.2
+# Default CPU time limit of a pair: a small file can take hours, too.
+LEAST_SECONDS, BYTES_PER_SECOND = 60, 10_000_000
+GRACE_SECONDS = 10  # from SIGTERM to SIGKILL, in which a process may write its result
 
 
 def default_limit(files: Mapping[str, Any]) -> int:
-    """Return the CPU time limit of a pair in seconds, by the sizes of its files. RLIMIT_CPU would
-    not say which limit ended a program."""
+    """Return the CPU time limit of a pair in seconds, from the sizes of its files. It is not set
+    by RLIMIT_CPU, which would not show which limit ended a program."""
     size: int = sum(about["size"] for about in files.values() if about)
     return LEAST_SECONDS + size // BYTES_PER_SECOND
 
 
 class RunningPair(NamedTuple):
-    """A pair that is judged, the seconds of the processor that it may take, and what keeps other
-    calls from writing its results."""
+    """A pair that is being judged, its CPU time limit in seconds, and the lock of its results."""
 
-    item: Item
+    item: BatchItem
     limit: int
     claim: contextlib.ExitStack
 
 
 class PairRunner:
-    """The calls for pairs, each of which writes the object of its pair when it is judged.
+    """Runs the processes that judge pairs. Each process writes the JSON result of its pair into
+    `out` or, without an output folder, into the temporary `folder`."""
 
-    Objects stand in the folder `out`, with reports and lists, or in one that is temporary.
-    """
-
-    def __init__(self, typed: CommandWords, folder: str, out: str | None, is_kept: bool,
+    def __init__(self, command_paths: CommandPaths, folder: str, out: str | None, is_kept: bool,
                  limit: int | None = None) -> None:
-        self.typed, self.folder, self.out, self.is_kept = typed, folder, out, is_kept
-        self.limit = limit  # seconds of the processor, where they are given
+        self.command_paths, self.folder = command_paths, folder
+        self.out, self.is_kept = out, is_kept
+        self.limit = limit  # CPU seconds; `None`: the default limit
         self.parts = PartFiles(out) if out is not None else None
         self.running: dict[ForkedProcess, RunningPair] = {}
-        self.over_limit: set[ForkedProcess] = set()  # those that took more than their limit
+        self.over_limit: set[ForkedProcess] = set()
         self.inputs = NOTHING  # of all pairs
-        self.unwritten_results: dict[str, dict[str, Any]] = {}  # objects that stand in no file
-        self.in_use: set[str] = set()  # pairs whose files another call was writing
+        self.unwritten_results: dict[str, dict[str, Any]] = {}  # results that are in no file
+        self.in_use: set[str] = set()  # pairs whose files another run of qc was writing
         self.is_stopped = False
-        about_program(typed.program_path)  # whose sum is then known to each of them
+        about_program(command_paths.program_path)  # so that forked processes have its checksum
 
-    def result_path(self, item: Item) -> str:
+    def result_path(self, item: BatchItem) -> str:
         """Return the path of a pair's JSON result."""
         return os.path.join(self.out or self.folder, item.name + ENDING)
 
-    def start(self, item: Item) -> Row | None:
-        """Start judging a pair; return its row if that is known at once. Do nothing if its results
-        would replace inputs or foreign files, or if another call writes them."""
+    def start(self, item: BatchItem) -> Row | None:
+        """Start judging a pair. Return its row at once if it can't be judged: its results would
+        replace inputs or foreign files, or another run of qc writes them."""
         self.unwritten_results.pop(item.name, None)
         self.in_use.discard(item.name)
         claim = contextlib.ExitStack()
@@ -232,22 +232,23 @@ class PairRunner:
         except (Stop, OSError) as reason:
             if isinstance(reason, FilesInUse):
                 self.in_use.add(item.name)
-            self.unwritten_results[item.name] = known = unjudged(item.name, error_line(reason))
-            return row_of_object(known, item.name)
+            result = make_unjudged(item.name, error_line(reason))
+            self.unwritten_results[item.name] = result
+            return make_row(result, item.name)
         finally:
-            claim.close()  # unless it goes on with the call
+            claim.close()  # does nothing if the process has taken the lock over
 
-    def start_claimed(self, item: Item, claim: contextlib.ExitStack) -> Row | None:
-        """Start judging a pair whose files no other call can write now."""
+    def start_claimed(self, item: BatchItem, claim: contextlib.ExitStack) -> Row | None:
+        """Start judging a pair whose results are locked."""
         if self.out is not None:
             remove_results(self.out, item.name, self.parts)
-        if item.asked is None:
+        if item.request is None:
             return self.record_unjudged(item, item.reason or "")
-        request = item.asked
-        call = PairOptions(self.typed.program_path, name=item.name, is_claimed=True)
+        request = item.request
+        call = PairOptions(self.command_paths.program_path, name=item.name, is_claimed=True)
         call = call._replace(out=self.out, is_kept=self.is_kept) if self.out else \
             call._replace(json=self.result_path(item))
-        limit = self.limit or default_limit(found(request))
+        limit = self.limit or default_limit(describe_inputs(request))
         try:
             with hold_signals():
                 process = ForkedProcess(lambda: judge_forked_pair(request, call))
@@ -257,8 +258,8 @@ class PairRunner:
         return None
 
     def finished_rows(self, seconds: float) -> Iterator[Row]:
-        """Return the rows of pairs that have ended, after waiting some seconds at most for the
-        first."""
+        """Wait at most some seconds until a process ends; yield the rows of pairs that have ended.
+        """
         for call in wait_for_any(self.running, seconds):
             yield self.finish(call)
         for call, begun in self.running.items():
@@ -268,35 +269,35 @@ class PairRunner:
                 (call.kill if more >= GRACE_SECONDS else call.stop)()
 
     def finish(self, call: ForkedProcess) -> Row:
-        """Take the result of a call that has ended; return the row of its pair."""
+        """Read the result of an ended process; return the row of its pair."""
         item, limit, claim = self.running.pop(call)
         is_over = call in self.over_limit
         self.over_limit.discard(call)
         try:
             status, lines = call.wait()
-            known = left_by_call(self.result_path(item), item.name, status, lines)
-            if known["verdict"] == NOT_JUDGED and is_over:
+            result = read_call_result(self.result_path(item), item.name, status, lines)
+            if result["verdict"] == NOT_JUDGED and is_over:
                 return self.record_unjudged(
                     item, f"it used more than {counted(limit, 'second')} of CPU time: give a "
                     "greater --limit")
-            return self.record_unjudged(item, known["reason"]) if "request" not in known else \
-                row_of_object(known, item.name)
+            return self.record_unjudged(item, result["reason"]) if "request" not in result else \
+                make_row(result, item.name)
         finally:
             claim.close()
 
-    def record_unjudged(self, item: Item, reason: str) -> Row:
+    def record_unjudged(self, item: BatchItem, reason: str) -> Row:
         """Write the JSON result of a pair that was not judged, if possible, and return its row."""
-        known = unjudged(item.name, reason)
+        result = make_unjudged(item.name, reason)
         try:
             if not self.is_stopped:
-                put_object(self.result_path(item), known)
+                write_result_file(self.result_path(item), result)
         except OSError as error:
-            known = unjudged(item.name, f"{reason}; {error_line(error)}")
-            self.unwritten_results[item.name] = known
-        return row_of_object(known, item.name)
+            result = make_unjudged(item.name, f"{reason}; {error_line(error)}")
+            self.unwritten_results[item.name] = result
+        return make_row(result, item.name)
 
     def stop(self) -> None:
-        """Stop all running calls; their pairs have no result."""
+        """Stop all running processes; their pairs have no result."""
         self.is_stopped = True
         for call in self.running:
             call.stop()
@@ -309,54 +310,54 @@ class PairRunner:
 
 def judge_batch(args: argparse.Namespace, program_name: str) -> int:
     """Judge all pairs; return the exit status."""
-    typed = CommandWords(program_name, args.program)
+    command_paths = CommandPaths(program_name, args.program)
     if args.is_resumed and args.out is None:
         raise Stop("--resume needs -o, the folder with the results of an earlier call")
     if args.line is None:
-        items, more, of_all = pairs_at(args.batch, args), list[str](), args.out
-    else:  # others judge the other lines: nothing is written over all of them
-        item, more = at_line(args.batch, args.line, args)
-        items, of_all = [item], None
-    inputs = inputs_of(items, args.batch, *more)
-    collection.refuse_output_names(args, inputs, of_all)
+        items, more, folder_of_all = read_pairs(args.batch, args), list[str](), args.out
+    else:  # other runs judge the other lines, so no page over all pairs is written
+        item, more = read_line_pair(args.batch, args.line, args)
+        items, folder_of_all = [item], None
+    inputs = collect_inputs(items, args.batch, *more)
+    collection.refuse_output_names(args, inputs, folder_of_all)
     with temporary_folder("subttx-qc-") as folder, \
-            claim_folder(of_all):
-        calls = PairRunner(typed, folder, args.out, args.is_kept, args.limit)
+            claim_folder(folder_of_all):
+        calls = PairRunner(command_paths, folder, args.out, args.is_kept, args.limit)
         calls.inputs = inputs
         kept = resumed_rows(calls, items) if args.is_resumed else {}
-        known = judge_all(calls, items, kept, args.jobs or os.cpu_count() or 1)
-        done = [item for item in items if item.name in known]
-        rows = [known[item.name] for item in done]
+        rows_by_name = judge_all(calls, items, kept, args.jobs or os.cpu_count() or 1)
+        done = [item for item in items if item.name in rows_by_name]
+        rows = [rows_by_name[item.name] for item in done]
         status = collection.write_collection(args, rows, [
             calls.unwritten_results.get(item.name) or calls.result_path(item) for item in done],
-            calls.is_stopped, of_all)
+            calls.is_stopped, folder_of_all)
         if calls.is_stopped:
             tell(f"stopped when {len(done)} of {counted(len(items), 'pair')} were judged"
                  + ("; --resume judges the others" if args.out is not None else ""))
         return status
 
 
-def resumed_rows(calls: PairRunner, items: list[Item]) -> dict[str, Row]:
-    """Return the rows of pairs whose earlier results are still valid."""
-    program, rows = about_program(calls.typed.program_path), {}
+def resumed_rows(calls: PairRunner, items: list[BatchItem]) -> dict[str, Row]:
+    """Return the rows of pairs whose earlier results are up to date."""
+    program, rows = about_program(calls.command_paths.program_path), {}
     for item in items:
         path = calls.result_path(item)
-        known = object_at(path) if item.asked and os.path.exists(path) else None
-        if known and is_reusable(known, item, program):
-            rows[item.name] = row_of_object(known, item.name)
+        result = read_result(path) if item.request and os.path.exists(path) else None
+        if result and is_reusable(result, item, program):
+            rows[item.name] = make_row(result, item.name)
     return rows
 
 
-def is_reusable(known: dict[str, Any] | None, item: Item, program: MadeWith) -> bool:
-    """Return whether an earlier result of a pair would be the same now."""
-    return known is not None and item.asked is not None and known["verdict"] != NOT_JUDGED \
-        and is_current(known, item.asked, program)
+def is_reusable(result: dict[str, Any] | None, item: BatchItem, program: MadeWith) -> bool:
+    """Return whether an earlier result of a pair is up to date."""
+    return result is not None and item.request is not None and result["verdict"] != NOT_JUDGED \
+        and is_current(result, item.request, program)
 
 
-def judge_all(calls: PairRunner, items: list[Item], kept: dict[str, Row], jobs: int,
-             take: Callable[[Row], None] = lambda row: None) -> dict[str, Row]:
-    """Return the rows of all pairs, and show progress. `taken` is called with each row once it is
-    known. A signal ends it with the rows known by then."""
+def judge_all(calls: PairRunner, items: list[BatchItem], kept: dict[str, Row], jobs: int,
+             handle_row: Callable[[Row], None] = lambda row: None) -> dict[str, Row]:
+    """Judge pairs, show the progress, and return their rows. `handle_row` is called with each row.
+    After a signal, return the rows of the pairs that were judged before."""
     progress, began, rows = Progress(), time.monotonic(), dict(kept)
     waiting = collections.deque(item for item in items if item.name not in kept)
     try:
@@ -364,14 +365,14 @@ def judge_all(calls: PairRunner, items: list[Item], kept: dict[str, Row], jobs: 
             for row in judge_next(calls, waiting, jobs):
                 rows[row.name] = row
                 progress.clear()
-                take(row)
-            progress.show(lambda: collection.progress_line(rows, len(items), len(kept), began))
+                handle_row(row)
+            progress.show(lambda: collection.format_progress(rows, len(items), len(kept), began))
     except BaseException as reason:
         if isinstance(reason, KeyboardInterrupt):
-            ignore_signals()  # what is known is written now
+            ignore_signals()  # so that the known results can be written
         for row in calls.finished_rows(0.0):
             rows[row.name] = row
-            take(row)
+            handle_row(row)
         calls.stop()
         if not isinstance(reason, KeyboardInterrupt):
             raise
@@ -379,9 +380,9 @@ def judge_all(calls: PairRunner, items: list[Item], kept: dict[str, Row], jobs: 
     return rows
 
 
-def judge_next(calls: PairRunner, waiting: collections.deque[Item], jobs: int) -> Iterator[Row]:
-    """Start waiting pairs, up to `jobs` at a time, and return the rows of those that have ended by
-    then or soon after."""
+def judge_next(calls: PairRunner, waiting: collections.deque[BatchItem],
+               jobs: int) -> Iterator[Row]:
+    """Start waiting pairs, up to `jobs` at a time; yield the rows of pairs that have ended."""
     while waiting and len(calls.running) < jobs:
         row = calls.start(waiting.popleft())
         if row:
@@ -389,47 +390,47 @@ def judge_next(calls: PairRunner, waiting: collections.deque[Item], jobs: int) -
     yield from calls.finished_rows(POLL_SECONDS)
 
 
-# A watched folder is judged like a batch that is resumed again and again: each pair once both of
+# A watched folder is judged like a batch that is resumed repeatedly. A pair is judged when both of
 # its files are complete.
 
-SCAN_SECONDS = 1.0  # seconds between scans: writes of other machines send no notification
+SCAN_SECONDS = 1.0  # polling, since writes by other machines send no notification
 DONE_SUFFIX = ".done"  # a file PAIR.done marks both files of a pair as complete
 
 
 class Sighting(NamedTuple):
-    """What files are like, or why they are no pair, and since when by this machine's clock."""
+    """The state of a pair's files, or why they are no pair, and when it was first seen."""
 
     file_state: object
     seen_at: float
 
 
 class FolderWatch:
-    """What was seen in a folder: `known` is what each pair was like that has its result, and why
-    another one is none, as it was told."""
+    """Finds complete pairs in a folder. `handled` has the file state of each pair that was judged
+    or reported."""
 
     def __init__(self, folder: str, settled: int) -> None:
         self.folder, self.settled = folder, settled
         self.seen: dict[str, Sighting] = {}
         self.handled: dict[str, object] = {}
 
-    def ready_items(self, items: Iterable[Item]) -> list[Item]:
-        """Yield the complete pairs that are new or changed; report once what is no pair."""
+    def ready_items(self, items: Iterable[BatchItem]) -> list[BatchItem]:
+        """Return the complete pairs that are new or changed; report once what is not a pair."""
         now, ready = time.monotonic(), []
         for item in items:
-            file_state = found(item.asked) if item.asked else item.reason
+            file_state = describe_inputs(item.request) if item.request else item.reason
             if self.handled.get(item.name) == file_state or not self.is_complete(
                     item.name, file_state, now):
                 continue
             self.handled[item.name] = file_state
-            if item.asked:
+            if item.request:
                 ready.append(item)
             else:
                 tell(item.reason or item.name)
         return ready
 
     def is_complete(self, name: str, file_state: object, now: float) -> bool:
-        """Return whether the files of a pair are complete: something marks them so, or they have
-        not changed between the first look and this one."""
+        """Return whether the files of a pair are complete: there is a file PAIR.done, or they have
+        not changed for `settled` seconds."""
         if os.path.exists(os.path.join(self.folder, name + DONE_SUFFIX)):
             return True
         seen = self.seen.get(name)
@@ -447,22 +448,22 @@ def refuse_folders(args: argparse.Namespace) -> None:
         raise Stop(f"{args.watch} is not a folder")
     os.makedirs(args.out, exist_ok=True)
     if os.path.samefile(args.watch, args.out):
-        raise Stop(f"{args.out} is the watched folder: give another one with -o")
+        raise Stop(f"{args.out} is the watched folder: give another folder with -o")
     refuse_folder_files(args.out, NOTHING)
 
 
 def watch(args: argparse.Namespace, program_name: str) -> int:
-    """Judge pairs as they arrive, until a signal ends that; return status 2. Pairs that were being
-    judged then have no result, and are judged after a restart."""
+    """Judge pairs as they arrive, until a signal; return status 2. Pairs that were being judged
+    then have no result, and are judged after a restart."""
     refuse_folders(args)
-    typed = CommandWords(program_name, args.program)
-    calls = PairRunner(typed, args.out, args.out, args.is_kept, args.limit)
-    program = about_program(typed.program_path)
+    command_paths = CommandPaths(program_name, args.program)
+    calls = PairRunner(command_paths, args.out, args.out, args.is_kept, args.limit)
+    program = about_program(command_paths.program_path)
     watching = FolderWatch(args.watch, args.settled)
     results = collection.FolderRows(args.out)
 
-    def take(row: Row) -> None:
-        if row.name in calls.in_use:  # it is judged again at the next look, and told once
+    def handle_row(row: Row) -> None:
+        if row.name in calls.in_use:  # it is tried again at the next scan, but reported once
             watching.handled.pop(row.name, None)
             if results.rows.get(row.name) == row:
                 return
@@ -471,11 +472,11 @@ def watch(args: argparse.Namespace, program_name: str) -> int:
     handle_signals()
     try:
         while not calls.is_stopped:
-            items = of_folder(args.watch, args)
-            calls.inputs = inputs_of(items)
-            due = [item for item in watching.ready_items(items)
+            items = find_folder_pairs(args.watch, args)
+            calls.inputs = collect_inputs(items)
+            ready_pairs = [item for item in watching.ready_items(items)
                    if not is_reusable(results.identities.pop(item.name, None), item, program)]
-            judge_all(calls, due, {}, args.jobs or os.cpu_count() or 1, take)
+            judge_all(calls, ready_pairs, {}, args.jobs or os.cpu_count() or 1, handle_row)
             results.write_page()
             time.sleep(SCAN_SECONDS)
     except KeyboardInterrupt:

@@ -1,4 +1,4 @@
-"""One table, one page, and the files for machines, of many results."""
+"""Combine many results into a table, a page, and JSON, CSV and JUnit files."""
 from __future__ import annotations
 
 import argparse
@@ -15,15 +15,15 @@ from ..common.files import Inputs, NOTHING, OWN_OUTPUT, refuse_name, result_file
 from ..common.markup import BREAK, HEAD, Markup, NO_MARKUP, Value, joined, markup
 from ..judging.status import (
     ACCEPTED, LOST, NOT_JUDGED, REFUSED, RELATIVE, WAIVED, WARNED, combine_statuses)
-from ..request.commands import index_in
+from ..request.commands import index_path
 from ..results.files import (
-    ENDING, NO_CLOCK, Row, TestCase, in_order, junit_file, object_at, objects_in, put_file,
-    row_of_object, table_lines, unjudged)
+    ENDING, NO_CLOCK, Row, TestCase, sort_rows, junit_file, read_result, read_results, write_file,
+    make_row, table_lines, make_unjudged)
 from ..results.schema import FORMAT
 from .single import now, refuse_folder_files
 
 
-# The page over all pairs of a folder, worst first; it has no script.
+# The page with all pairs of a folder, worst first.
 
 STYLE = Markup("""<style>
 :root { --ground: #fff; --words: #1b1e23; --soft: #545c66; --line: #c3c9d1; --shade: #f1f3f6;
@@ -57,41 +57,42 @@ fieldset { border: 1px solid var(--line); display: flex; flex-wrap: wrap; gap: 4
   .pairs td.verdict { border-left: 4px solid; } td:empty { display: none; } }
 @media print { fieldset { display: none; } .pairs thead th { position: static; } }
 """)
-SHAPES = {ACCEPTED: "\u2713", WAIVED: "\u2212", REFUSED: "\u2715", LOST: "\u29d6", WARNED: "!",
+VERDICT_SIGNS = {ACCEPTED: "\u2713", WAIVED: "\u2212", REFUSED: "\u2715", LOST: "\u29d6",
+                 WARNED: "!",
           NOT_JUDGED: "?", RELATIVE: "\u223c"}
 PAGE_HEADS = ("Verdict", "Pair", "What is wrong", "Faults", "Files")
 MOST_CAUSES = 6
 
 
-def index_page(folder: str, rows: Sequence[Row], date: str) -> bytes:
-    """Return the HTML page over all pairs of a folder."""
+def make_index_page(folder: str, rows: Sequence[Row], date: str) -> bytes:
+    """Return the HTML page with all pairs of a folder."""
     verdicts = collections.Counter(row.verdict for row in rows)
     counts = ", ".join(f"{verdicts[one]} {one}" for one in sorted(verdicts))
     title = f"{counted(len(rows), 'pair')}: {counts}"
-    heads = joined(markup('<th scope="col">{}</th>', text) for text in PAGE_HEADS)
-    lines = joined((pair_row(folder, row) for row in sorted(rows, key=sort_key)), "\n")
-    hiding = joined(markup('main:has([value="{}"]:checked) .pairs tbody tr:not(.{}) '
+    headers = joined(markup('<th scope="col">{}</th>', text) for text in PAGE_HEADS)
+    lines = joined((make_pair_row(folder, row) for row in sorted(rows, key=sort_key)), "\n")
+    filter_rules = joined(markup('main:has([value="{}"]:checked) .pairs tbody tr:not(.{}) '
                            "{{ display: none; }}\n", *[one.replace(" ", "-")] * 2)
                     for one in sorted(verdicts))
     radios = joined(
         markup('<label><input type="radio" name="verdict" value="{}"{}/> {} ({})</label>',
                one.replace(" ", "-"), markup(' checked="checked"') * (one == "all"), one, count)
         for one, count in [("all", len(rows)), *sorted(verdicts.items())])
-    without = sum(row.clock == NO_CLOCK for row in rows)
-    note = markup('<p class="estimated">{}: {} of {}. A delay that all subtitles of such a pair '
-                  "share was not checked.</p>", NO_CLOCK.capitalize(), without,
-                  counted(len(rows), "pair")) if without else NO_MARKUP
-    page = HEAD + markup("<title>{}</title>", title) + STYLE + hiding + markup(
+    unclocked_count = sum(row.clock == NO_CLOCK for row in rows)
+    note = markup('<p class="estimated">{}: {} of {}. A delay of all subtitles of these pairs '
+                  "was not checked.</p>", NO_CLOCK.capitalize(), unclocked_count,
+                  counted(len(rows), "pair")) if unclocked_count else NO_MARKUP
+    page = HEAD + markup("<title>{}</title>", title) + STYLE + filter_rules + markup(
         "</style></head><body><main>\n<h1>{}</h1>\n<p><small>Made {}. Pairs that need attention "
         "come first.</small></p>\n{}{}\n<fieldset><legend>Show</legend>{}</fieldset>\n"
         '<table class="pairs"><caption>All pairs</caption><thead><tr>{}</tr></thead><tbody>\n{}\n'
-        "</tbody></table>\n</main></body></html>\n", title, date, note, cause_totals(rows), radios,
-        heads, lines)
+        "</tbody></table>\n</main></body></html>\n", title, date, note, make_cause_totals(rows),
+        radios, headers, lines)
     return page.page()
 
 
-def cause_totals(rows: Sequence[Row]) -> Markup:
-    """Return how many subtitles or faults of how many pairs have each cause."""
+def make_cause_totals(rows: Sequence[Row]) -> Markup:
+    """Return the paragraph that counts the subtitles or faults, and the pairs, with each cause."""
     causes, pairs = collections.Counter[str](), collections.Counter[str]()
     for row in rows:
         causes.update(row.causes)
@@ -102,21 +103,21 @@ def cause_totals(rows: Sequence[Row]) -> Markup:
 
 
 def sort_key(row: Row) -> tuple[int, str]:
-    """Return the key that sorts what is broken first, then what is not judged, then what is waived
-    or relative, then what is accepted."""
+    """Return the key that sorts refused pairs first, then those not judged, then waived and
+    relative pairs, then accepted pairs."""
     ranks = {NOT_JUDGED: 1, WAIVED: 2, RELATIVE: 2, ACCEPTED: 3}
     return ranks.get(row.verdict, 0), row.name
 
 
-def pair_row(folder: str, row: Row) -> Markup:
+def make_pair_row(folder: str, row: Row) -> Markup:
     """Return the table row of a pair."""
     causes = list(row.causes.items())
-    told = [markup("<b>{}</b>", counted(row.faults, "fault"))] if row.faults else []
-    told += [markup("<small>{} &times; {}</small>", count, cause)
+    fault_lines = [markup("<b>{}</b>", counted(row.faults, "fault"))] if row.faults else []
+    fault_lines += [markup("<small>{} &times; {}</small>", count, cause)
              for cause, count in causes[:MOST_CAUSES]]
-    told += [markup("&hellip;")] if len(causes) > MOST_CAUSES else []
-    why = [row.sentence or row.line, *([row.counts] if row.counts else [])]
-    verdict = markup("{} {}", SHAPES.get(row.verdict, ""), row.verdict)
+    fault_lines += [markup("&hellip;")] if len(causes) > MOST_CAUSES else []
+    reasons = [row.sentence or row.line, *([row.counts] if row.counts else [])]
+    verdict = markup("{} {}", VERDICT_SIGNS.get(row.verdict, ""), row.verdict)
     if row.clock:
         verdict += markup('<span class="estimated">{}</span>', row.clock)
     name: Value = row.name
@@ -125,22 +126,22 @@ def pair_row(folder: str, row: Row) -> Markup:
     return markup(
         '<tr class="{}"><td class="verdict">{}</td><td>{}<br/><small>{}</small></td><td>{}<br/>'
         "<small>{}</small></td><td>{}</td><td>{}</td></tr>", row.verdict.replace(" ", "-"), verdict,
-        name, row.title, joined(why, BREAK), row.line if row.sentence and row.is_judged else "",
-        joined(told, BREAK), file_links(folder, row.name))
+        name, row.title, joined(reasons, BREAK), row.line if row.sentence and row.is_judged else "",
+        joined(fault_lines, BREAK), make_file_links(folder, row.name))
 
 
-def file_links(folder: str, name: str) -> Markup:
+def make_file_links(folder: str, name: str) -> Markup:
     """Return links to the list and the JSON result of a pair."""
-    found = []
+    links = []
     for ending, word in ((".txt", "list"), (ENDING, "JSON")):
         if os.path.isfile(os.path.join(folder, name + ending)):
-            found.append(markup('<a href="./{}">{}</a>', quote(os.fsencode(name + ending)), word))
-    return joined(found, " ")
+            links.append(markup('<a href="./{}">{}</a>', quote(os.fsencode(name + ending)), word))
+    return joined(links, " ")
 
 
-# The results of many pairs in a table, on a page, and as JSON, CSV and JUnit files.
+# The table, and the JSON, CSV and JUnit files.
 
-ResultSource = Union[str, dict[str, Any]]  # the file of a JSON result, or the result itself
+ResultSource = Union[str, dict[str, Any]]  # the path of a JSON result, or the result itself
 TABLE_HEADS = ("pair", "verdict", "faults", "worst fault")
 
 
@@ -151,12 +152,12 @@ def collect(args: argparse.Namespace) -> int:
     if not os.path.isdir(folder):
         raise Stop(f"{folder} is not a folder")
     rows, paths = [], []
-    for path, known in objects_in(folder):
-        if known is None:
-            tell(f"{path} is not a JSON result of a pair and is skipped")
+    for path, result in read_results(folder):
+        if result is None:
+            tell(f"{path} is not the JSON result of a pair and is skipped")
             continue
         name = os.path.basename(path).removesuffix(ENDING)
-        rows.append(row_of_object(known, name))
+        rows.append(make_row(result, name))
         paths.append(path)
     if not rows:
         raise Stop(f"{folder} has no JSON result of a pair")
@@ -164,33 +165,33 @@ def collect(args: argparse.Namespace) -> int:
     return write_collection(args, rows, paths, folder=folder)
 
 
-def write_collection(args: argparse.Namespace, rows: Sequence[Row], places: Sequence[ResultSource],
+def write_collection(args: argparse.Namespace, rows: Sequence[Row], sources: Sequence[ResultSource],
                      is_stopped: bool = False, folder: str | None = None) -> int:
-    """Write the page over a folder and the output files, and print the table; return the exit
-    status, which is 2 if pairs are missing or a file could not be written. The JSON file comes last
-    and has that status."""
+    """Write the page and the output files, and print the table. Return the exit status, which is 2
+    if pairs are missing or a file could not be written. The JSON file is written last, since it
+    contains the status."""
     date, failed = now(), list[str]()
 
     def status() -> int:
         return combine_statuses((row.status for row in rows), is_stopped or bool(failed))
 
-    written: list[Callable[[], None]] = [
-        lambda: write_index(folder, rows), lambda: put_file(
-            args.csv, lambda: table_lines(map(load_for_csv, places))),
-        lambda: put_file(args.junit, lambda: junit_chunks(rows, date)),
-        lambda: put_file(args.json, lambda: json_chunks(places, status(), date))]
-    for write in written:
+    outputs: list[Callable[[], None]] = [
+        lambda: write_index(folder, rows), lambda: write_file(
+            args.csv, lambda: table_lines(map(load_for_csv, sources))),
+        lambda: write_file(args.junit, lambda: junit_chunks(rows, date)),
+        lambda: write_file(args.json, lambda: json_chunks(sources, status(), date))]
+    for write in outputs:
         try:
             write()
         except (Stop, OSError) as reason:
             failed.append(error_line(reason))
             tell(failed[-1])
-    why = "stopped before the others" if is_stopped else "an output was not written" if failed \
+    note = "stopped before the others" if is_stopped else "an output was not written" if failed \
         else ""
     is_output_taken = any(path in OWN_OUTPUT for path in (args.json, args.csv, args.junit))
     out = sys.stderr if is_output_taken else sys.stdout
     try:
-        for line in summary_table(rows, why) if rows else ():
+        for line in format_summary(rows, note) if rows else ():
             print(shown(line), file=out)
         out.flush()
     except BrokenPipeError:  # the reader has closed the pipe
@@ -202,8 +203,8 @@ PAIRS_PER_SECOND = 1000  # limits how often the page of a watched folder is writ
 
 
 class FolderRows:
-    """The rows of a folder of results, each of which is read once, with what tells whether it is
-    still that of its pair."""
+    """The rows of the results in a folder. `identities` has the members of each result that show
+    whether it is up to date."""
 
     IDENTITY_KEYS = "request", "files_at_start", "program", "verdict"
 
@@ -211,15 +212,15 @@ class FolderRows:
         self.folder, self.rows = folder, dict[str, Row]()
         self.identities = dict[str, dict[str, Any]]()
         self.is_page_old, self.next_page = False, 0.0
-        for path, known in objects_in(folder):
-            if known is not None:
+        for path, result in read_results(folder):
+            if result is not None:
                 name = os.path.basename(path).removesuffix(ENDING)
-                self.rows[name] = row_of_object(known, name)
-                self.identities[name] = {key: known[key] for key in self.IDENTITY_KEYS
-                                         if key in known}
+                self.rows[name] = make_row(result, name)
+                self.identities[name] = {key: result[key] for key in self.IDENTITY_KEYS
+                                         if key in result}
 
     def add(self, row: Row) -> None:
-        """Print a verdict, and keep it for the page over all pairs."""
+        """Print a verdict, and keep its row for the page."""
         self.rows[row.name], self.is_page_old = row, True
         line = worst_fault(row)
         when = time.strftime("%Y-%m-%d %H:%M:%S")
@@ -227,12 +228,12 @@ class FolderRows:
         self.write_page()
 
     def write_page(self, is_last: bool = False) -> None:
-        """Write the page over all pairs if there is a new verdict; except for the last time, at
-        most once a second for each thousand pairs, since it takes longer with more pairs."""
+        """Write the page if there is a new verdict. Unless `is_last`, wait one second for each
+        thousand pairs between writes, since a longer page takes longer to write."""
         if not self.is_page_old or not is_last and time.monotonic() < self.next_page:
             return
         try:
-            write_index(self.folder, in_order(self.rows))
+            write_index(self.folder, sort_rows(self.rows))
         except OSError as reason:
             tell(error_line(reason))
         self.is_page_old = False
@@ -241,8 +242,7 @@ class FolderRows:
 
 def refuse_output_names(args: argparse.Namespace, inputs: Inputs = NOTHING,
                  folder: str | None = None) -> None:
-    """Raise `Stop` if an output can't be written or is an input, before any work; check the files
-    over all pairs of a folder, too."""
+    """Raise `Stop` if an output file, or the page of a folder, can't be written or is an input."""
     for path in (args.json, args.csv, args.junit):
         if path is not None:
             refuse_name(path)
@@ -252,15 +252,15 @@ def refuse_output_names(args: argparse.Namespace, inputs: Inputs = NOTHING,
 
 
 def write_index(folder: str | None, rows: Sequence[Row]) -> None:
-    """Write the page over all pairs of a folder, if there is a folder."""
+    """Write the page with all pairs of a folder, unless the folder is `None`."""
     if folder is None:
         return
-    with result_file(index_in(folder)) as file:
-        file.write(index_page(folder, rows, now()))
+    with result_file(index_path(folder)) as file:
+        file.write(make_index_page(folder, rows, now()))
 
 
-def summary_table(rows: Sequence[Row], why: str = "") -> Iterator[str]:
-    """Yield the lines of a table of pairs, and a line with the number of each verdict; `why`
+def format_summary(rows: Sequence[Row], note: str = "") -> Iterator[str]:
+    """Yield the lines of a table of pairs, and a line with the number of each verdict; `note`
     explains the status if the verdicts do not."""
     lines = [TABLE_HEADS, *((row.name, row.verdict, str(row.faults) if row.is_judged else "",
                             worst_fault(row)) for row in rows)]
@@ -270,23 +270,23 @@ def summary_table(rows: Sequence[Row], why: str = "") -> Iterator[str]:
                f"{first}").rstrip()
     counts = [f"{sum(row.verdict == verdict for row in rows)} {verdict}"
               for verdict in dict.fromkeys(row.verdict for row in rows)]
-    yield f"{counted(len(rows), 'pair')}: {', '.join(counts)}" + (f"; {why}" if why else "")
+    yield f"{counted(len(rows), 'pair')}: {', '.join(counts)}" + (f"; {note}" if note else "")
 
 
-def progress_line(rows: dict[str, Row], count: int, kept: int, began: float) -> str:
-    """Return how many pairs have each kind of verdict, and the estimated time left."""
+def format_progress(rows: dict[str, Row], count: int, kept: int, began: float) -> str:
+    """Return the progress line: how many pairs have each verdict, and the estimated time left."""
     verdicts = [row.verdict for row in rows.values()]
-    good = [f"{verdicts.count(word)} {word}, " for word in (ACCEPTED, WAIVED, RELATIVE)
+    good_counts = [f"{verdicts.count(word)} {word}, " for word in (ACCEPTED, WAIVED, RELATIVE)
             if word in verdicts or word == ACCEPTED]
-    missed = verdicts.count(NOT_JUDGED)
+    unjudged_count = verdicts.count(NOT_JUDGED)
     refused = sum(word not in (ACCEPTED, WAIVED, RELATIVE, NOT_JUDGED) for word in verdicts)
-    line = f"{len(rows)} of {counted(count, 'pair')}: {''.join(good)}{refused} refused, " \
-        f"{missed} not judged"
+    line = f"{len(rows)} of {counted(count, 'pair')}: {''.join(good_counts)}{refused} refused, " \
+        f"{unjudged_count} not judged"
     done = len(rows) - kept
     if not done:
         return line
-    left = (time.monotonic() - began) / done * (count - len(rows))
-    return f"{line}; {counted(round(left), 'second')} left"
+    seconds_left = (time.monotonic() - began) / done * (count - len(rows))
+    return f"{line}; {counted(round(seconds_left), 'second')} left"
 
 
 def worst_fault(row: Row) -> str:
@@ -301,32 +301,33 @@ def worst_fault(row: Row) -> str:
     return (f"{line}: {row.hint}" if row.hint else line) + more
 
 
-def json_chunks(places: Sequence[ResultSource], status: int, date: str) -> Iterator[bytes]:
+def json_chunks(sources: Sequence[ResultSource], status: int, date: str) -> Iterator[bytes]:
     """Yield the JSON results of all pairs as one JSON object."""
     head = {"format": FORMAT, "status": status, "date": date}
     yield json.dumps(head, indent=1).removesuffix("\n}").encode() + b',\n "pairs": ['
     before = b"\n"
-    for place in places:
-        yield before + json.dumps(load_result(place)).encode()
+    for source in sources:
+        yield before + json.dumps(load_result(source)).encode()
         before = b",\n"
     yield b"]\n}\n"
 
 
-def load_result(place: ResultSource) -> dict[str, Any]:
-    """Return the JSON result of a pair; its file may have been deleted."""
-    if isinstance(place, dict):
-        return place
-    name = os.path.basename(place).removesuffix(ENDING)
-    return object_at(place) or unjudged(name, "its JSON result is gone: judge it again")
+def load_result(source: ResultSource) -> dict[str, Any]:
+    """Return the JSON result of a pair; not judged if its file was deleted."""
+    if isinstance(source, dict):
+        return source
+    name = os.path.basename(source).removesuffix(ENDING)
+    return read_result(source) or make_unjudged(name,
+                                                      "its JSON result is gone: judge it again")
 
 
-def load_for_csv(place: ResultSource) -> dict[str, Any]:
-    """Return the JSON result of a pair; report faults that it omits."""
-    known = load_result(place)
-    left_out = known["omitted"]["faults"] if "request" in known else 0
-    if left_out:
-        tell(f"{place} omits {counted(left_out, 'fault')}, so the CSV file does too")
-    return known
+def load_for_csv(source: ResultSource) -> dict[str, Any]:
+    """Return the JSON result of a pair, and report if it omits faults."""
+    result = load_result(source)
+    omitted_count = result["omitted"]["faults"] if "request" in result else 0
+    if omitted_count:
+        tell(f"{source} omits {counted(omitted_count, 'fault')}, so the CSV file does too")
+    return result
 
 
 def junit_chunks(rows: Sequence[Row], date: str) -> Iterator[bytes]:

@@ -1,4 +1,4 @@
-"""The words of the command line, and which option goes with what."""
+"""The command line of qc, and the options of each mode."""
 from __future__ import annotations
 
 import argparse
@@ -10,62 +10,62 @@ from typing import Any, Callable, Iterable, Sequence
 from ..cli import single
 from ..common.command_line import Stop, Words, error_line
 from ..common.files import IsInput, plain_name
-from ..request.lines import goes_with, read_options
+from ..request.lines import describe_mode_conflict, read_options
 from ..request.request import (
     ALONE, BATCH, COLLECT, MEASURE, Mode, OPTIONS, Option, PAIR, WATCH, add_options)
 from ..results import files
 
 
-# The modes of tools/qc, the options of a call, and the modes that take each option.
+# Options that are not about a single pair, and the modes that take each option.
 
 CALLS = (PAIR, ALONE, BATCH, WATCH)
 OUTPUT_MODES = (PAIR, ALONE, BATCH, COLLECT)
 
 
-def number_reader(what: str, least: int, most: int) -> Callable[[str], int]:
+def make_number_parser(what: str, least: int, most: int) -> Callable[[str], int]:
     """Return a parser for a number within bounds."""
 
-    def read(text: str) -> int:
+    def parse_number(text: str) -> int:
         is_number = text.isascii() and text.isdecimal() and len(text) <= len(str(most))
         if not is_number or not least <= int(text) <= most:
             raise argparse.ArgumentTypeError(f"{text} is not a number of {what}: give {least} to "
                                              f"{most}")
         return int(text)
 
-    return read
+    return parse_number
 
 
-read_line_number = number_reader("a line", 1, 9_999_999)
-read_jobs = number_reader("pairs at a time", 1, 9_999)
-read_seconds = number_reader("seconds", 0, 99_999)
-read_limit = number_reader("seconds", 1, 99_999)
+read_line_number = make_number_parser("a line", 1, 9_999_999)
+read_jobs = make_number_parser("pairs at a time", 1, 9_999)
+read_seconds = make_number_parser("seconds", 0, 99_999)
+read_limit = make_number_parser("seconds", 1, 99_999)
 
 MODE_OPTIONS = (
     Option("--batch", "FOLDER|LIST", "judge the pairs of a folder or a list", (BATCH,),
            field="batch"),
-    Option("--collect", "DIR", "make one table and one page of the JSON results in DIR", (COLLECT,),
-           field="collect"),
+    Option("--collect", "DIR", "combine the JSON results in DIR into one table and one page",
+           (COLLECT,), field="collect"),
     Option("--watch", "IN", "judge pairs as they arrive in a folder", (WATCH,), field="watch"),
-    Option("--measure", "STL RECORDING", "print a [profile](#a-profile) of right recordings: of "
-           "pairs, or of a list", (MEASURE,), field="measure", nargs="+"))
+    Option("--measure", "STL RECORDING", "print a [profile](#a-profile) made from correct "
+           "recordings: pairs, or a list of pairs", (MEASURE,), field="measure", nargs="+"))
 CALL_OPTIONS = (
     Option("-o", "DIR", "write report, list and JSON result to DIR", CALLS, field="out"),
-    Option("--keep", None, "keep the recording's PES packets in DIR (NAME.recording.pes); from a "
-           "pipe, everything received (.ts)", (PAIR, BATCH, WATCH), field="is_kept", default=False),
+    Option("--keep", None, "keep the recording's PES packets in DIR (NAME.recording.pes); if it is "
+           "a pipe, keep everything (.ts)", (PAIR, BATCH, WATCH), field="is_kept", default=False),
     Option("--json", "FILE", "write the verdict as a JSON result", OUTPUT_MODES, field="json"),
-    Option("--csv", "FILE", "write a line for each subtitle; of many pairs for each fault",
+    Option("--csv", "FILE", "write a line for each subtitle; for many pairs, for each fault",
            OUTPUT_MODES, field="csv"),
     Option("--junit", "FILE", "write a test case for each pair, for CI", OUTPUT_MODES,
            field="junit"),
-    Option("-p", "PROGRAM", "judge by this program", (*CALLS, MEASURE), "./subttx",
+    Option("-p", "PROGRAM", "judge with this program", (*CALLS, MEASURE), "./subttx",
            field="program"),
-    Option("--resume", None, "skip pairs that an earlier call judged in the same way",
+    Option("--resume", None, "skip pairs whose results are up to date",
            (BATCH,), field="is_resumed", default=False),
     Option("--line", "N", "judge only line N of LIST", (BATCH,), field="line",
            read=read_line_number),
     Option("--jobs", "N", "judge N pairs at a time", (BATCH, WATCH), "one for each processor",
            field="jobs", read=read_jobs),
-    Option("--limit", "SECONDS", "limit the CPU time of a pair, including subprocesses",
+    Option("--limit", "SECONDS", "limit the CPU time for a pair, including subprocesses",
            (BATCH, WATCH), "60, and 1 for each 10 MB", field="limit", read=read_limit),
     Option("--settled", "S", "treat a file as complete after S seconds without change", (WATCH,),
            "5", field="settled", default=5, read=read_seconds),
@@ -75,25 +75,25 @@ OPTION_MODES = {one.name: one.modes for one in (*OPTIONS, *CALL_OPTIONS)}
 
 
 def find_mode(args: argparse.Namespace) -> Mode:
-    """Return the mode of a call; raise `Stop` if it has two."""
-    asked = {BATCH: args.batch, COLLECT: args.collect, WATCH: args.watch,
+    """Return the mode of a command line; raise `Stop` if it has two modes."""
+    values = {BATCH: args.batch, COLLECT: args.collect, WATCH: args.watch,
              MEASURE: args.measure}
-    given = [mode for mode, value in asked.items() if value is not None]
+    given = [mode for mode, value in values.items() if value is not None]
     if len(given) > 1:
-        raise Stop(f"{given[0].words} and {given[1].words} can't be given together")
+        raise Stop(f"{given[0].text} and {given[1].text} can't be given together")
     if given and args.stl is not None:
-        own = "from its arguments" if given[0] is MEASURE else f"from {asked[given[0]]}"
-        raise Stop(f"{given[0].words} takes its pairs {own}: remove {args.stl}")
+        source = "from its arguments" if given[0] is MEASURE else f"from {values[given[0]]}"
+        raise Stop(f"{given[0].text} takes its pairs {source}: remove {args.stl}")
     return given[0] if given else ALONE if args.recording is None else PAIR
 
 
-def given_options(parser: Words, line: Sequence[str]) -> list[str]:
+def list_given_options(parser: Words, line: Sequence[str]) -> list[str]:
     """Return the options on a command line, named and ordered as in `OPTION_MODES`."""
-    names, left_out = parser.fields, object()
+    names, missing = parser.fields, object()
     values = parser.parse_args([*line], argparse.Namespace(**dict.fromkeys(
-        names.values(), left_out)))
-    given = {field for field, value in vars(values).items() if value is not left_out}
-    # One that has two words is the one that stands there.
+        names.values(), missing)))
+    given = {field for field, value in vars(values).items() if value is not missing}
+    # If two options have the same field, return the one on the command line.
     words = {word.partition("=")[0] for word in line}
     return [name for name in OPTION_MODES if names.get(name) in given and (
         name in words or not words & {other for other in names if names[other] == names[name]})]
@@ -101,16 +101,14 @@ def given_options(parser: Words, line: Sequence[str]) -> list[str]:
 
 def refuse_options(parser: Words, line: Sequence[str], mode: Mode) -> None:
     """Raise `Stop` with the first option that the mode does not take."""
-    for name in given_options(parser, line):
+    for name in list_given_options(parser, line):
         if mode not in OPTION_MODES[name]:
-            raise Stop(goes_with(name, OPTION_MODES[name], mode))
+            raise Stop(describe_mode_conflict(name, OPTION_MODES[name], mode))
 
 
-# The words of tools/qc.
-
-
+# The command line.
 def make_parser(text: str) -> Words:
-    """Return the parser of tools/qc, with this text as its help."""
+    """Return the parser of tools/qc with the help `text`."""
     parser = Words(text)
     parser.add_argument("stl", metavar="STL", nargs="?", help="the subtitle file")
     parser.add_argument("recording", metavar="RECORDING", nargs="?",
@@ -121,7 +119,7 @@ def make_parser(text: str) -> Words:
 
 
 def main(text: str, program_name: str, line: list[str]) -> int:
-    """Run a command line and return its exit status. If that fails early, write the reason to the
+    """Run a command line and return the exit status. If it fails early, write the reason to the
     files of --json, --csv and --junit."""
     try:
         status = dispatch(text, program_name, line)
@@ -129,37 +127,37 @@ def main(text: str, program_name: str, line: list[str]) -> int:
         return status
     except (Exception, KeyboardInterrupt) as reason:
         if not isinstance(reason, IsInput):
-            paths = {option: output_path_in(line, option) for option in PIECES}
-            write_unjudged(pair_name_in(line), paths, error_line(reason))
+            paths = {option: find_output_path(line, option) for option in MAKE_CONTENTS}
+            write_unjudged(find_pair_name(line), paths, error_line(reason))
         raise
 
 
 def write_unjudged(name: str, paths: dict[str, str | None], reason: str) -> None:
-    """Write each requested file with one entry that is not judged."""
-    known = files.unjudged(name, reason)
+    """Write each requested file with one pair that was not judged."""
+    result = files.make_unjudged(name, reason)
     for option, path in paths.items():
         with contextlib.suppress(Stop, OSError):
-            if path is not None and files.may_take(path, FIRST_BYTES[option]):
-                files.put_file(path, lambda: PIECES[option](known))
+            if path is not None and files.can_replace(path, FIRST_BYTES[option]):
+                files.write_file(path, lambda: MAKE_CONTENTS[option](result))
 
 
-def testcase(known: dict[str, Any]) -> list[bytes]:
+def make_testcase(result: dict[str, Any]) -> list[bytes]:
     """Return the JUnit file of a pair that was not judged."""
-    case = files.TestCase(known["name"], known["verdict"], known["status"], known["reason"], [],
+    case = files.TestCase(result["name"], result["verdict"], result["status"], result["reason"], [],
                           0.0)
     return [files.junit_file([case], single.now())]
 
 
-# What each file has of the object of a pair.
-PIECES: dict[str, Callable[[dict[str, Any]], Iterable[bytes]]] = {
-    "--json": lambda known: [files.object_text(known)],
-    "--csv": lambda known: files.table_lines([known]), "--junit": testcase}
-# The first bytes of an earlier output: any other file may be an input and is not replaced.
+# How the contents of each file are made from a result.
+MAKE_CONTENTS: dict[str, Callable[[dict[str, Any]], Iterable[bytes]]] = {
+    "--json": lambda result: [files.result_bytes(result)],
+    "--csv": lambda result: files.table_lines([result]), "--junit": make_testcase}
+# First bytes of earlier output files. Other files are not replaced, since they may be inputs.
 FIRST_BYTES = {"--json": b"{", "--csv": b"stl,recording,", "--junit": b"<?xml version='1.0' "}
 
 
-def output_path_in(line: Sequence[str], option: str) -> str | None:
-    """Return the file of an output option on a command line, even if other arguments are wrong."""
+def find_output_path(line: Sequence[str], option: str) -> str | None:
+    """Return the value of an output option, even if other arguments are wrong."""
     parser = Words(None)
     parser.add_argument(option, dest="file")
     try:
@@ -168,19 +166,19 @@ def output_path_in(line: Sequence[str], option: str) -> str | None:
         return None
 
 
-def pair_name_in(line: Sequence[str]) -> str:
-    """Return the pair's name by the first argument that ends in .stl, or an empty name: other
-    arguments may be wrong."""
+def find_pair_name(line: Sequence[str]) -> str:
+    """Return the pair's name from the first argument that ends in .stl, even if others are wrong;
+    an empty name if there is none."""
     stl = next((word for word in line if word.lower().endswith(".stl")), "")
     return os.path.splitext(os.path.basename(stl))[0]
 
 
 def dispatch(text: str, program_name: str, line: list[str]) -> int:
-    """Run a command line and return its exit status."""
+    """Run a command line and return the exit status."""
     refuse_options(make_parser(text), line, find_mode(make_parser(text).parse_args(line)))
     args = read_options(make_parser(text), line, {}, {}, is_typed=True)
     if args.is_kept and args.out is None:
-        raise Stop("--keep needs -o DIR, the folder in which it keeps the recording")
+        raise Stop("--keep needs a folder for the recording: give -o DIR")
     args.out = args.out and plain_name(args.out)
     if args.collect is not None:
         from . import collection  # not loaded for one pair
@@ -195,5 +193,5 @@ def dispatch(text: str, program_name: str, line: list[str]) -> int:
         from . import batch
         return batch.watch(args, program_name)
     if args.stl is None:
-        raise Stop("give a subtitle file, and a recording; --help lists all options")
+        raise Stop("give a subtitle file and a recording; --help lists all options")
     return single.judge_command(args, program_name)

@@ -14,7 +14,8 @@ from ..common.command_line import (
 from ..common.files import first_bytes, temporary_folder
 from ..common.times import FRAMES_OF_A_DAY, Span, TICKS, ticks_after, time_of
 from ..formats.layout import (
-    PLAIN, Refused, drawn, layout_of, layout_text, letters_of_text, letters_on, page_rows)
+    PLAIN, TextFault, draw_text, parse_layout, format_layout, find_text_letters, find_page_letters,
+    make_page_rows)
 from ..formats.stl import Subtitle
 from ..formats.teletext import BY_WORD, NationalOption, page_name
 from ..judging.pages import find_text_columns, format_cells
@@ -26,9 +27,9 @@ from ..judging.transmissions import describe_control_bits, keeps_page
 from ..judging.verdict import Verdict
 from ..recording.notices import NeverSent
 from ..recording.recording import refuse_files
-from ..request.commands import CommandWords, Listener, Names, Progress, Speech
-from ..request.lines import pairs_at, profile_at
-from ..request.request import PID_CHOICE, Request, Unclear, request_with
+from ..request.commands import CommandPaths, Listener, OutputNames, Progress, Printer
+from ..request.lines import read_pairs, read_profile
+from ..request.request import PID_CHOICE, Request, Unclear, make_file_request
 from ..stream.pace import BY_EVERY, IRREGULAR, Pace, PAUSED, TOO_FEW
 from ..stream.repeats import RARE, Repeats, measure_repeats
 from ..stream.layout import (
@@ -39,26 +40,26 @@ from ..stream.receiver import Timeline, decode_near
 from .single import now
 
 
-NAMED = 5  # counterexamples to list
-APART = 25  # frames before a TCI within which its page may come too early
-GOOD = {0, 3}  # statuses: accepted, and relative
+MOST_EXAMPLES = 5  # counterexamples to list
+MOST_EARLY = 25  # frames before a TCI within which its page may come too early
+GOOD_STATUSES = {0, 3}  # statuses: accepted, and relative
 
 
 class Finding(NamedTuple):
     """What is found of an option: the words that propose it, none where it is not proposed; and
     what that rests on, in lines."""
 
-    words: str
+    text: str
     lines: Sequence[str]
 
-    def all(self) -> Iterator[str]:
+    def list_subtitles(self) -> Iterator[str]:
         """Yield the lines of a finding for a profile."""
         yield from (f"# {line}" for line in self.lines)
-        if self.words:
-            yield self.words
+        if self.text:
+            yield self.text
 
 
-class Sending(NamedTuple):
+class ReceivedSubtitle(NamedTuple):
     """A subtitle of a file, and the page with its letters that was sent at its frames."""
 
     stl: str
@@ -75,20 +76,20 @@ class Sending(NamedTuple):
 # How often the page is repeated.
 
 
-def propose_every(several: Sequence[Repeats]) -> Finding:
+def propose_every(all_repeats: Sequence[Repeats]) -> Finding:
     """Propose --every: the maximum distance between two headers of the page in all recordings."""
-    if not several:
+    if not all_repeats:
         return Finding("", ["every: there are too few headers of the page"])
-    worst = max(several, key=lambda one: one.longest)
-    usual = [one.usual for one in several if one.usual is not None]
+    worst = max(all_repeats, key=lambda one: one.longest)
+    usual = [one.usual for one in all_repeats if one.usual is not None]
     words = f"; {max(usual)} are usual" if usual else ""
     lines = [
         f"every: at most {counted(worst.longest, 'frame')} from one header of the page to the "
         f"next, first from {time_of(worst.longest_start)} on, in "
-        f"{counted(sum(repeats.headers for repeats in several), 'header')}{words}"]
+        f"{counted(sum(repeats.headers for repeats in all_repeats), 'header')}{words}"]
     return Finding(f"--every {worst.longest}", lines + named_lines(
         "longer without a header, which --every then refuses", [
-            f"{counted(frames, 'frame')} from {time_of(since)} on" for repeats in several
+            f"{counted(frames, 'frame')} from {time_of(since)} on" for repeats in all_repeats
             for since, frames in repeats.exceptions if frames > worst.longest]))
 
 
@@ -102,13 +103,14 @@ WHY_NONE = {
 
 def propose_pace(paces: Sequence[Pace]) -> Finding:
     """Propose a maximum PES interval (--pace) for all recordings."""
-    frames = [one.frames for one in paces]
-    known = [one for one in frames if one is not None]
-    if not known or len(known) < len(frames):
-        why = "; ".join(dict.fromkeys(WHY_NONE[one.kind] for one, its in zip(paces, frames)
-                                      if its is None))
+    frames = [pace.frames for pace in paces]
+    known_frames = [pace for pace in frames if pace is not None]
+    if not known_frames or len(known_frames) < len(frames):
+        why = "; ".join(dict.fromkeys(WHY_NONE[pace.kind] for pace, pace_frames in
+                                      zip(paces, frames)
+                                      if pace_frames is None))
         return Finding("", [f"pace: none, since {why or 'there are no PES packets'}"])
-    return Finding(f"--pace {max(known)}", [
+    return Finding(f"--pace {max(known_frames)}", [
         f"pace: nearly always at most "
         f"{counted(max(pace.interval for pace in paces), 'frame')} from "
         "one PES packet to the next"])
@@ -134,7 +136,7 @@ def measure_delays(stl: str, subtitles: Sequence[Subtitle], held: Timeline,
     one is the begin of the next."""
     late = list[tuple[int, str]]()
     delays = Delays(collections.Counter(), collections.Counter(), [], [], late)
-    rows = [(one, letters_of_text(one.text, option)) for one in subtitles]
+    rows = [(one, find_text_letters(one.text, option)) for one in subtitles]
     for place, (subtitle, letters) in enumerate(rows):
         if not letters:
             continue
@@ -142,22 +144,22 @@ def measure_delays(stl: str, subtitles: Sequence[Subtitle], held: Timeline,
         before, after = (rows[at][0] if 0 <= at < len(rows) else None
                          for at in (place - 1, place + 1))
         is_new = before is None or rows[place - 1][1] != letters \
-            or before.end + APART < subtitle.begin
-        first = find_text_begin(held, subtitle, letters, APART if is_new else 0)
+            or before.end + MOST_EARLY < subtitle.begin
+        first = find_text_begin(held, subtitle, letters, MOST_EARLY if is_new else 0)
         if first is None:
             delays.unseen.append(name)
             continue
         if is_new and first > held.first:
-            take(delays.begins, delays.early, late, first - subtitle.begin, f"{name} begins")
+            add_delays(delays.begins, delays.early, late, first - subtitle.begin, f"{name} begins")
         if after is None or after.begin > subtitle.end:
             last = find_text_end(held, subtitle, letters, first,
                          FRAMES_OF_A_DAY if after is None else after.begin)
             if last < held.last:
-                take(delays.ends, delays.early, late, last + 1 - subtitle.end, f"{name} ends")
+                add_delays(delays.ends, delays.early, late, last + 1 - subtitle.end, f"{name} ends")
     return delays
 
 
-def take(counts: collections.Counter[int], early: list[str], late: list[tuple[int, str]],
+def add_delays(counts: collections.Counter[int], early: list[str], late: list[tuple[int, str]],
          delay: int, name: str) -> None:
     """Count a delay; a negative one is early."""
     if delay < 0:
@@ -184,7 +186,7 @@ def find_text_begin(held: Timeline, subtitle: Subtitle, letters: bytes, earlier:
     """
     numbers = held.page_numbers(max(subtitle.begin - earlier, 0), subtitle.end)
     return next((held.page_span(number).first for number in numbers
-                 if letters_on(held.pages[number]) == letters), None)
+                 if find_page_letters(held.pages[number]) == letters), None)
 
 
 def find_text_end(held: Timeline, subtitle: Subtitle, letters: bytes, first: int,
@@ -194,7 +196,7 @@ def find_text_end(held: Timeline, subtitle: Subtitle, letters: bytes, first: int
     end = min(subtitle.end + MOST_WITHIN + 1, limit)
     numbers = held.page_numbers(first, max(end, subtitle.end))
     return max(held.page_span(number).last for number in numbers
-               if letters_on(held.pages[number]) == letters)
+               if find_page_letters(held.pages[number]) == letters)
 
 
 def propose_lateness(several: Sequence[Delays], without: Sequence[str],
@@ -245,8 +247,8 @@ def named_lines(what: str, names: Sequence[str]) -> list[str]:
     """Return a line with the first names of a list, and how many more there are."""
     if not names:
         return []
-    more = f", and {len(names) - NAMED} more" if len(names) > NAMED else ""
-    return [f"{what}: {'; '.join(names[:NAMED])}{more}"]
+    more = f", and {len(names) - MOST_EXAMPLES} more" if len(names) > MOST_EXAMPLES else ""
+    return [f"{what}: {'; '.join(names[:MOST_EXAMPLES])}{more}"]
 
 
 # Whether headers that repeat the page keep it, and their national option.
@@ -278,14 +280,14 @@ def propose_option(options: Iterable[str], judged: str) -> Finding:
 SPACE_IN_BOX = re.compile(rb"^[\x00-\x1f]*\x0b[\x00-\x1f]* | [\x00-\x1f]*\x0a[\x00-\x1f]*$")
 
 
-def propose_layout(sendings: Sequence[Sending], option: NationalOption) -> Finding:
+def propose_layout(sendings: Sequence[ReceivedSubtitle], option: NationalOption) -> Finding:
     """Propose the layout that draws nearly all subtitles as sent, with counterexamples; otherwise
     say why there is none, with the nearest."""
     closest, choice = choose_layouts([sending.sent for sending in sendings], option)
     if closest.total < FEWEST:
         return Finding("", [f"layout: {counted(closest.total, 'subtitle')} found with their text, "
                             f"but {FEWEST} are needed"])
-    text = layout_text(choice.layout)
+    text = format_layout(choice.layout)
     if not choice.is_clear:
         nearest = choice if closest.is_clear else closest
         return Finding("", [*explain_missing_layout(nearest, sendings, option),
@@ -303,32 +305,32 @@ def list_omitted_items(choice: LayoutChoice) -> list[str]:
             f"{explain_omission(left.whole)}" for left in choice.left]
 
 
-def list_counterexamples(choice: LayoutChoice, sendings: Sequence[Sending],
+def list_counterexamples(choice: LayoutChoice, sendings: Sequence[ReceivedSubtitle],
                          option: NationalOption) \
         -> Iterator[str]:
     """Yield the subtitles that a layout draws differently than they were sent."""
     others = [one for one in sendings if not draws_as_sent(choice.layout, one.sent, option)]
-    for sending in others[:NAMED]:
+    for sending in others[:MOST_EXAMPLES]:
         yield f"against it: {sending.name}: sent {format_cells(sending.sent.rows)}; drawn " \
             f"{page_text(choice, sending.sent, option)}"
-    if len(others) > NAMED:
-        yield f"against it: {len(others) - NAMED} more"
+    if len(others) > MOST_EXAMPLES:
+        yield f"against it: {len(others) - MOST_EXAMPLES} more"
 
 
 def page_text(choice: LayoutChoice, sent: SentSubtitle, option: NationalOption) -> str:
     """Return what a layout draws of a subtitle."""
-    lines = drawn(sent.text, sent.row, sent.justify, choice.layout, option)
-    return f"nothing: refused {lines.number}" if isinstance(lines, Refused) else \
-        format_cells(page_rows(lines))
+    lines = draw_text(sent.text, sent.row, sent.justify, choice.layout, option)
+    return f"nothing: refused {lines.number}" if isinstance(lines, TextFault) else \
+        format_cells(make_page_rows(lines))
 
 
-def explain_missing_layout(nearest: LayoutChoice, sendings: Sequence[Sending],
+def explain_missing_layout(nearest: LayoutChoice, sendings: Sequence[ReceivedSubtitle],
                            option: NationalOption) \
         -> Iterator[str]:
     """Yield why no layout is proposed: the nearest one, and what no layout can do."""
     others = [sending.sent for sending in sendings
               if not draws_as_sent(nearest.layout, sending.sent, option)]
-    text = layout_text(nearest.layout)
+    text = format_layout(nearest.layout)
     yield f"layout: none is proposed. The nearest, {text or 'that without --layout'}, draws " \
         f"{format_counts(nearest)}; {TENTHS} in 10 are needed"
     for words, is_one in KINDS:
@@ -346,10 +348,10 @@ def is_spaced(sent: SentSubtitle, _: LayoutChoice, option: NationalOption) -> bo
 def is_block(sample: SentSubtitle, nearest: LayoutChoice, option: NationalOption) -> bool:
     """Return whether all lines begin in the same column, though the layout draws them in different
     ones."""
-    lines = drawn(sample.text, sample.row, sample.justify, nearest.layout, option)
-    if isinstance(lines, Refused):
+    lines = draw_text(sample.text, sample.row, sample.justify, nearest.layout, option)
+    if isinstance(lines, TextFault):
         return False
-    due, sent = find_text_columns(page_rows(lines)), find_text_columns(sample.rows)
+    due, sent = find_text_columns(make_page_rows(lines)), find_text_columns(sample.rows)
     return len(sent) > 1 and len({*sent}) == 1 < len({*due})
 
 
@@ -358,16 +360,16 @@ KINDS: Sequence[tuple[str, Callable[[SentSubtitle, LayoutChoice, NationalOption]
 
 
 def find_sendings(stl: str, subtitles: Iterable[Subtitle], held: Timeline, option: NationalOption) \
-        -> list[Sending]:
+        -> list[ReceivedSubtitle]:
     """Return the subtitles of a file whose text was decoded at their time, with the decoded page.
     """
-    return [Sending(stl, subtitle, sent) for subtitle in subtitles
+    return [ReceivedSubtitle(stl, subtitle, sent) for subtitle in subtitles
             for sent in find_sent_subtitles([subtitle], held, option)]
 
 
 def explain_omission(text: str) -> str:
     """Return why a layout that draws more subtitles is not proposed."""
-    layout = layout_of(text) or PLAIN
+    layout = parse_layout(text) or PLAIN
     brought, taken = layout.before + layout.behind, find_questionable_items(layout)
     if FLASH in brought:
         return "all would flash"
@@ -387,18 +389,18 @@ def format_counts(choice: LayoutChoice) -> str:
 # The recordings, one after another.
 
 
-class Unprinted(Speech):
+class SilentPrinter(Printer):
     """What a pair says while it is read, which is kept."""
 
     def __init__(self) -> None:
         super().__init__(Progress())
         self.lines: list[str] = []
 
-    def say(self, line: str) -> None:
+    def print_line(self, line: str) -> None:
         self.last = line
         self.lines.append(line)
 
-    def tell(self, line: str) -> None:
+    def print_error(self, line: str) -> None:
         self.lines.append(line)
 
 
@@ -408,47 +410,48 @@ class Measured(NamedTuple):
     the page; `is_alone`: nothing else is wrong in any."""
 
     pid: str | None
-    said: Sequence[str]
+    lines: Sequence[str]
     repeats: Sequence[Repeats]
     paces: Sequence[Pace]
     delays: Sequence[Delays]
     headers: tuple[int, int]
     is_alone: bool
     options: set[str]
-    sendings: Sequence[Sending]
+    sendings: Sequence[ReceivedSubtitle]
     off_frame: tuple[int, int] = (0, 0)  # PTS that are off their frames, of how many
     option: str = "english"  # by which its letters were read
 
 
-def measure(words: argparse.Namespace, called: str) -> int:
+def measure(args: argparse.Namespace, program_name: str) -> int:
     """Print the profile of the pairs of a call; return the exit status."""
-    typed, requests = CommandWords(called, words.program), read_requests(words)
+    command_paths, requests = CommandPaths(program_name, args.program), read_requests(args)
     with temporary_folder("subttx-qc-") as folder:
-        recordings = [measure_recording(request, typed, os.path.join(folder, str(number)))
+        recordings = [measure_recording(request, command_paths, os.path.join(folder, str(number)))
                       for number, request in enumerate(requests)]
         lines = [*profile_lines(requests, recordings)]
         path = os.path.join(folder, "profile")
         with open(path, "w", encoding="utf-8", errors="surrogateescape") as file:
             file.writelines(f"{line}\n" for line in lines)
-        settings = profile_at(path).settings.values()
+        settings = read_profile(path).settings.values()
         lines += list_refused([dataclasses.replace(request, **{
-            setting.field: setting.value for setting in settings}) for request in requests], typed,
+            setting.field: setting.value for setting in settings}) for request in requests],
+                              command_paths,
             folder)
     for line in lines:
         say(line)
     return 0
 
 
-def read_requests(words: argparse.Namespace) -> list[Request]:
+def read_requests(args: argparse.Namespace) -> list[Request]:
     """Return the pairs of a call, given as arguments or in a list."""
-    names = words.measure
+    names = args.measure
     if len(names) == 1 and not is_stl(names[0]):
-        return requests_in(names[0], words)
+        return requests_in(names[0], args)
     if len(names) % 2:
         raise Stop(f"--measure needs pairs, STL RECORDING: {names[-1]} has no recording")
-    requests = [request_with(stl, recording, words)
+    requests = [make_file_request(stl, recording, args)
                 for stl, recording in zip(names[::2], names[1::2])]
-    if len(requests) > 1 and (words.origin is not None or words.start not in (None, TCP)):
+    if len(requests) > 1 and (args.origin is not None or args.start not in (None, TCP)):
         raise Stop("--origin and --start give the clock of one recording: for several, give a list "
                    "of pairs, each with its clock")
     return requests
@@ -459,24 +462,24 @@ def is_stl(path: str) -> bool:
     return path.lower().endswith(".stl") or first_bytes(path, 6)[3:6] == b"STL"
 
 
-def requests_in(path: str, words: argparse.Namespace) -> list[Request]:
+def requests_in(path: str, args: argparse.Namespace) -> list[Request]:
     """Return the pairs of a list, each with the options of its line; `Stop` if one is none."""
-    items = pairs_at(path, words)
+    items = read_pairs(path, args)
     for item in items:
         if item.reason:
             raise Stop(item.reason)
-    return [item.asked for item in items if item.asked]
+    return [item.request for item in items if item.request]
 
 
-def measure_recording(request: Request, typed: CommandWords, folder: str) -> Measured:
+def measure_recording(request: Request, command_paths: CommandPaths, folder: str) -> Measured:
     """Measure a recording; raise `Stop` if that fails."""
     os.mkdir(folder)
     try:
         refuse_files(request)
-        found = measure_pair(pair_of(request, typed, folder))
+        found = measure_pair(make_pair(request, command_paths, folder))
         if len(found.options) == 1 and request.option not in found.options:
             request = dataclasses.replace(request, option=min(found.options))
-            found = measure_pair(pair_of(request, typed, folder))
+            found = measure_pair(make_pair(request, command_paths, folder))
         return found._replace(option=request.option)
     except Unclear as why:
         raise Stop(f"{request.stl} and {request.recording} can't be measured: {why}") from None
@@ -484,22 +487,23 @@ def measure_recording(request: Request, typed: CommandWords, folder: str) -> Mea
         raise Stop(f"{request.stl} and {request.recording} can't be measured: {why}") from None
 
 
-def pair_of(request: Request, typed: CommandWords, folder: str) -> PairJudge:
+def make_pair(request: Request, command_paths: CommandPaths, folder: str) -> PairJudge:
     """Return a pair of which nothing is printed."""
-    names = Names("measured", folder, None)
-    names.give(request.stl)
-    return PairJudge(Verdict(request, Severity(None), now()), typed, names, Listener(Unprinted()),
-                     False)
+    names = OutputNames("measured", folder, None)
+    names.set_subtitle_file(request.stl)
+    return PairJudge(Verdict(request, Severity(None), now()), command_paths, names,
+                     Listener(SilentPrinter()), False)
 
 
-def list_refused(requests: Sequence[Request], typed: CommandWords, folder: str) -> Iterator[str]:
+def list_refused(requests: Sequence[Request], command_paths: CommandPaths,
+                 folder: str) -> Iterator[str]:
     """Yield for each recording that the profile does not accept why not; else that it does."""
     refused = 0
     for request in requests:
-        pair = pair_of(request, typed, folder)
+        pair = make_pair(request, command_paths, folder)
         try:
             pair.judge()
-            sentence, is_good = pair.verdict.sentence, pair.verdict.status in GOOD
+            sentence, is_good = pair.verdict.sentence, pair.verdict.status in GOOD_STATUSES
         except Unclear as why:
             sentence, is_good = f"Not judged: {why}", False
         if not is_good:
@@ -562,7 +566,7 @@ def find_pid(pair: PairJudge) -> tuple[str | None, list[str]]:
     """Return the PID with the page, and lines with the evidence and the announcement in the PMT; no
     PID for a file of PES packets."""
     recording, name = pair.located_recording.recording, pair.request.page_name
-    lines = [one.line for one in pair.listener.selections if one.what == PID_CHOICE]
+    lines = [one.line for one in pair.listener.selections if one.option == PID_CHOICE]
     if not recording.is_stream:
         return None, lines
     pid = recording.packets.pid
@@ -603,14 +607,14 @@ def profile_lines(requests: Sequence[Request], recordings: Sequence[Measured]) -
         propose_layout([sending for one in recordings for sending in one.sendings],
                      BY_WORD[recordings[0].option])]
     for finding in findings:
-        yield from finding.all()
+        yield from finding.list_subtitles()
 
 
 def propose_pid(recordings: Sequence[Measured]) -> Finding:
     """Propose the PID if it is the same in all recordings."""
     pids = {one.pid for one in recordings}
     lines = [f"pid: {line}"
-             for line in dict.fromkeys(line for one in recordings for line in one.said)]
+             for line in dict.fromkeys(line for one in recordings for line in one.lines)]
     pid = next(iter(pids)) if len(pids) == 1 else None
     if len(pids) > 1:
         lines.append("pid: not the same in all recordings")

@@ -18,7 +18,7 @@ from ..common.files import (
     stamp_of, temporary_folder, whole_file)
 from ..common.markup import HEAD
 from ..common.program import about_program
-from ..formats.listing import count_of, is_line
+from ..formats.listing import parse_count_line, is_check_line
 from ..judging.causes import format_cause_counts
 from ..judging.faults import list_hints
 from ..judging.pair import PairJudge
@@ -26,16 +26,16 @@ from ..judging.status import ACCEPTED, NOT_JUDGED, RELATIVE, Severity
 from ..judging.verdict import Unjudged, Verdict
 from ..recording.recording import Recording
 from ..request.commands import (
-    CommandWords, Listener, LOCK, Names, PartFiles, Progress, Speech, files_in, index_in, lock_of,
-    pair_name, profile_line)
-from ..request.request import Request, Unclear, Unsaid, keep_stl, request_of
+    CommandPaths, Listener, LOCK, OutputNames, PartFiles, Progress, Printer, list_pair_files,
+    index_path, lock_path, pair_name, profile_line)
+from ..request.request import Request, Unclear, IncompleteAnswer, keep_stl, make_request
 from ..results import files as results
-from ..results.files import found, object_text, unjudged
+from ..results.files import describe_inputs, result_bytes, make_unjudged
 from ..stream.gaps import first_lines
 
 
-# The results of a pair in a folder belong to one call at a time. A call removes the results of an
-# earlier one, perhaps from the folder of its inputs, so foreign files with these names are kept.
+# Only one run of qc at a time writes the results of a pair in a folder. It removes earlier results,
+# but no foreign files with the same names: the folder may be that of the inputs.
 
 RESULT = re.compile(rb'\{\s*"format": [0-9]+,\s*"(verdict": "|status": )')
 PREFIX_BYTES = 4096  # bytes that show what a file is
@@ -43,42 +43,40 @@ KEPT_SECONDS = 600  # between writing a kept recording and its result, at most
 
 
 class FilesInUse(Stop):
-    """Another call writes the files that this one would write."""
+    """Another run of qc writes the files that this one would write."""
 
 
 def refuse_pair_files(folder: str, name: str, inputs: Inputs, parts: PartFiles | None = None
                     ) -> None:
     """Raise `Stop` if the results of a pair would replace an input or a file that these tools did
     not write."""
-    for path in [*files_in(folder, name, parts), lock_of(folder, name)]:
+    for path in [*list_pair_files(folder, name, parts), lock_path(folder, name)]:
         refuse_file(path, inputs)
 
 
 def refuse_folder_files(folder: str, inputs: Inputs) -> None:
     """Raise `Stop` if the files over all pairs of a folder would replace an input or a foreign
     file."""
-    for path in (index_in(folder), lock_of(folder, "")):
+    for path in (index_path(folder), lock_path(folder, "")):
         refuse_file(path, inputs)
 
 
 def is_own_file(path: str) -> bool:
-    """Return whether these tools wrote a file, by its first bytes. For a recording that is not
-    possible: see `is_kept_recording`."""
-    begin, ending = os.path.splitext(path)
+    """Return whether these tools wrote a file, by its first bytes; for a recording, by its time."""
+    stem, ending = os.path.splitext(path)
     if ending in (".pes", ".ts"):
-        return is_kept_recording(path, f"{os.path.splitext(begin)[0]}.json")
+        return is_kept_recording(path, f"{os.path.splitext(stem)[0]}.json")
     data = first_bytes(path, PREFIX_BYTES, is_followed=False)
     if not data or ending == f".{LOCK}":
         return not data
     if ending == ".txt":
         line = data.split(b"\n")[0].decode("utf-8", "replace")
-        return is_line(line) and count_of(line) is None
+        return is_check_line(line) and parse_count_line(line) is None
     return bool(RESULT.match(data)) if ending == ".json" else data.startswith(HEAD.page())
 
 
 def is_kept_recording(path: str, result: str) -> bool:
-    """Return whether a recording was kept with a result: it was written just before that. A foreign
-    file was written at another time."""
+    """Return whether a recording was kept with a result, which was then written soon after it."""
     if not os.path.isfile(result) or not is_own_file(result):
         return False
     return 0 <= os.stat(result).st_mtime_ns - os.stat(path).st_mtime_ns < KEPT_SECONDS * 10**9
@@ -97,29 +95,29 @@ def refuse_file(path: str, inputs: Inputs) -> None:
 
 def remove_results(folder: str, name: str, parts: PartFiles | None = None) -> None:
     """Remove the results of an earlier call for a pair."""
-    for path in files_in(folder, name, parts):
+    for path in list_pair_files(folder, name, parts):
         if os.path.lexists(path):
             os.unlink(path)
 
 
 def claim_pair(folder: str | None, name: str) -> contextlib.AbstractContextManager[None]:
-    """Make a folder, and keep other calls from writing the results of a pair there."""
-    return hold_lock(folder, name, f"another call is writing the files of {name} in ")
+    """Make a folder, and lock the results of a pair in it."""
+    return hold_lock(folder, name, f"another run of qc is writing the files of {name} in ")
 
 
 def claim_folder(folder: str | None) -> contextlib.AbstractContextManager[None]:
-    """Make a folder, and keep other batches from judging into it."""
-    return hold_lock(folder, "", "another batch is judging into ")
+    """Make a folder, and lock it against other batches."""
+    return hold_lock(folder, "", "another run of qc is judging a batch into ")
 
 
 @contextlib.contextmanager
 def hold_lock(folder: str | None, name: str, refusal: str) -> Iterator[None]:
-    """Make a folder, if one is given, and hold a lock in it; raise `FilesInUse` with the text
-    `refusal` if another call holds it."""
+    """Make a folder, unless it is `None`, and hold a lock in it. Raise `FilesInUse` with the text
+    `refusal` if another process holds the lock."""
     if folder is None:
         yield
         return
-    path = lock_of(folder, name)
+    path = lock_path(folder, name)
     with naming(folder):
         os.makedirs(folder, exist_ok=True)
         handle = open_locked(path)
@@ -128,15 +126,15 @@ def hold_lock(folder: str | None, name: str, refusal: str) -> Iterator[None]:
     try:
         yield
     finally:
-        with contextlib.suppress(OSError):  # the folder was changed meanwhile
+        with contextlib.suppress(OSError):  # the folder may have been changed
             if is_file_at(handle, path):
                 os.unlink(path)
         os.close(handle)
 
 
 def open_locked(path: str) -> int | None:
-    """Return a file that is open and locked, or `None` if another process has locked it. Replace a
-    link in its place."""
+    """Open and lock a file; return `None` if another process has locked it. A symbolic link is
+    replaced by a file."""
     while True:
         if os.path.islink(path):
             os.unlink(path)
@@ -151,11 +149,11 @@ def open_locked(path: str) -> int | None:
             return handle  # the file system has no locks
         if is_file_at(handle, path):
             return handle
-        os.close(handle)  # its owner removed it meanwhile
+        os.close(handle)  # another process has removed the file
 
 
 def is_file_at(handle: int, path: str) -> bool:
-    """Return whether an open file still has this name."""
+    """Return whether an open file is still at a path."""
     try:
         return os.path.samestat(os.fstat(handle), os.lstat(path))
     except FileNotFoundError:
@@ -175,10 +173,12 @@ def now(seconds: float | None = None) -> str:
 
 
 class PairOptions(NamedTuple):
-    """A call for a pair, beside what is asked of it: the program, and the files that are written.
-    `name` is that of the pair, where it is not that of its subtitle file, and `here` the folder in
-    which its files stand until somebody gives them their place. `is_claimed`: its files are the
-    caller's. `examine` looks at the verdict before it is written: `Unclear` makes it not judged."""
+    """The program and the output files for a pair.
+
+    `name` overrides the name from the subtitle file. Files are written into `staging_folder` if the
+    caller moves them later. `is_claimed` says that the caller has locked them. `examine` is called
+    with the verdict before it is written; if it raises `Unclear`, the pair is not judged.
+    """
 
     program: str | None
     out: str | None = None
@@ -195,7 +195,7 @@ class PairOptions(NamedTuple):
 
 def judge_command(args: argparse.Namespace, program_name: str) -> int:
     """Judge the pair of a command line; return the exit status."""
-    return judge_and_report(request_of(args), PairOptions(
+    return judge_and_report(make_request(args), PairOptions(
         args.program, args.out or None, args.is_kept, args.json, args.csv, args.junit,
         is_quiet=args.is_quiet), program_name).status
 
@@ -204,13 +204,13 @@ def judge_and_report(request: Request, call: PairOptions, program_name: str) -> 
     """Judge a pair, print the verdict and write its files; return the verdict."""
     out, staging_folder = call.out, call.staging_folder or call.out
     is_output_taken = any(path in OWN_OUTPUT for path in (call.json, call.csv, call.junit))
-    speech = Speech(Progress(), is_output_taken)
-    speech.at_end = ignore_signals  # so that the last line agrees with the exit status
-    speech.is_quiet = call.is_quiet
+    printer = Printer(Progress(), is_output_taken)
+    printer.before_last_line = ignore_signals  # so that the last line agrees with the exit status
+    printer.is_quiet = call.is_quiet
     if request.profile:
-        speech.say(profile_line(request.profile))
-    typed = CommandWords(program_name, call.program)
-    listener = Listener(speech)
+        printer.print_line(profile_line(request.profile))
+    command_paths = CommandPaths(program_name, call.program)
+    listener = Listener(printer)
     stamps = stamp_inputs(request)
     verdict = new_verdict(request, listener)
     verdict.is_kept = call.is_kept
@@ -220,14 +220,14 @@ def judge_and_report(request: Request, call: PairOptions, program_name: str) -> 
             None if call.is_claimed else staging_folder, name):
         if staging_folder is not None and not call.is_claimed:
             remove_results(staging_folder, name)
-        names = Names(name, folder, out, staging_folder)
+        names = OutputNames(name, folder, out, staging_folder)
         keep_stl(request, folder)
-        names.give(request.stl_path)
-        files = OutputFiles(call, verdict, typed, names, stamps)
-        verdict.files_at_start = found(request)
-        pair = PairJudge(verdict, typed, names, listener, files.needs_sums())
+        names.set_subtitle_file(request.stl_path)
+        files = OutputFiles(call, verdict, command_paths, names, stamps)
+        verdict.files_at_start = describe_inputs(request)
+        pair = PairJudge(verdict, command_paths, names, listener, files.needs_sums())
         judge_pair(pair, files)
-        report_pair(verdict, speech, files)
+        report_pair(verdict, printer, files)
     return verdict
 
 
@@ -245,7 +245,7 @@ def new_verdict(request: Request, listener: Listener) -> Verdict:
 
 def refuse_outputs(call: PairOptions, request: Request, out: str | None, name: str) -> None:
     """Raise `Stop` if an output can't be written or is an input, before any work."""
-    inputs = Inputs(request.stl, request.recording, *request.others)
+    inputs = Inputs(request.stl, request.recording, *request.other_files)
     for path in (call.json, call.csv, call.junit):
         if path:
             inputs.refuse(path, True)
@@ -260,14 +260,15 @@ def judge_pair(pair: PairJudge, files: OutputFiles) -> None:
     try:
         pair.judge()
         files.call.examine(verdict)
-        verdict.hints = [*dict.fromkeys(list_hints(verdict))]  # parts may have the same
+        verdict.hints = [*dict.fromkeys(list_hints(verdict))]  # parts may have the same hint
     except Unclear as unclear:
-        verdict.unjudged = Unjudged(unclear.reason, unclear.to_type, isinstance(unclear, Unsaid))
+        verdict.unjudged = Unjudged(unclear.reason, unclear.commands,
+                                    isinstance(unclear, IncompleteAnswer))
     except Exception as reason:  # any error makes the pair not judged
         verdict.unjudged = Unjudged(error_line(reason), is_temporary=isinstance(
             reason, (Unanswered, OSError, MemoryError)))
     except KeyboardInterrupt:
-        ignore_signals()  # what is known is written now
+        ignore_signals()  # so that the known faults can be written
         verdict.unjudged = Unjudged(f"stopped at {pair.stop(now())}", is_stopped=True)
     verdict.seconds = round(time.monotonic() - began, 3)
     try:
@@ -278,69 +279,69 @@ def judge_pair(pair: PairJudge, files: OutputFiles) -> None:
         files.write(pair.recording)
 
 
-def report_pair(verdict: Verdict, speech: Speech, files: OutputFiles) -> None:
-    """Print the verdict; if that fails, make it not judged in all files too."""
+def report_pair(verdict: Verdict, printer: Printer, files: OutputFiles) -> None:
+    """Print the verdict. If that fails, write it as not judged to all files."""
     try:
-        print_verdict(verdict, speech, files.page)
+        print_verdict(verdict, printer, files.page)
     except KeyboardInterrupt as reason:
         ignore_signals()
         verdict.failed_outputs.append(error_line(reason))
         files.write_again()
-        print_verdict(verdict, speech, files.page)
+        print_verdict(verdict, printer, files.page)
     except Exception as reason:
         verdict.failed_outputs.append(error_line(reason))
         files.write_again()
         tell(verdict.failed_outputs[-1])
-        silence(speech.out)
+        silence(printer.out)
 
 
 def handle_signals() -> None:
-    """Let signals interrupt this call, except those that are ignored, as under nohup."""
-    for one in SIGNALS:
-        if signal.getsignal(one) != signal.SIG_IGN:
-            signal.signal(one, signal.default_int_handler)
+    """Let signals interrupt this call, except ignored signals, for example under nohup."""
+    for signal_number in SIGNALS:
+        if signal.getsignal(signal_number) != signal.SIG_IGN:
+            signal.signal(signal_number, signal.default_int_handler)
 
 
 def ignore_signals() -> None:
     """Ignore all further signals that would interrupt this call."""
-    for one in SIGNALS:
-        signal.signal(one, signal.SIG_IGN)
+    for signal_number in SIGNALS:
+        signal.signal(signal_number, signal.SIG_IGN)
 
 
-def print_verdict(verdict: Verdict, speech: Speech, page: str | None = None) -> None:
+def print_verdict(verdict: Verdict, printer: Printer, page: str | None = None) -> None:
     """Print the verdict, after gaps, notes and warnings; `page` is the path of its report."""
     causes = [part.causes for part in verdict.parts if part.causes]
     if causes:
-        speech.say(format_cause_counts(causes))
+        printer.print_line(format_cause_counts(causes))
     for line in verdict.format_part_lines():
-        speech.say(line)
+        printer.print_line(line)
     for line in first_lines([gap.format_line() +
                              ("" if gap.is_judged else ", outside the judged range")
                              for gap in verdict.gaps]):
-        speech.tell(line)
+        printer.print_error(line)
     if verdict.is_lost and not verdict.request.is_loss_allowed:
-        speech.tell("record that part again: what is missing was not checked")
+        printer.print_error("record that part again: the missing frames were not checked")
     for line in verdict.notes:
-        speech.tell(line)
+        printer.print_error(line)
     for warning in verdict.warnings:
-        speech.tell(warning.warning_text())
+        printer.print_error(warning.warning_text())
     if verdict.line is not None:
         if verdict.request.within and verdict.delays:
-            speech.say(verdict.delays.describe())
+            printer.print_line(verdict.delays.describe())
         if verdict.estimated_clock_note and verdict.word != RELATIVE:
-            speech.say(verdict.estimated_clock_note)
+            printer.print_line(verdict.estimated_clock_note)
         for line in verdict.hints:
-            speech.say(line)
-        speech.end(verdict.sentence + reference_text(verdict, page), verdict.line)
-    elif is_line(speech.last):  # the program's last line is not the verdict
-        speech.say(NOT_JUDGED)
+            printer.print_line(line)
+        printer.print_verdict(verdict.sentence + reference_text(verdict, page), verdict.line)
+    elif is_check_line(printer.last_line):  # the program's last line is not the verdict
+        printer.print_line(NOT_JUDGED)
     if verdict.is_stopped:
-        speech.say(counted(verdict.fault_count, "fault") + " so far" if verdict.parts else
+        printer.print_line(counted(verdict.fault_count, "fault") + " so far" if verdict.parts else
                    "nothing was judged so far")
     for line in (verdict.unjudged_reason or "").splitlines():
-        speech.tell(f"{NOT_JUDGED}: {line}" if verdict.is_stopped else line)
+        printer.print_error(f"{NOT_JUDGED}: {line}" if verdict.is_stopped else line)
     for at, line in enumerate(verdict.suggestions):
-        speech.tell(f"{'type' if at == 0 else 'or'} {line}")
+        printer.print_error(f"{'type' if at == 0 else 'or'} {line}")
 
 
 def reference_text(verdict: Verdict, page: str | None) -> str:
@@ -352,17 +353,16 @@ def reference_text(verdict: Verdict, page: str | None) -> str:
         return f" See {page}."
     if verdict.worst_named_fault:
         return f" See refusals.md#{verdict.worst_named_fault.name.replace(' ', '-')}."
-    told = verdict.worst_part.worst_fault_line if verdict.worst_part else None
-    return f" See refusals.md#n{told.number}." if told else ""
+    fault = verdict.worst_part.worst_fault_line if verdict.worst_part else None
+    return f" See refusals.md#n{fault.number}." if fault else ""
 
 
 class Output(NamedTuple):
-    """A file that is asked for, and how its bytes are made; of an object what stands for it where
-    that can't be done. One that is a result stands in the folder; one that `is_raw` says nothing of
-    the verdict."""
+    """A requested file, and the function that makes its bytes. `is_result`: it is in the folder of
+    results. `is_raw`: it does not contain the verdict."""
 
     path: str
-    pieces: Callable[[], Iterator[bytes]]
+    make_chunks: Callable[[], Iterator[bytes]]
     is_result: bool = False
     is_json: bool = False
     is_raw: bool = False
@@ -374,18 +374,19 @@ class Output(NamedTuple):
 
 
 class OutputFiles:
-    """The files that are asked for."""
+    """Writes the requested files."""
 
-    def __init__(self, call: PairOptions, verdict: Verdict, typed: CommandWords,
-                 names: Names, stamps: Mapping[str, Stamp | None] = {}) -> None:
-        self.call, self.verdict, self.typed, self.names = call, verdict, typed, names
-        self.stamps = stamps  # of the files that are judged, when that began
+    def __init__(self, call: PairOptions, verdict: Verdict, command_paths: CommandPaths,
+                 names: OutputNames, stamps: Mapping[str, Stamp | None] = {}) -> None:
+        self.call, self.verdict, self.names = call, verdict, names
+        self.command_paths = command_paths
+        self.stamps = stamps  # of the input files, when judging began
         self.written: list[Output] = []
 
     @property
     def page(self) -> str | None:
         """Return the path of the report as the user would type it."""
-        return self.names.typed("html") if self.names.out else None
+        return self.names.display_path("html") if self.names.out else None
 
     def needs_sums(self) -> bool:
         """Return whether an output has the checksums of the inputs."""
@@ -395,9 +396,9 @@ class OutputFiles:
         """Write all outputs. If one fails, the verdict is not judged, and outputs written before
         are written once more if possible. The JSON result in the folder comes last, except for
         outputs that can't be written twice."""
-        for output in sorted(self.outputs(recording), key=lambda one: not one.is_replaced):
+        for output in sorted(self.list_outputs(recording), key=lambda one: not one.is_replaced):
             self.find_changes()
-            if self.try_to_put(output):
+            if self.try_to_write(output):
                 self.written.append(output)
             else:
                 self.write_again()
@@ -410,86 +411,86 @@ class OutputFiles:
         if changed:
             self.stamps = {}  # it is reported once
             self.verdict.failed_outputs += [
-                f"{name} was replaced or written to while it was judged: judge it again when it is "
-                "complete" for name in changed]
+                f"{name} changed while it was judged: judge it again when it is complete"
+                for name in changed]
             self.write_again()
 
     def write_again(self) -> None:
         """Write the outputs once more, with the later failures."""
         for output in self.written:
             if output.is_replaced and not output.is_raw:
-                self.try_to_put(output)
+                self.try_to_write(output)
 
-    def try_to_put(self, output: Output) -> bool:
+    def try_to_write(self, output: Output) -> bool:
         """Write an output; return whether that succeeded. If not, the verdict has the reason."""
         try:
-            self.put(output)
+            self.write_output(output)
         except Exception as reason:
             self.verdict.failed_outputs.append(error_line(reason))
             if output.is_json and not isinstance(reason, (Stop, OSError)):
-                known = unjudged(self.names.name, self.verdict.unjudged_reason or "")
-                self.put(output._replace(pieces=lambda: iter([object_text(known)])))
+                known = make_unjudged(self.names.name, self.verdict.unjudged_reason or "")
+                self.write_output(output._replace(make_chunks=lambda: iter([result_bytes(known)])))
             return False
         return True
 
-    def outputs(self, recording: Recording | None) -> list[Output]:
-        """Yield the outputs that were requested."""
+    def list_outputs(self, recording: Recording | None) -> list[Output]:
+        """Return the requested outputs."""
         call, verdict, names = self.call, self.verdict, self.names
-        wanted = [Output(call.csv, lambda: results.subtitle_lines(verdict))] if call.csv else []
-        wanted += [Output(call.junit, self.testcase)] if call.junit else []
-        wanted += self.raw_outputs(recording) if names.out else []
-        if not call.json and not names.machine:
-            return wanted
-        program = about_program(self.typed.program_path)
+        outputs = [Output(call.csv, lambda: results.subtitle_lines(verdict))] if call.csv else []
+        outputs += [Output(call.junit, self.make_testcase)] if call.junit else []
+        outputs += self.list_raw_outputs(recording) if names.out else []
+        if not call.json and not names.json_path:
+            return outputs
+        program = about_program(self.command_paths.program_path)
 
         def page() -> Iterator[bytes]:
-            from ..report.page import report_page  # not loaded by most calls
-            return iter([report_page(verdict, self.typed).page()])
+            from ..report.page import make_report_page  # not loaded by most calls
+            return iter([make_report_page(verdict, self.command_paths).page()])
 
         def members() -> Iterator[bytes]:
-            return map(encode_text, results.object_of(verdict, program))
+            return map(encode_text, results.write_result(verdict, program))
 
-        wanted += [Output(names.report, page, True)] if names.out else []
-        wanted += [Output(call.json, members, is_json=True)] if call.json else []
-        wanted += [Output(names.machine, members, True, True)] if names.machine else []
-        return wanted
+        outputs += [Output(names.report_path, page, True)] if names.out else []
+        outputs += [Output(call.json, members, is_json=True)] if call.json else []
+        outputs += [Output(names.json_path, members, True, True)] if names.json_path else []
+        return outputs
 
-    def raw_outputs(self, recording: Recording | None) -> list[Output]:
-        """Yield the lists of all parts as `check` printed them, and the kept recording."""
-        lists = [Output(part.names.placed("txt"), part.check_output.read_bytes, True, is_raw=True)
+    def list_raw_outputs(self, recording: Recording | None) -> list[Output]:
+        """Return the lists of all parts as printed by `check`, and the kept recording."""
+        lists = [Output(part.names.final_path("txt"), part.check_output.read_bytes, True,
+                        is_raw=True)
                  for part in self.verdict.parts]
         ending = recording and recording.packets.count and recording.kept_ending
         if self.call.is_kept and recording and ending:
-            lists.append(Output(self.names.placed(ending), recording.kept, True, is_raw=True))
+            lists.append(Output(self.names.final_path(ending), recording.kept, True, is_raw=True))
         return lists
 
-    def testcase(self) -> Iterator[bytes]:
+    def make_testcase(self) -> Iterator[bytes]:
         """Return the JUnit file."""
         verdict = self.verdict
         case = results.TestCase(pair_title(verdict.request), verdict.word, verdict.status,
-                               verdict.worst_line or verdict.unjudged_reason or "", self.lines(),
-                                verdict.seconds,
+                               verdict.worst_line or verdict.unjudged_reason or "",
+                                self.list_lines(), verdict.seconds,
                                verdict.subtitle_counts.describe() if verdict.subtitle_counts
                                 else "", verdict.sentence)
         yield results.junit_file([case], verdict.date)
 
-    def lines(self) -> list[str]:
-        """Return the first lines of the lists of all parts."""
+    def list_lines(self) -> list[str]:
+        """Return the first lines of the fault lists of all parts."""
         lines = (line for part in self.verdict.parts for line in part.check_output.read_lines()
                  if part.check_output.fault_count)
         return list(itertools.islice(lines, SUMMARY_LINES))
 
     @staticmethod
-    def put(output: Output) -> None:
+    def write_output(output: Output) -> None:
         """Write a file completely or not at all."""
         with result_file(output.path) if output.is_result else whole_file(output.path) as file:
-            for piece in output.pieces():
-                file.write(piece)
+            for chunk in output.make_chunks():
+                file.write(chunk)
 
 
 def encode_text(text: str) -> bytes:
-    """Return the text of a JSON result as bytes. Bytes of a name that are not UTF-8 are escaped, as
-    all other texts have them already."""
+    """Encode the text of a JSON result, escaping bytes of file names that are not UTF-8."""
     return ESCAPED.sub(lambda found: "\\" + escaped(found[0]), text).encode()
 
 

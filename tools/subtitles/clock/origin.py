@@ -8,7 +8,7 @@ from ..common.command_line import Lateness, Stop, counted, range_words
 from ..common.times import (
     ALL_DAY, Between, FRAMES_A_SECOND, TICKS, ticks_after, ticks_between, ticks_within, time_in,
     time_of)
-from ..formats.stl import letters_on_page, readable, stl_bytes, subtitle_times
+from ..formats.stl import page_letter_codes, read_until_damage, read_stl, subtitle_times
 from ..formats.teletext import Page, page_name
 from ..stream.packets import Packets, Range, STRAY, alternating_subcodes, subpage_text
 from .alignment import (
@@ -86,12 +86,12 @@ def subtitles_between(path: str, option: str, between: Between,
                       left_out: Collection[int] = ()) -> list[ExpectedSubtitle]:
     """Return the subtitles of a file that begin `between` two frames and end within the day."""
     shown = []
-    for place, stored in enumerate(readable(path, stl_bytes(path)), 1):
+    for place, stored in enumerate(read_until_damage(path, read_stl(path)), 1):
         begin, end = subtitle_times(stored)
         is_one = begin is not None and between.has(begin) and place not in left_out
         if is_one and begin is not None and end is not None and begin < end:
             shown.append(ExpectedSubtitle(begin, end, (stored.row, stored.justify, stored.text),
-                                          letters_on_page(stored.text, option)))
+                                          page_letter_codes(stored.text, option)))
     if not shown:
         raise Stop(f"{path} has no subtitle that begins and ends within a day")
     return shown

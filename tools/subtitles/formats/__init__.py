@@ -1,7 +1,7 @@
 """File formats: EBU STL, Teletext, layouts, lines of `check`.
 
-stl            EBU STL: the blocks of a subtitle file, their texts and their subtitles
-teletext       teletext (EN 300 706): codes, characters, national options
-layout         the layouts of `--layout TEXT`: how an inserter draws a text as rows of a page
-listing        lines of `check`, and the manual's rows for their numbers
+stl            EBU STL: blocks, texts and subtitles of a subtitle file
+teletext       Teletext (EN 300 706): control bits, characters, national options
+layout         layouts of `--layout TEXT`: how an inserter draws a text as rows of a page
+listing        lines of `check`, and what the manual says about fault numbers
 """

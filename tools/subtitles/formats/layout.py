@@ -1,6 +1,6 @@
-"""The layouts of `--layout TEXT`: how an inserter draws a subtitle's text as rows of a page.
+"""Layouts of `--layout TEXT`: how an inserter draws a subtitle's text as rows of a page.
 
-The search for a layout draws by this; the program's own drawing decides.
+This is used to search for a layout. The verdict depends only on the program's own drawing.
 """
 from __future__ import annotations
 
@@ -8,7 +8,7 @@ import functools
 import re
 from typing import Iterable, NamedTuple, Sequence
 
-from .teletext import NationalOption, cells_in
+from .teletext import NationalOption, split_cells
 
 
 COLUMNS, LAST_ROW = 40, 23
@@ -19,19 +19,20 @@ MOST_BEFORE, MOST_AFTER, MOST_SHIFT = 6, 4, 22
 NEW_LINE, NO_CELL, CONTROLS = 0x8A, range(0x80, 0x86), (*range(0x20), *range(0x80, 0xA0))
 CHARACTER, CONTROL, TOO_LONG, PAST_BOTTOM, DOUBLE_ROW, HIDDEN = 50, 51, 52, 53, 54, 55
 FLAGS = ("fit", "white", "trim", "text", "up", "double", "pack", "last")
-NUMBERS = {"left": range(40), "right": range(40), "free": range(1, 4),
+NUMBER_RANGES = {"left": range(40), "right": range(40), "free": range(1, 4),
            "row": range(-MOST_SHIFT, MOST_SHIFT + 1)}
-TAKES = {"strip": "codes 00 to 1F, each once", "before": "up to 6 codes 01 to 0D and one * at most",
+ALLOWED_VALUES = {"strip": "codes 00 to 1F, each once",
+                  "before": "up to 6 codes 01 to 0D and one * at most",
          "after": "up to 4 codes 01 to 0D", "left": "0 to 39", "right": "0 to 39",
          "free": "1, 2 or 3", "row": "-22 to 22"}
-KEPT = 1 << 14  # texts in the cache
+CACHE_SIZE = 1 << 14  # texts
 NUMBER = re.compile(r"[0-9]{1,2}")
 HEX = re.compile(r"(?:[0-9A-Fa-f]{2})*")
 
 
 class Layout(NamedTuple):
-    """The items of a layout. `before` goes before a line's own leading codes, `behind` between
-    these and the rest of the line."""
+    """The items of a layout. `before` is put before the leading codes of a line, `behind` after
+    them."""
 
     strip: bytes = b""
     before: bytes = b"\x0b\x0b"
@@ -52,16 +53,15 @@ class Layout(NamedTuple):
 
     @property
     def unit(self) -> int:
-        """The rows from one line to the next."""
+        """The number of rows from one line to the next."""
         return 2 if self.double else 1
 
 
 PLAIN = Layout()
 
 
-class Refused(NamedTuple):
-    """The first fault of a text: its number, and the offset of the byte or the number of the line.
-    """
+class TextFault(NamedTuple):
+    """The first fault of a text: the fault number, and the byte's offset or the line's number."""
 
     number: int
     at: int
@@ -76,46 +76,46 @@ class DrawnLine(NamedTuple):
     cells: bytes
 
 
-def codes_in(text: str, most: int, allowed: Sequence[int]) -> bytes | None:
-    """Return the codes of hexadecimal digits; None if they are not allowed."""
+def parse_codes(text: str, most: int, allowed: Sequence[int]) -> bytes | None:
+    """Parse hexadecimal digits as codes; return `None` if they are not allowed."""
     codes = bytes.fromhex(text) if HEX.fullmatch(text) else None
     fits = codes is not None and len(codes) <= most and all(code in allowed for code in codes)
     return codes if fits else None
 
 
-def item_of(name: str, value: str | None) -> dict[str, object] | None:
-    """Return the value of an item; None if there is no such item or value."""
+def parse_item(name: str, value: str | None) -> dict[str, object] | None:
+    """Parse an item of a layout; return `None` if there is no such item or value."""
     if name in FLAGS:
         return {name: True} if value is None else None
     if value is None:
         return None
-    if name in NUMBERS:
+    if name in NUMBER_RANGES:
         digits = value[1:] if name == "row" and value.startswith("-") else value
-        is_one = NUMBER.fullmatch(digits) and int(value) in NUMBERS[name]
-        return {name: int(value)} if is_one else None
+        is_allowed = NUMBER.fullmatch(digits) and int(value) in NUMBER_RANGES[name]
+        return {name: int(value)} if is_allowed else None
     if name == "before":
         first, star, behind = value.partition("*")
-        both = [codes_in(part, MOST_BEFORE, DRAWN_CODES) for part in (first, behind)]
-        if None in both or len(both[0] or b"") + len(both[1] or b"") > MOST_BEFORE:
+        parts = [parse_codes(part, MOST_BEFORE, DRAWN_CODES) for part in (first, behind)]
+        if None in parts or len(parts[0] or b"") + len(parts[1] or b"") > MOST_BEFORE:
             return None
-        return {"before": both[0], "behind": both[1]}
+        return {"before": parts[0], "behind": parts[1]}
     if name == "after":
-        codes = codes_in(value, MOST_AFTER, DRAWN_CODES)
+        codes = parse_codes(value, MOST_AFTER, DRAWN_CODES)
     elif name == "strip":
-        codes = codes_in(value, 32, range(0x20))
+        codes = parse_codes(value, 32, range(0x20))
         codes = None if codes is not None and len(set(codes)) < len(codes) else codes
     else:
         return None
     return None if codes is None else {name: codes}
 
 
-def layout_of(text: str) -> Layout | None:
-    """Return the layout of a TEXT of `--layout`; None if it is none."""
+def parse_layout(text: str) -> Layout | None:
+    """Parse the TEXT of `--layout`; return `None` if it is invalid."""
     values: dict[str, object] = {}
     names: set[str] = set()
     for word in text.split(","):
         name, equals, value = word.partition("=")
-        item = item_of(name, value if equals else None)
+        item = parse_item(name, value if equals else None)
         if item is None or name in names:
             return None
         names.add(name)
@@ -123,25 +123,26 @@ def layout_of(text: str) -> Layout | None:
     return Layout(**values)  # type: ignore[arg-type]
 
 
-def fault_in(text: str) -> str | None:
-    """Return the first fault of a TEXT of `--layout`; None if there is none."""
+def find_layout_fault(text: str) -> str | None:
+    """Return the message about the first invalid item of a layout's TEXT; `None` if all are valid.
+    """
     names = set[str]()
     for word in text.split(","):
         name, equals, value = word.partition("=")
         if name in names:
             return f"{name} is given twice"
-        if item_of(name, value if equals else None) is None:
-            takes = TAKES.get(name, "no value" if name in FLAGS else "")
+        if parse_item(name, value if equals else None) is None:
+            takes = ALLOWED_VALUES.get(name, "no value" if name in FLAGS else "")
             return f"{word or 'an empty word'} is not an item" + f": {name} takes {takes}" * \
                 bool(takes)
         names.add(name)
     return None
 
 
-def items_of(layout: Layout) -> list[str]:
-    """Return the items of a layout that differ from the default, in byte order."""
+def list_items(layout: Layout) -> list[str]:
+    """Return the items of a layout that differ from the default, sorted."""
     items = [name for name in FLAGS if getattr(layout, name)]
-    items += [f"{name}={getattr(layout, name)}" for name in NUMBERS
+    items += [f"{name}={getattr(layout, name)}" for name in NUMBER_RANGES
               if getattr(layout, name) != getattr(PLAIN, name)]
     items += [f"{name}={getattr(layout, name).hex().upper()}" for name in ("strip", "after")
               if getattr(layout, name) != getattr(PLAIN, name)]
@@ -151,41 +152,41 @@ def items_of(layout: Layout) -> list[str]:
     return sorted(items)
 
 
-def layout_text(layout: Layout) -> str:
-    """Return the TEXT of a layout, empty for the default one."""
-    return ",".join(items_of(layout))
+def format_layout(layout: Layout) -> str:
+    """Return the TEXT of a layout; empty for the default layout."""
+    return ",".join(list_items(layout))
 
 
-def simplicity(layout: Layout) -> tuple[int, int, str]:
+def complexity_key(layout: Layout) -> tuple[int, int, str]:
     """Return a key that sorts simple layouts first."""
-    text = layout_text(layout)
+    text = format_layout(layout)
     return text.count(",") + bool(text), len(text), text
 
 
-@functools.lru_cache(maxsize=KEPT)
-def cell_lines(text: bytes, option: NationalOption, strip: bytes = b"") \
-        -> tuple[bytes, ...] | Refused:
-    """Return the lines of a text as cells; or the first character that has none."""
+@functools.lru_cache(maxsize=CACHE_SIZE)
+def make_cell_lines(text: bytes, option: NationalOption, strip: bytes = b"") \
+        -> tuple[bytes, ...] | TextFault:
+    """Return the lines of a text as cells, or the first character without a cell."""
     lines = [bytearray()]
-    for at, byte, cell in cells_in(text, option):
+    for at, byte, cell in split_cells(text, option):
         if byte == NEW_LINE:
             lines.append(bytearray())
         elif byte in NO_CELL or byte in strip:
             continue
         elif cell is None:
-            return Refused(CONTROL if byte in CONTROLS else CHARACTER, at)
+            return TextFault(CONTROL if byte in CONTROLS else CHARACTER, at)
         else:
             lines[-1].append(cell)
     return tuple(map(bytes, lines))
 
 
-def leading(cells: bytes) -> int:
-    """Return how many codes begin a line."""
+def count_leading_codes(cells: bytes) -> int:
+    """Return the number of spacing attributes at the beginning of a line."""
     return len(cells) - len(cells.lstrip(CODES))
 
 
-def prepared(cells: bytes, layout: Layout) -> bytes:
-    """Return a line's cells as they are sent."""
+def prepare_line(cells: bytes, layout: Layout) -> bytes:
+    """Add the codes of a layout to a line's cells."""
     if not cells or START_BOX in cells:
         return cells
     if layout.trim:
@@ -201,9 +202,11 @@ def prepared(cells: bytes, layout: Layout) -> bytes:
     return line + after
 
 
-def start_of(cells: bytes, justify: int, layout: Layout) -> int:
-    """Return the start column of a line of 1 to 40 cells on an endless row."""
-    skipped, width = (leading(cells), len(cells.strip(CODES))) if layout.text else (0, len(cells))
+def find_start_column(cells: bytes, justify: int, layout: Layout) -> int:
+    """Return the start column of a line of 1 to 40 cells, which may be outside the row."""
+    skipped, width = 0, len(cells)
+    if layout.text:
+        skipped, width = count_leading_codes(cells), len(cells.strip(CODES))
     justify = justify or layout.free
     if justify == 1:
         return layout.left - skipped
@@ -212,13 +215,13 @@ def start_of(cells: bytes, justify: int, layout: Layout) -> int:
     return COLUMNS - layout.right - width - skipped
 
 
-def column_of(cells: bytes, justify: int, layout: Layout) -> int:
+def find_column(cells: bytes, justify: int, layout: Layout) -> int:
     """Return the start column of a line of 1 to 40 cells."""
-    return min(max(start_of(cells, justify, layout), 0), COLUMNS - len(cells))
+    return min(max(find_start_column(cells, justify, layout), 0), COLUMNS - len(cells))
 
 
-def placed_rows(lines: Sequence[bytes], first: int, layout: Layout) -> list[int]:
-    """Return the row of each prepared line; the vertical position (VP) is `first`."""
+def assign_rows(lines: Sequence[bytes], first: int, layout: Layout) -> list[int]:
+    """Return the row of each prepared line. `first` is the vertical position (VP)."""
     places, place = [], 0
     for number, line in enumerate(lines):
         places.append(place if layout.pack else number)
@@ -228,20 +231,20 @@ def placed_rows(lines: Sequence[bytes], first: int, layout: Layout) -> list[int]
     return [first + layout.row + layout.unit * (at - back) for at in places]
 
 
-def drawn(text: bytes, first: int, justify: int, layout: Layout, option: NationalOption
-          ) -> list[DrawnLine] | Refused:
-    """Draw the lines of a subtitle's text that are not empty; or return its first fault."""
-    cells = cell_lines(text, option, layout.strip)
-    return cells if isinstance(cells, Refused) else drawn_lines(cells, first, justify, layout)
+def draw_text(text: bytes, first: int, justify: int, layout: Layout, option: NationalOption
+          ) -> list[DrawnLine] | TextFault:
+    """Draw the lines of a subtitle's text that are not empty, or return its first fault."""
+    cells = make_cell_lines(text, option, layout.strip)
+    return cells if isinstance(cells, TextFault) else draw_lines(cells, first, justify, layout)
 
 
-def drawn_lines(cells: Sequence[bytes], first: int, justify: int, layout: Layout
-                ) -> list[DrawnLine] | Refused:
-    """Draw the lines of cells that are not empty; or return the first fault."""
-    lines = [prepared(one, layout) for one in cells]
+def draw_lines(cells: Sequence[bytes], first: int, justify: int, layout: Layout
+                ) -> list[DrawnLine] | TextFault:
+    """Draw lines of cells that are not empty, or return their first fault."""
+    lines = [prepare_line(one, layout) for one in cells]
     placed: list[DrawnLine] = []
-    above = b""  # the line with the number before this one
-    for number, (line, row) in enumerate(zip(lines, placed_rows(lines, first, layout))):
+    above = b""  # the previous line
+    for number, (line, row) in enumerate(zip(lines, assign_rows(lines, first, layout))):
         is_under = DOUBLE in above and not layout.double
         above = above if layout.pack and not line else line
         if not line:
@@ -251,39 +254,37 @@ def drawn_lines(cells: Sequence[bytes], first: int, justify: int, layout: Layout
                              (DOUBLE_ROW, DOUBLE in line and row == LAST_ROW),
                              (HIDDEN, is_under)):
             if is_so:
-                return Refused(fault, number)
-        placed.append(DrawnLine(number, row, column_of(line, justify, layout), line))
+                return TextFault(fault, number)
+        placed.append(DrawnLine(number, row, find_column(line, justify, layout), line))
     return placed
 
 
-def page_rows(lines: Sequence[DrawnLine]) -> tuple[bytes, ...]:
-    """Return rows 1 to 24 of the page with some drawn lines."""
+def make_page_rows(lines: Sequence[DrawnLine]) -> tuple[bytes, ...]:
+    """Return rows 1 to 24 of the page with drawn lines."""
     rows = [b" " * COLUMNS] * 24
     for line in lines:
         rows[line.row - 1] = (b" " * line.column + line.cells).ljust(COLUMNS)
     return tuple(rows)
 
 
-def letters_of_text(text: bytes, option: NationalOption) -> bytes | None:
-    """Return the cells over 20 of a text; None if a character has no cell. No layout changes them.
-    """
-    lines = cell_lines(text, option, bytes(range(0x20)))
-    return None if isinstance(lines, Refused) else bytes(
+def find_text_letters(text: bytes, option: NationalOption) -> bytes | None:
+    """Return the cells of a text without spaces and attributes, which are the same in each layout;
+    `None` if a character has no cell."""
+    lines = make_cell_lines(text, option, bytes(range(0x20)))
+    return None if isinstance(lines, TextFault) else bytes(
         cell for line in lines for cell in line if cell > SPACE)
 
 
-def letters_on(rows: Sequence[bytes]) -> bytes:
-    """Return the cells over 20 of a page, row by row."""
+def find_page_letters(rows: Sequence[bytes]) -> bytes:
+    """Return the cells of a page without spaces and attributes, row by row."""
     return bytes(cell for row in rows for cell in row if cell > SPACE)
 
 
-# Lines as cells, with all codes of a text.
 
-
-def raw_lines(text: bytes, option: NationalOption) -> list[bytes]:
-    """Return the lines of a text as cells, with all their codes."""
+def split_raw_lines(text: bytes, option: NationalOption) -> list[bytes]:
+    """Return the lines of a text as cells, including all codes 00 to 1F."""
     lines = [bytearray()]
-    for _, byte, cell in cells_in(text, option):
+    for _, byte, cell in split_cells(text, option):
         if byte == NEW_LINE:
             lines.append(bytearray())
         elif cell is not None or byte in CODES:
@@ -291,22 +292,22 @@ def raw_lines(text: bytes, option: NationalOption) -> list[bytes]:
     return [bytes(line) for line in lines]
 
 
-def letter_cells(cells: bytes) -> bytes:
-    """Return the cells of a line over 20."""
+def remove_attributes(cells: bytes) -> bytes:
+    """Return the cells of a line without spaces and attributes."""
     return bytes(cell for cell in cells if cell > SPACE)
 
 
-def inner(cells: bytes) -> bytes:
-    """Return a line from its first to its last character."""
+def trim_line(cells: bytes) -> bytes:
+    """Return the cells from the first to the last character of a line."""
     at = [place for place, cell in enumerate(cells) if cell > SPACE]
     return cells[at[0]:at[-1] + 1]
 
 
-def stripped(cells: bytes, strip: Iterable[int]) -> bytes:
-    """Return a line without some codes."""
+def remove_codes(cells: bytes, strip: Iterable[int]) -> bytes:
+    """Remove the codes `strip` from a line."""
     return cells.translate(None, bytes(strip))
 
 
-def spaces_before(cells: bytes) -> int:
-    """Return how many spaces begin a line."""
+def count_leading_spaces(cells: bytes) -> int:
+    """Return the number of spaces at the beginning of a line."""
     return len(cells) - len(cells.lstrip(b" "))

@@ -1,4 +1,4 @@
-"""Lines of `check`, and the manual's rows for their numbers."""
+"""Lines of `check`, and what the manual says about fault numbers."""
 from __future__ import annotations
 
 import os
@@ -10,7 +10,7 @@ from ..common.program import TOP
 from ..common.times import FRAMES_A_SECOND, frame_of
 
 
-# The lines of `check --all` as values. Only this module knows their form.
+# Lines of `check --all`. Only this module parses them.
 #
 #     accepted COUNT frames COUNT transmissions
 #     refused NUMBER Name PLACE
@@ -18,38 +18,37 @@ from ..common.times import FRAMES_A_SECOND, frame_of
 #     trusted frames TIME TIME
 #     COUNT faults
 #
-# PLACE is nothing, or one of: block N, block N at N, pes N, frame TIME, frame TIME packet N, frame
-# TIME row N column N. A line `fault` or `usage` has the form of `refused`.
+# PLACE is empty, or one of: block N, block N at N, pes N, frame TIME, frame TIME packet N, frame
+# TIME row N column N. Lines `fault` and `usage` are like `refused`.
 
 ACCEPTED = re.compile(r"accepted (\d+) frames (\d+) transmissions")
 COUNT = re.compile(r"(\d+) faults")
 TRUSTED = re.compile(r"trusted frames (\S+) (\S+)")
-PLACED = re.compile(
+FAULT_LINE = re.compile(
     r"(?P<word>refused|ended|fault|usage) (?P<number>\d+) (?P<name>\w+)"
     r"(?: block (?P<block>\d+)(?: at (?P<at>\d+))?| pes (?P<pes>\d+)"
     r"| frame (?P<time>[\d:]+)(?: packet (?P<packet>\d+)"
     r"| row (?P<row>\d+) column (?P<column>\d+))?)?")
-EMPTY = 60  # a file without PES packets
+EMPTY = 60  # no PES packet
 DISPLAY = 13  # display standard code (DSC)
-EMPTY_TIME, OUT_OF_ORDER = 21, 56  # times of a subtitle file that decrease
+EMPTY_TIME, OUT_OF_ORDER = 21, 56  # decreasing times in a subtitle file
 OFF_FRAME, GAP = 61, 73
 UNDECIDED = 78  # frames whose expected page is unknown, next to refused subtitles
 STL_FAULTS = {*range(10, 26), *range(50, 58)}
-PASSED_OVER = {*range(33, 41), 45, 61}  # skipped PES packets: unreadable, or without a frame
-# The recording was not read further.
-ENDS_READING = {30, 31, 32, 44}
+SKIPPED_PACKETS = {*range(33, 41), 45, 61}  # PES packets that are unreadable or have no frame
+ENDS_READING = {30, 31, 32, 44}  # the recording was not read further
 LOST_PACKETS = 45  # TS packets are missing
-SILENT = 79  # no PES packet for longer than the maximum interval
+SILENT = 79  # too long without a PES packet
 LOSSES = {LOST_PACKETS, SILENT}
 REFUSED, ENDED, FAULT = "refused", "ended", "fault"
 CONTENT, CHARACTER, LETTERS, CONTROL, PARITY, CHANGED = 72, 50, (50, 51), 67, 68, 69
-BEGIN, END = 63, 74  # the recording begins after the first TCI, ends before the last TCO
+BEGIN, END = 63, 74  # the recording begins after the first TCI, or ends before the last TCO
 WITH_CAUSE = {BEGIN, CONTENT, END}
 INCOMPLETE = 77
 
 
 class FaultLine(NamedTuple):
-    """A line `refused`, `ended`, `fault` or `usage`: its number, its name and its place."""
+    """A line `refused`, `ended`, `fault` or `usage`, with its number, name and place."""
 
     line: str
     word: str
@@ -65,7 +64,7 @@ class FaultLine(NamedTuple):
 
     @property
     def frame(self) -> int | None:
-        """The frame of its time."""
+        """The frame of `time`."""
         frame: int | None = frame_of(self.time) if self.time else None
         return frame
 
@@ -88,77 +87,79 @@ class Trusted(NamedTuple):
     last: str
 
 
-def fault_of_line(line: str) -> FaultLine | None:
-    """Return a line with a number; `None` for another line."""
-    match = PLACED.fullmatch(line)
+def parse_fault_line(line: str) -> FaultLine | None:
+    """Parse a line with a fault number; return `None` for another line."""
+    match = FAULT_LINE.fullmatch(line)
     if not match:
         return None
     word, number, name, block, at, pes, time, packet, row, column = match.groups()
-    return FaultLine(line, word, int(number), name, known(block), known(at), known(pes), time,
-                     known(packet), known(row), known(column))
+    return FaultLine(line, word, int(number), name, parse_optional(block), parse_optional(at),
+                     parse_optional(pes), time,
+                     parse_optional(packet), parse_optional(row), parse_optional(column))
 
 
-def known(digits: str | None) -> int | None:
-    """Return a number that a line may have."""
+def parse_optional(digits: str | None) -> int | None:
+    """Parse a number that a line may lack."""
     return None if digits is None else int(digits)
 
 
-def accepted_of(line: str) -> Accepted | None:
-    """Return a line `accepted`; `None` for another line."""
+def parse_accepted_line(line: str) -> Accepted | None:
+    """Parse a line `accepted`; return `None` for another line."""
     match = ACCEPTED.fullmatch(line)
     return Accepted(int(match[1]), int(match[2])) if match else None
 
 
-def trusted_of(line: str) -> Trusted | None:
-    """Return a line `trusted`; `None` for another line."""
+def parse_trusted_line(line: str) -> Trusted | None:
+    """Parse a line `trusted`; return `None` for another line."""
     match = TRUSTED.fullmatch(line)
     return Trusted(match[1], match[2]) if match else None
 
 
-def count_of(line: str) -> int | None:
-    """Return the number of faults in the last line of a list; `None` for another line."""
+def parse_count_line(line: str) -> int | None:
+    """Parse the number of faults in the last line of a list; return `None` for another line."""
     match = COUNT.fullmatch(line)
     return int(match[1]) if match else None
 
 
-def is_line(line: str) -> bool:
-    """Return whether it is a line of `check`."""
-    return any(one(line) is not None for one in (fault_of_line, trusted_of, accepted_of, count_of))
+def is_check_line(line: str) -> bool:
+    """Return whether a line is one that `check` can print."""
+    return any(parse(line) is not None for parse in (parse_fault_line, parse_trusted_line,
+                                                     parse_accepted_line, parse_count_line))
 
 
-# Faster than `fault_of_line`: a list may have a line for each frame of a day.
+# Faster parsing: a list may have a line for each frame of a day.
 
-def line_words(line: str) -> list[str]:
-    """Split a line: word, number, name, kind of place, its value, the rest."""
+def split_line(line: str) -> list[str]:
+    """Split a line into word, number, name, kind of place, value of the place, and the rest."""
     return line.split(" ", 5)
 
 
-def number_of(line: str) -> int | None:
-    """Return the number of a line `refused`; `None` for another line."""
+def parse_fault_number(line: str) -> int | None:
+    """Parse the fault number of a line `refused`; return `None` for another line."""
     digits = line.split(" ", 2)[1] if line.startswith(REFUSED + " ") else ""
     return int(digits) if digits.isascii() and digits.isdecimal() else None
 
 
-def frame_of_place(time: str) -> int:
-    """Return the frame of a place's time."""
+def parse_place_time(time: str) -> int:
+    """Parse the time in a place to its frame."""
     hours, minutes, seconds, frames = map(int, time.split(":"))
     return ((hours * 60 + minutes) * 60 + seconds) * FRAMES_A_SECOND + frames
 
 
-# Faults that `qc` finds and `check` does not: they have names, no numbers.
+# Faults that only qc finds. They have names instead of numbers.
 
-NEVER_SENT = "never sent"  # the page, which the PMT announces
-PICTURES_LEFT = "pictures left"  # the clock of the video jumps, the PTS do not
-NOT_SHOWN = "not shown"  # a row of the subtitle file, by any receiver
+NEVER_SENT = "never sent"  # the PMT announces the page, but it was not sent
+PICTURES_LEFT = "pictures left"  # the PTS of the video jump, those of the subtitles do not
+NOT_SHOWN = "not shown"  # no receiver shows a row of the subtitle file
 FAULT_NAMES = (NEVER_SENT, PICTURES_LEFT, NOT_SHOWN)
 
 
 class NamedFault(NamedTuple):
-    """A fault with a name instead of a number, its text and its part; of a transmission with first
-    and last time, of a subtitle file with its TTI block."""
+    """A fault with a name instead of a number. It has the first and last time in the recording, or
+    a TTI block of the subtitle file."""
 
     name: str
-    words: str
+    text: str
     time: str | None = None
     until: str | None = None
     block: int | None = None
@@ -166,47 +167,47 @@ class NamedFault(NamedTuple):
 
     @property
     def line(self) -> str:
-        """The fault in the form of a line of `check`."""
+        """The fault, formatted like a line of `check`."""
         place = f" frame {self.time}" if self.time else \
             f" block {self.block}" if self.block is not None else ""
         return f"{REFUSED} {self.name}{place}"
 
 
-# What a refusal means and what to do, from the tables of the manual.
+# The meanings of refusals, from the tables of the manual.
 
-CHAPTER = os.path.join(TOP, "docs", "manual", "refusals.md")
+REFUSALS_PATH = os.path.join(TOP, "docs", "manual", "refusals.md")
 
 
 class Meaning(NamedTuple):
-    """What the manual says about a number."""
+    """What the manual says about a fault."""
 
     name: str
-    means: str
-    do: str
+    meaning: str
+    remedy: str
 
 
-def meanings() -> dict[int, Meaning]:
-    """Return the manual's rows by number; nothing if the manual is not installed."""
+def read_meanings() -> dict[int, Meaning]:
+    """Read the manual's rows by fault number; return none if the manual is not installed."""
     by_number: dict[int, Meaning] = {}
     last = ""
-    if not os.path.isfile(CHAPTER):
+    if not os.path.isfile(REFUSALS_PATH):
         return by_number
-    with open(CHAPTER, encoding="utf-8") as file:
+    with open(REFUSALS_PATH, encoding="utf-8") as file:
         for line in file:
             cells = [cell.strip() for cell in line.strip().strip("|").split("|")]
             if len(cells) >= 4 and cells[0].isdecimal():
-                name, means, do = cells[1:4]  # then options that accept it
-                last = do.replace("the same", last) if do.startswith("the same") else do
-                by_number[int(cells[0])] = Meaning(name, means, last)
+                name, meaning, remedy = cells[1:4]  # the next cell has options that accept it
+                last = remedy.replace("the same", last) if remedy.startswith("the same") else remedy
+                by_number[int(cells[0])] = Meaning(name, meaning, last)
     return by_number
 
 
-def named_meanings() -> dict[str, Meaning]:
-    """Return the manual's rows of faults without a number, by name."""
+def read_named_meanings() -> dict[str, Meaning]:
+    """Read the manual's rows about faults without a number, by name."""
     by_name: dict[str, Meaning] = {}
-    if not os.path.isfile(CHAPTER):
+    if not os.path.isfile(REFUSALS_PATH):
         return by_name
-    with open(CHAPTER, encoding="utf-8") as file:
+    with open(REFUSALS_PATH, encoding="utf-8") as file:
         for line in file:
             cells = [cell.strip() for cell in line.strip().strip("|").split("|")]
             name = cells[0].strip("`")
@@ -215,19 +216,19 @@ def named_meanings() -> dict[str, Meaning]:
     return by_name
 
 
-def plain(text: str) -> str:
-    """Return a cell of the manual without Markdown: links as their text."""
+def remove_markup(text: str) -> str:
+    """Remove links and backquotes of Markdown from a cell of the manual."""
     return re.sub(r"\[([^]]*)\]\([^)]*\)", r"\1", text).replace("`", "")
 
 
-def marked_up(text: str) -> Markup:
-    """Return a cell of the manual as markup: code in backquotes, links as their text."""
-    pieces = re.sub(r"\[([^]]*)\]\([^)]*\)", r"\1", text).split("`")
-    return joined(markup("<code>{}</code>", one) if at % 2 else one
-                  for at, one in enumerate(pieces))
+def make_cell_markup(text: str) -> Markup:
+    """Return a cell of the manual as HTML: text in backquotes as code, links as their text."""
+    parts = re.sub(r"\[([^]]*)\]\([^)]*\)", r"\1", text).split("`")
+    return joined(markup("<code>{}</code>", part) if at % 2 else part
+                  for at, part in enumerate(parts))
 
 
-def number_link(line: str) -> Markup:
-    """Return a line `refused NUMBER Name place` without its word; number and name are a link."""
+def make_number_link(line: str) -> Markup:
+    """Return a line `refused NUMBER Name PLACE` as HTML, with number and name as a link."""
     _, number, name, *place = line.split(" ")
     return joined([markup('<a href="#n{}">{} {}</a>', number, number, name), *place], " ")

@@ -1,4 +1,4 @@
-"""Teletext (EN 300 706): codes, characters, national options."""
+"""Teletext (EN 300 706): control bits, characters, national options."""
 from __future__ import annotations
 
 import functools
@@ -6,21 +6,21 @@ import unicodedata
 from typing import Iterator, NamedTuple
 
 
-# Codes of Teletext packets, and pages (EN 300 706).
+# Bytes of Teletext packets (EN 300 706).
 
-CODE_WORDS = bytes.fromhex("1502495E6473382FD0C78C9BA1B6FDEA")  # Hamming 8/4, of 0 to F
-# The number of each byte with at most one wrong bit; else `None`.
+CODE_WORDS = bytes.fromhex("1502495E6473382FD0C78C9BA1B6FDEA")  # Hamming 8/4 codes of 0 to F
+# The number that each byte encodes; `None` if more than one bit is wrong.
 NUMBER: list[int | None] = [None] * 256
 for number, word in enumerate(CODE_WORDS):
     for wrong in (0, 1, 2, 4, 8, 16, 32, 64, 128):
         NUMBER[word ^ wrong] = number
 
-# The control bits C4 to C14: which of a header's eight numbers has it, and its value there.
+# For each control bit C4 to C14: the index in a header's eight numbers, and the bit there.
 CONTROL_BITS = {4: (3, 8), 5: (5, 4), 6: (5, 8), **{7 + bit: (6, 1 << bit) for bit in range(4)},
                 **{11 + bit: (7, 1 << bit) for bit in range(4)}}
 ERASE, NEWSFLASH, SUBTITLE, SUPPRESS, INHIBIT = 4, 5, 6, 7, 10
 
-Page = tuple[int, int]  # its magazine, 0 for 8, and its number
+Page = tuple[int, int]  # magazine (0 is 8) and page number
 
 
 def is_odd(byte: int) -> bool:
@@ -29,19 +29,19 @@ def is_odd(byte: int) -> bool:
 
 
 def has_bit(header: bytes, bit: int) -> bool:
-    """Return whether a control bit, 4 to 14, is set in a header's eight numbers."""
+    """Return whether control bit 4 to 14 is set in a header's eight numbers."""
     place, value = CONTROL_BITS[bit]
     return header[place] & value != 0
 
 
 def page_name(magazine: int, page: int) -> str:
-    """Return a page as 888, by its magazine (0 is 8) and number."""
+    """Format a page, for example as 888, from its magazine (0 is 8) and page number."""
     return f"{magazine or 8}{page:02X}"
 
 
-# The characters of a subtitle file's text (EBU Tech 3264, code table 00, which is ISO 6937).
+# Characters of a subtitle file's text (EBU Tech 3264, code table 00, which is ISO 6937).
 
-# As Unicode puts them after a letter; a space where the table has none.
+# Combining marks of Unicode for the accents C1 to CF; a space if the code is not used.
 ACCENTS = dict(zip(range(0xC1, 0xD0),
                    "\u0300\u0301\u0302\u0303\u0304\u0306\u0307\u0308 "
                    "\u030a\u0327 \u030b\u0328\u030c"))
@@ -56,43 +56,43 @@ UPPER = {
 NO_LETTER = "\ufffd"
 
 
-def letter_of(byte: int) -> str:
-    """Return the character of one byte; 24 is a dollar, as for `subttx`."""
+def decode_byte(byte: int) -> str:
+    """Return the character of a byte; 24 is a dollar, as in the program."""
     return chr(byte) if 0x20 <= byte <= 0x7E else UPPER.get(byte, NO_LETTER)
 
 
-def letters_of(text: bytes) -> str:
-    """Return the characters of text bytes; in code table 00 an accent is before its letter."""
-    text_so_far, at = "", 0
+def decode_text(text: bytes) -> str:
+    """Decode a text in code table 00, which has an accent before its letter."""
+    decoded, at = "", 0
     while at < len(text):
         accent = ACCENTS.get(text[at], " ")
         if accent != " " and at + 1 < len(text):
-            text_so_far += unicodedata.normalize("NFC", letter_of(text[at + 1]) + accent)
+            decoded += unicodedata.normalize("NFC", decode_byte(text[at + 1]) + accent)
             at += 2
         else:
-            text_so_far += letter_of(text[at])
+            decoded += decode_byte(text[at])
             at += 1
-    return text_so_far
+    return decoded
 
 
-# The national options (EN 300 706, Latin national option sub-sets of the default region): a row for
-# each. A new option is a row here and a word in `tools/completion.bash`.
+# National options (EN 300 706, Latin national option sub-sets of the default region).
 #
-# Text bytes are of code table 00 of EBU Tech 3264, which is ISO 6937: a letter with a diacritical
-# mark has two bytes, the mark first. The tools use this to search a recording, to draw a page and
-# to advise; the program decides.
+# A new option is a row here and a word in `tools/completion.bash`. The tools use this table to
+# search a recording, to draw a page and to give advice. The verdict depends only on the program.
 
-PLACES = bytes.fromhex("23 24 40 5B 5C 5D 5E 5F 60 7B 7C 7D 7E")  # the 13 codes of a sub-set
+NATIONAL_CODES = bytes.fromhex("23 24 40 5B 5C 5D 5E 5F 60 7B 7C 7D 7E")
 
-# The bytes with the same cell in each sub-set: colours, boxes, sizes, letters, figures, signs.
+# Bytes that have the same code in all sub-sets: colours, boxes, sizes, letters, figures, signs.
 COMMON = (*range(0x01, 0x0E), 0x1C, 0x1D, *range(0x20, 0x23), *range(0x25, 0x40),
           *range(0x41, 0x5B), *range(0x61, 0x7B))
 
 
 class NationalOption(NamedTuple):
-    """A national option. `bits` is C12 + 2 C13 + 4 C14. `cells` has the bytes or pairs of bytes for
-    each of the 13 places, with commas between, or `-`. `languages` are for a GSI block (LC),
-    `tracks` for a PMT."""
+    """A national option.
+
+    `bits` is C12 + 2 C13 + 4 C14. `cells` has the bytes of a text for each of `NATIONAL_CODES`, or
+    `-`. `languages` are the codes in a GSI block (LC), `tracks` those in a PMT.
+    """
 
     word: str
     name: str
@@ -127,97 +127,96 @@ CZECH = NationalOption(
     "ces cze slk slo")
 
 OPTIONS = (ENGLISH, GERMAN, SWEDISH, ITALIAN, FRENCH, SPANISH, CZECH)
-WORDS = tuple(one.word for one in OPTIONS)
+OPTION_WORDS = tuple(one.word for one in OPTIONS)
 BY_WORD = {one.word: one for one in OPTIONS}
 BY_BITS = {one.bits: one for one in OPTIONS}
-RESERVED = 7  # no option in the default region has C12, C13 and C14 set
-# Languages of a PMT for which receivers use another region.
+RESERVED = 7  # C12, C13 and C14 are set in no option of the default region
+# Languages in a PMT for which receivers use another region.
 OTHER_REGIONS = ("ara bul ell est gre heb hrv lit pol ron rum rus scc scr slv srp ukr").split()
-UNKNOWN = "\u25a1"  # a character of an unknown option
-MARKS = {byte for byte, mark in ACCENTS.items() if mark != " "}  # diacritical marks
+UNKNOWN_CHARACTER = "\u25a1"  # a character of an unknown option
+ACCENT_BYTES = {byte for byte, mark in ACCENTS.items() if mark != " "}  # diacritical marks
 
-def named_by(language: bytes) -> NationalOption:
-    """Return the option of a GSI block's language (LC); English by default."""
+def option_for_language(language: bytes) -> NationalOption:
+    """Return the option for the language of a GSI block (LC); English by default."""
     word = language.decode("ascii", "replace").upper()
     return next((option for option in OPTIONS if word in option.languages.split()), ENGLISH)
 
 
-def of_track(language: str) -> NationalOption | None:
-    """Return the option for a PMT's language, if there is one."""
+def option_for_track(language: str) -> NationalOption | None:
+    """Return the option for the language of a PMT; `None` if there is none."""
     return next((option for option in OPTIONS if language.lower() in option.tracks.split()), None)
 
 
-def as_sent(option: NationalOption) -> int:
-    """Return C12, C13 and C14 of an option, C12 first, as packets X/28 and M/29 have them."""
+def reverse_option_bits(option: NationalOption) -> int:
+    """Return 4 C12 + 2 C13 + C14 of an option, the order of packets X/28 and M/29."""
     return sum((option.bits >> at & 1) << 2 - at for at in range(3))
 
 
 @functools.lru_cache(maxsize=None)
-def cells_of(option: NationalOption) -> dict[bytes, int]:
-    """Return the cells of the option's own 13 characters, by their bytes."""
+def option_cells(option: NationalOption) -> dict[bytes, int]:
+    """Return the codes of the option's own 13 characters, by their bytes in a text."""
     return {bytes.fromhex(one): place
-            for place, words in zip(PLACES, option.cells.split())
+            for place, words in zip(NATIONAL_CODES, option.cells.split())
             for one in words.split(",") if one != "-"}
 
 
-def cells_in(text: bytes, option: NationalOption) -> Iterator[tuple[int, int, int | None]]:
-    """Yield the offset, the first byte and the cell of each character; `None` if it has no cell."""
-    own, at = cells_of(option), 0
+def split_cells(text: bytes, option: NationalOption) -> Iterator[tuple[int, int, int | None]]:
+    """Yield the offset, first byte and code of each character in a text; `None` if it has no code.
+    """
+    own, at = option_cells(option), 0
     while at < len(text):
-        size = 2 if text[at:at + 2] in own and text[at] in MARKS else 1
+        size = 2 if text[at:at + 2] in own and text[at] in ACCENT_BYTES else 1
         yield at, text[at], own.get(text[at:at + size], text[at] if text[at] in COMMON else None)
         at += size
 
 
-def codes_of(text: bytes, option: NationalOption) -> list[int | None]:
-    """Return the codes of a line's characters; `None` for one without a code."""
-    return [cell for _, _, cell in cells_in(text, option)]
+def encode_line(text: bytes, option: NationalOption) -> list[int | None]:
+    """Return the code of each character in a line; `None` if it has no code."""
+    return [cell for _, _, cell in split_cells(text, option)]
 
 
 def has_characters(text: bytes, option: NationalOption) -> bool:
-    """Return whether the option has all characters of a text, control codes aside."""
+    """Return whether an option has all characters of a text, ignoring control codes."""
     shown = bytes(byte for byte in text if byte not in range(0x80, 0x90))
-    return None not in codes_of(shown, option)
+    return None not in encode_line(shown, option)
 
 
-def letter_at(text: bytes, at: int) -> bytes:
-    """Return the byte at an offset, with the next letter if it is a diacritical mark."""
-    is_pair = text[at] in MARKS and text[at + 1:at + 2].isalpha()
+def character_bytes(text: bytes, at: int) -> bytes:
+    """Return the byte at an offset; if it is an accent, also the letter after it."""
+    is_pair = text[at] in ACCENT_BYTES and text[at + 1:at + 2].isalpha()
     return text[at:at + 1 + is_pair]
 
 
-def options_with(letter: bytes) -> list[NationalOption]:
+def find_options(letter: bytes) -> list[NationalOption]:
     """Return the options that have a character."""
     if len(letter) == 1 and letter[0] in COMMON:
         return list(OPTIONS)
-    return [option for option in OPTIONS if letter in cells_of(option)]
+    return [option for option in OPTIONS if letter in option_cells(option)]
 
 
-def character_of(letter: bytes) -> str | None:
-    """Return the character of a byte or a pair of bytes of code table 00, if there is one."""
-    if len(letter) == 1 and letter[0] in MARKS:
+def decode_character(letter: bytes) -> str | None:
+    """Decode a byte or a pair of bytes in code table 00; return `None` if it is no character."""
+    if len(letter) == 1 and letter[0] in ACCENT_BYTES:
         return None
-    character = letters_of(letter)
+    character = decode_text(letter)
     return None if NO_LETTER in character or len(character) != 1 else character
 
 
-# The characters of the codes 20 to 7F under each national option (EN 300 706, Latin G0).
-#
-# `test_national` compares them with libzvbi.
-
+# Characters of codes 20 to 7F in each national option (EN 300 706, Latin G0).
 BLOCK = "\u25a0"  # code 7F
 
 
 @functools.lru_cache(maxsize=None)
-def letters(option: int) -> list[str]:
-    """Return the character of each code; a space for a spacing attribute. `option` is C12 + 2 C13 +
-    4 C14 of a page header."""
+def character_table(option: int) -> list[str]:
+    """Return the character of each code 00 to 7F; a space for a spacing attribute. `option` is C12
+    + 2 C13 + 4 C14 of a page header."""
     table = [" "] * 32 + [chr(code) for code in range(32, 127)] + [BLOCK]
     national = BY_BITS.get(option)
-    for code, letter in zip(PLACES, national.characters if national else UNKNOWN * len(PLACES)):
+    for code, letter in zip(NATIONAL_CODES, national.characters if national else UNKNOWN_CHARACTER *
+                            len(NATIONAL_CODES)):
         table[code] = letter
     return table
 
 
-# The start of a PES packet of private_stream_1, as Teletext has (EN 300 472).
+# The first bytes of a PES packet of private_stream_1, which carries Teletext (EN 300 472).
 START = b"\0\0\1\xbd"

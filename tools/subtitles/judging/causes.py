@@ -203,7 +203,7 @@ class CauseFinder(PageTransmissions):
         if words != join_page_text(due):
             places = self.expected.by_text.get(words)
             if places and words:
-                other = self.expected.nearest(places, subtitle.begin)
+                other = self.expected.find_nearest(places, subtitle.begin)
                 return self.make_other_text_cause(place, other,
                                                   subtitle.end)._replace(sent_page=sent)
             return Cause(place, WRONG_TEXT, None, sent, None,

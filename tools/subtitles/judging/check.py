@@ -13,10 +13,12 @@ from typing import BinaryIO, Callable, Iterator, NamedTuple
 from ..common.files import naming, pieces_of
 from ..common.times import FRAMES_OF_A_DAY, Spans
 from ..formats.listing import (
-    ENDED, FaultLine, PASSED_OVER, REFUSED, STL_FAULTS, UNDECIDED, accepted_of, count_of,
-    fault_of_line, frame_of_place, is_line, line_words, number_of, trusted_of)
-from ..request.commands import CommandWords, Listener, Names
-from ..request.request import Request, Unsaid
+    ENDED, FaultLine, SKIPPED_PACKETS, REFUSED, STL_FAULTS, UNDECIDED, parse_accepted_line,
+    parse_count_line,
+    parse_fault_line, parse_place_time, is_check_line, split_line, parse_fault_number,
+    parse_trusted_line)
+from ..request.commands import CommandPaths, Listener, OutputNames
+from ..request.request import Request, IncompleteAnswer
 from .status import CheckSummary, NOT_ANSWERED, NOT_JUDGED, decide_part
 
 
@@ -74,7 +76,7 @@ class CheckOutput:
         """Read a line `refused`, split into words."""
         number, place = int(words[1]), words[3:5]
         if number not in self.counts_by_number:
-            fault = fault_of_line(line)
+            fault = parse_fault_line(line)
             if fault:
                 self.first_faults[number] = fault
             self.first_fault = self.first_fault or fault
@@ -82,9 +84,9 @@ class CheckOutput:
         self.fault_count += 1
         self.counts_by_number[number] += 1
         if place[:1] == ["frame"]:
-            frame = frame_of_place(place[1])
+            frame = parse_place_time(place[1])
             self.fault_spans.setdefault(number, Spans()).add(frame, frame)
-        elif number in PASSED_OVER and place[:1] == ["pes"]:
+        elif number in SKIPPED_PACKETS and place[:1] == ["pes"]:
             self.skipping_fault = words[1]
             self.skipped_packets.add(int(place[1]), int(place[1]))
 
@@ -97,7 +99,7 @@ class CheckOutput:
         if kind == "frame":
             self.fault_ends[index] = FaultEnd(value, None)
             marks = self.fault_spans[number]
-            marks.add(marks.begins[-1], frame_of_place(value))
+            marks.add(marks.begins[-1], parse_place_time(value))
         else:
             self.fault_ends[index] = FaultEnd(None, int(value))
             if words[1] == self.skipping_fault:
@@ -114,27 +116,28 @@ class CheckOutput:
         with naming(self.path):
             self.file.write(line.encode() + b"\n")
         self.last_line, self.is_accepted = line, False
-        words = line_words(line)
+        words = split_line(line)
         if words[0] == REFUSED and words[1:] and words[1].isascii() and words[1].isdecimal():
             self.read_fault(line, words)
-        elif words[0] == ENDED and is_line(line):
+        elif words[0] == ENDED and is_check_line(line):
             self.read_end(words)
-        elif accepted := accepted_of(line):
+        elif accepted := parse_accepted_line(line):
             self.frames, self.transmissions = accepted
             self.is_accepted = True
-        elif trusted := trusted_of(line):
-            self.trusted_frames.add(*map(frame_of_place, trusted))
-        elif self.unknown_line is None and not is_line(line):
+        elif trusted := parse_trusted_line(line):
+            self.trusted_frames.add(*map(parse_place_time, trusted))
+        elif self.unknown_line is None and not is_check_line(line):
             self.unknown_line = line
 
     def finish(self, status: int) -> None:
-        """Store the exit status of `check`; raise `Unsaid` if the output is not a verdict."""
+        """Store the exit status of `check`; raise `IncompleteAnswer` if it printed no verdict."""
         with naming(self.path):
             self.file.close()
         self.exit_status = status
         if self.verdict == NOT_JUDGED:
             line = self.last_line if self.unknown_line is None else self.unknown_line
-            raise Unsaid(f"{NOT_ANSWERED}: {line or 'it printed nothing'}, status {status}")
+            raise IncompleteAnswer(
+            f"{NOT_ANSWERED}: {line or 'it printed nothing'}, status {status}")
 
     def close_file(self) -> None:
         """Close the file of a list that is incomplete."""
@@ -175,7 +178,7 @@ class CheckOutput:
         not judged."""
         is_clear = self.unknown_line is None
         is_list = is_clear and self.first_fault is not None and self.frames is None
-        counted = count_of(self.last_line) if is_list else None
+        counted = parse_count_line(self.last_line) if is_list else None
         return CheckSummary(self.exit_status, is_clear and self.is_accepted, self.fault_count,
                             counted, self.fault_numbers, is_read)
 
@@ -188,9 +191,9 @@ class CheckOutput:
         """Return a copy at `path` without the faults of one number."""
         made = CheckOutput(path)
         for line in self.read_lines():
-            if count_of(line) is not None:
+            if parse_count_line(line) is not None:
                 made.read_line(f"{made.fault_count} faults")
-            elif number_of(line) != number:
+            elif parse_fault_number(line) != number:
                 made.read_line(line)
         made.finish(self.exit_status or 0)
         return made
@@ -212,7 +215,7 @@ class CheckOutput:
 
     def read_faults(self) -> Iterator[tuple[FaultLine, FaultEnd]]:
         """Yield the faults in the order of the list, each with its end."""
-        faults = (fault for fault in map(fault_of_line, self.read_lines()) if fault
+        faults = (fault for fault in map(parse_fault_line, self.read_lines()) if fault
                   and fault.is_fault)
         return ((fault, self.fault_ends.get(index, NO_END)) for index, fault in enumerate(faults))
 
@@ -243,14 +246,15 @@ def run_check(command: list[str], output: CheckOutput,
 NO_PES = os.devnull
 
 
-def check_file_alone(request: Request, program: str, names: Names) -> CheckOutput:
+def check_file_alone(request: Request, program: str, names: OutputNames) -> CheckOutput:
     """Check the subtitle file without PES packets, and report nothing."""
-    return run_check([program, "check", *request.check_words(True), "--all", "--", names.given,
-                      NO_PES],
-                     CheckOutput(names.temporary("alone.txt")), lambda line: None)
+    return run_check([program, "check", *request.check_arguments(True), "--all", "--",
+                      names.program_stl, NO_PES],
+                     CheckOutput(names.temporary_path("alone.txt")), lambda line: None)
 
 
-def report_file_check(request: Request, typed: CommandWords, listener: Listener) -> None:
+def report_file_check(request: Request, command_paths: CommandPaths, listener: Listener) -> None:
     """Report the command that checks the subtitle file alone."""
-    listener.written(typed.program_word, "check", request.stl, NO_PES, *request.check_words(True),
+    listener.add_command(command_paths.program_command, "check", request.stl, NO_PES,
+                         *request.check_arguments(True),
                      "--all")

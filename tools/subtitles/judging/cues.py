@@ -10,9 +10,9 @@ from ..common.command_line import counted
 from ..common.shapes import Members
 from ..common.times import Span, joined_spans, pts_of, ticks_between, time_of, wrapped
 from ..formats.listing import BEGIN, FaultLine, STL_FAULTS, WITH_CAUSE
-from ..formats.stl import COMMENT, LAST, NamedSubtitle, Subtitle, SubtitleFile, USER_DATA, \
-    subtitles_read
-from ..formats.teletext import BY_WORD, letters_of
+from ..formats.stl import COMMENT, LAST_BLOCK, NamedSubtitle, Subtitle, SubtitleFile, USER_DATA, \
+    decode_subtitles
+from ..formats.teletext import BY_WORD, decode_text
 from ..stream.receiver import BLANK_PAGE, Rows, Timeline
 from .causes import (
     Cause, CauseDescriber, EARLY, LATE, NOT_RECEIVED, OTHER_TEXT, UNKNOWN_CAUSE, WRONG_ATTRIBUTE,
@@ -223,27 +223,27 @@ def find_refused_subtitles(part: Part, file: SubtitleFile, beside: ValidSubtitle
     for _, several in itertools.groupby(faults, lambda fault: find_first_block(file, fault)):
         group = list(several)
         block = group[0].block
-        subtitle = None if block is None else file.at_block(block)
+        subtitle = None if block is None else file.find_by_block(block)
         left_out.discard(subtitle.position if subtitle else 0)
         yield SubtitleFaults(subtitle, group)
     for position in sorted(left_out):
-        yield SubtitleFaults(file.at_block(file.starts[position - 1]), [])
+        yield SubtitleFaults(file.find_by_block(file.start_blocks[position - 1]), [])
 
 
 def find_first_block(file: SubtitleFile, fault: FaultLine) -> int:
     """Return the first block of the subtitle of a fault."""
     block = fault.block or 0
-    return file.firsts[block] if block < len(file.firsts) else block
+    return file.first_blocks[block] if block < len(file.first_blocks) else block
 
 
 def read_block_text(file: SubtitleFile, block: int) -> bytes:
     """Return the text of a block's subtitle, as far as the file has blocks of that subtitle."""
-    first, last = file.firsts[block], block
-    for number in range(block, len(file.firsts)):
+    first, last = file.first_blocks[block], block
+    for number in range(block, len(file.first_blocks)):
         data = file.block(number)
-        if file.firsts[number] == first and data[3] != USER_DATA and data[15] != COMMENT:
+        if file.first_blocks[number] == first and data[3] != USER_DATA and data[15] != COMMENT:
             last = number
-            if data[3] == LAST:
+            if data[3] == LAST_BLOCK:
                 break
     return file.text(last)
 
@@ -313,8 +313,8 @@ def make_judged_rows(part: Part, severity: Severity) -> Iterator[Members]:
             "verdict": verdict.word, "reason": judge.describe_reason(verdict) or None,
             "complete_after": part.delays[place] if part.delays else None}
     if part.recording is None and not part.check_output.fault_numbers:
-        for subtitle in subtitles_read(part.open_subtitle_file().data):
-            text = " / ".join(map(letters_of, subtitle.text.split(b"\x8a")))
+        for subtitle in decode_subtitles(part.open_subtitle_file().data):
+            text = " / ".join(map(decode_text, subtitle.text.split(b"\x8a")))
             yield make_file_row(part, NamedSubtitle(
                 subtitle.index, subtitle.number, time_of(subtitle.begin), time_of(subtitle.end)),
                 RIGHT, None, text)
@@ -323,7 +323,7 @@ def make_judged_rows(part: Part, severity: Severity) -> Iterator[Members]:
 def make_refused_rows(part: Part, severity: Severity, beside: ValidSubtitles | None) \
         -> Iterator[Members]:
     """Yield the JSON rows of the subtitles with faults in the subtitle file."""
-    file = SubtitleFile(part.names.given, part.request.between)
+    file = SubtitleFile(part.names.program_stl, part.request.between)
     for refused in find_refused_subtitles(part, file, beside):
         if refused.subtitle and (refused.faults or beside):
             word = NOT_KNOWN if not refused.faults else \

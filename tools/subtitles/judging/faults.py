@@ -10,10 +10,10 @@ from ..common.shapes import Members
 from ..common.times import frame_at, frame_of, time_of
 from ..formats.listing import (
     BEGIN, CHARACTER, CONTENT, CONTROL, DISPLAY, EMPTY_TIME, END, FaultLine, GAP, LETTERS,
-    NamedFault, OFF_FRAME, OUT_OF_ORDER, PARITY, PASSED_OVER, SILENT, STL_FAULTS, WITH_CAUSE,
-    meanings, named_meanings, plain)
+    NamedFault, OFF_FRAME, OUT_OF_ORDER, PARITY, SKIPPED_PACKETS, SILENT, STL_FAULTS, WITH_CAUSE,
+    read_meanings, read_named_meanings, remove_markup)
 from ..formats.stl import NamedSubtitle, NEW_LINE, SubtitleFile, subtitle_name
-from ..formats.teletext import BY_WORD, character_of, letter_at, letters
+from ..formats.teletext import BY_WORD, decode_character, character_bytes, character_table
 from ..request.request import Request
 from ..stream.gaps import explain_refusal
 from ..stream.pace import frame_rows
@@ -157,7 +157,7 @@ def describe_subtitle_at(frame: int, part: Part) -> str:
     """Describe the subtitle expected at a frame with its text; in a pause, the page and the
     subtitle before."""
     due = part.expected_pages()
-    count, is_due = due.due(frame)
+    count, is_due = due.count_begun(frame)
     if not is_due:
         return f"the page after {due.subtitles[count - 1].name}" if count else "the page"
     text = format_page_text(due.pages[count - 1], BY_WORD[part.request.option].bits)
@@ -176,7 +176,7 @@ def describe_parity_fault(fault: FaultLine, part: Part) -> str:
     if code is None:
         what = "a byte"
     elif code > SPACE:
-        what = f'the character "{letters(BY_WORD[part.request.option].bits)[code]}"'
+        what = f'the character "{character_table(BY_WORD[part.request.option].bits)[code]}"'
     else:
         what = f"a byte ({describe_code(code)})"
     return f"{what} of {describe_subtitle_at(fault.frame, part)} has even parity"
@@ -213,7 +213,7 @@ def describe_unrecorded(fault: FaultLine, part: Part) -> str:
 def describe_block_subtitle(fault: FaultLine, subtitles: SubtitleFile) -> str:
     """Describe the subtitle of the block of a fault, with its time and text; an empty text without
     a block."""
-    subtitle = subtitles.at_block(fault.block) if fault.block else None
+    subtitle = subtitles.find_by_block(fault.block) if fault.block else None
     if subtitle is None or not fault.block:
         return ""
     name = subtitle_name(subtitle.position, subtitle.number)
@@ -227,8 +227,8 @@ def format_stored_text(text: bytes) -> str:
     for line in text.split(NEW_LINE):
         at, characters = 0, ""
         while at < len(line):
-            letter = letter_at(line, at)
-            characters += (character_of(letter) or "") if line[at] > SPACE else " " * (
+            letter = character_bytes(line, at)
+            characters += (decode_character(letter) or "") if line[at] > SPACE else " " * (
                 line[at] == SPACE)
             at += len(letter)
         lines += [characters.strip()] * bool(characters.strip())
@@ -262,7 +262,7 @@ def describe_longest_gap(sent: tuple[Sequence[int], Sequence[int]], origin: int,
                       is not None] for some in sent)
     end = last[0] + 1 if last else 0
     gap = longest_gap([*headers, end] if headers and end > headers[-1] else headers)
-    if gap <= request.every or numbers & PASSED_OVER:
+    if gap <= request.every or numbers & SKIPPED_PACKETS:
         return ""
     words = f"the page had no header for up to {counted(gap, 'frame')}"
     usual = repeat_distance(headers, cue_frames(times))
@@ -277,9 +277,10 @@ class PartFaults:
 
     def __init__(self, verdict: Verdict, part: Part) -> None:
         self.verdict, self.part, self.request = verdict, part, verdict.request
-        self.letters: list[str] = letters(BY_WORD[self.request.option].bits)
-        self.meanings = {number: (plain(meaning.means), plain(meaning.do))
-                         for number, meaning in meanings().items()}
+        self.letters: list[str] = character_table(BY_WORD[self.request.option].bits)
+        self.read_meanings = {number: (remove_markup(meaning.meaning),
+                                       remove_markup(meaning.remedy))
+                         for number, meaning in read_meanings().items()}
         self.wording = CauseDescriber(part.causes, self.request.option) if part.causes else None
         self.subtitles = part.open_subtitle_file()
         self.character_advice = OptionAdvice(self.subtitles, self.request.option)
@@ -294,10 +295,10 @@ class PartFaults:
             fault.frame is not None else None
         place = NO_PLACE if is_stl else find_fault_place(
             fault, self.part.packets, self.part.decoded_pages, due)
-        byte, character = self.subtitles.letter(fault.block, fault.at) \
+        byte, character = self.subtitles.describe_byte(fault.block, fault.at) \
             if fault.number in LETTERS and fault.block and fault.at is not None else (None, None)
         subtitle = self.find_subtitle(fault)
-        means, do = self.meanings.get(fault.number, ("", ""))
+        means, do = self.read_meanings.get(fault.number, ("", ""))
         if fault.number == CHARACTER and fault.block and fault.at is not None:
             do = self.character_advice.advise(fault.block, fault.at) or do
         if fault.number == DISPLAY:
@@ -331,8 +332,8 @@ class PartFaults:
     def find_subtitle(self, fault: FaultLine) -> NamedSubtitle | None:
         """Return the subtitle of the block of a fault, or the subtitle expected at its frame."""
         if fault.block is not None:
-            return self.subtitles.at_block(fault.block)
-        return self.subtitles.at_frame(fault.frame) if fault.frame is not None else None
+            return self.subtitles.find_by_block(fault.block)
+        return self.subtitles.find_by_frame(fault.frame) if fault.frame is not None else None
 
     def format_time(self, pts: int | None) -> str | None:
         """Return the time code of a PTS, or `None` if the PTS is not that of a frame."""
@@ -367,15 +368,15 @@ def make_named_fault(verdict: Verdict, fault: NamedFault) -> Members:
     part = next((part for part in verdict.parts if part.number == fault.part), None)
     file = part.open_subtitle_file() if part else None
     frame = frame_of(fault.time) if fault.time else None
-    subtitle = None if file is None else file.at_block(fault.block) \
-        if fault.block is not None else file.at_frame(frame) if frame is not None else None
-    meaning = named_meanings().get(fault.name)
+    subtitle = None if file is None else file.find_by_block(fault.block) \
+        if fault.block is not None else file.find_by_frame(frame) if frame is not None else None
+    meaning = read_named_meanings().get(fault.name)
     return {**dict.fromkeys(KEYS_WITHOUT_NUMBER), "part": fault.part, "line": fault.line,
             "name": fault.name, "severity": verdict.severity.classify(fault.name),
             "file": "pes" if fault.block is None else "stl", "block": fault.block,
             "subtitle": subtitle and make_subtitle(subtitle), "frame": frame,
-            "time": fault.time, "last_time": fault.until, "meaning": fault.words,
-            "remedy": plain(meaning.do) if meaning else ""}
+            "time": fault.time, "last_time": fault.until, "meaning": fault.text,
+            "remedy": remove_markup(meaning.remedy) if meaning else ""}
 
 
 def make_faults(verdict: Verdict) -> Iterator[Members]:

@@ -9,7 +9,7 @@ from ..common.command_line import counted
 from ..common.times import time_of
 from ..formats.listing import NamedFault, NOT_SHOWN
 from ..formats.stl import Subtitle, SubtitleFile
-from ..formats.teletext import BY_WORD, NationalOption, letters
+from ..formats.teletext import BY_WORD, NationalOption, character_table
 from ..recording.notices import Notice
 from ..stream.layout import find_sent_subtitles
 from ..stream.receiver import Rows, Timeline
@@ -58,7 +58,7 @@ def join_page_text(rows: Rows) -> str:
 
 def format_page_text(rows: Rows, option: int) -> str:
     """Return the text of a page row by row, with the characters of a national option."""
-    table = letters(option)
+    table = character_table(option)
     return " / ".join("".join(table[code & 0x7F] for code in line.text)
                       for line in find_text_rows(rows))
 
@@ -294,7 +294,7 @@ def find_visibility(cells: bytes) -> Visibility:
 
 def describe_hidden_characters(cells: bytes, option: str) -> str:
     """Describe which characters of a row are hidden, by which decoders, and why."""
-    table = letters(BY_WORD[option].bits)
+    table = character_table(BY_WORD[option].bits)
 
     def text(several: Sequence[Cell]) -> str:
         return '"' + "".join(table[cell.code] for cell in several) + '"'
@@ -337,7 +337,7 @@ def find_hidden_rows(subtitles: Sequence[Subtitle], pages: Sequence[Rows], file:
                 f"{describe_hidden_characters(cells, option)}"
             if sight == Visibility.NONE:
                 hidden.faults.append(NamedFault(
-                    NOT_SHOWN, words, block=file.starts[subtitle.index - 1]))
+                    NOT_SHOWN, words, block=file.start_blocks[subtitle.index - 1]))
             else:
                 hidden.warnings.append(Notice(HIDDEN, words, time_of(subtitle.begin)))
     return hidden

@@ -10,16 +10,16 @@ from ..clock.start import TimedPart
 from ..common.command_line import Stop, counted
 from ..common.files import file_of
 from ..common.times import ALL_DAY, Between, FRAMES_OF_A_DAY, pts_of, time_of
-from ..formats.layout import PLAIN, layout_of, letters_of_text
+from ..formats.layout import PLAIN, parse_layout, find_text_letters
 from ..formats.listing import CONTENT, CONTROL, EMPTY, STL_FAULTS, WITH_CAUSE
-from ..formats.stl import Subtitle, SubtitleFile, subtitles_read
+from ..formats.stl import Subtitle, SubtitleFile, decode_subtitles
 from ..formats.teletext import BY_WORD
 from ..recording import notices
 from ..recording.notices import NeverSent, Notice, refuse_dead_source, refuse_other_pid
 from ..recording.recording import Recording, refuse_files
-from ..request.commands import CommandWords, Listener, Names, again
+from ..request.commands import CommandPaths, Listener, OutputNames, make_qc_command
 from ..request.request import (
-    OPTION_CHOICE, Request, Selection, Unclear, Unsaid, option_line)
+    OPTION_CHOICE, Request, Selection, Unclear, IncompleteAnswer, describe_option)
 from ..stream.packets import HEADER
 from .causes import Causes
 from .check import CheckOutput, check_file_alone, report_file_check, run_check
@@ -94,17 +94,19 @@ def list_check_options(part: Part) -> list[str]:
     """Return the options of `check` for a part."""
     recording, alignment = part.judged_recording
     first, last = part.pes or (0, 0)
-    return [*recording.words(), "--pes", f"{first}-{last}", *part.request.check_words(),
+    return [*recording.words(), "--pes", f"{first}-{last}", *part.request.check_arguments(),
             *(["--origin", str(alignment.origin)] if alignment.origin else [])]
 
 
-def check_part(part: Part, command_words: CommandWords, listener: Listener) -> None:
+def check_part(part: Part, command_paths: CommandPaths, listener: Listener) -> None:
     """Run `check` on the PES packets of a part, and list all faults."""
     recording, words = part.judged_recording[0], [*list_check_options(part), "--all"]
-    listener.written(command_words.program_word, "check", part.request.stl, recording.shown, *words)
-    run_check([command_words.program_path, "check", *words, "--", part.names.given, recording.path],
-              part.check_output, listener.speech.of_list)
-    listener.speech.end_list(part.check_output.last_line)
+    listener.add_command(command_paths.program_command, "check", part.request.stl, recording.shown,
+                         *words)
+    run_check([command_paths.program_path, "check", *words, "--", part.names.program_stl,
+               recording.path],
+              part.check_output, listener.printer.print_list_line)
+    listener.printer.end_list(part.check_output.last_line)
 
 
 # The steps of judging
@@ -140,25 +142,25 @@ def find_nearest_pauses(subtitles: Sequence[Subtitle], at: int) -> list[int]:
 class PairJudge:
     """Judge one pair step by step, and collect the results in `verdict`."""
 
-    def __init__(self, verdict: Verdict, command_words: CommandWords, names: Names,
+    def __init__(self, verdict: Verdict, command_paths: CommandPaths, names: OutputNames,
                  listener: Listener, is_result_written: bool) -> None:
         self.verdict, self.request = verdict, verdict.request
-        self.command_words, self.names, self.listener = command_words, names, listener
+        self.command_paths, self.names, self.listener = command_paths, names, listener
         self.is_result_written = is_result_written
         self.recording: Recording | None = None
         self.current_part: Part | None = None  # the part that is being judged, or was last
 
     def format_call(self, *more: str) -> str:
         """Return the command line of this call with more arguments."""
-        return again(self.request, self.command_words, *more)
+        return make_qc_command(self.request, self.command_paths, *more)
 
     def judge(self) -> None:
         """Judge the pair; raise `Unclear` if the operator must settle something first."""
         request = self.request
         refuse_files(request)
         if request.language is not None:
-            self.listener.chosen(Selection(
-                OPTION_CHOICE, request.option, option_line(request)))
+            self.listener.add_selection(Selection(
+                OPTION_CHOICE, request.option, describe_option(request)))
         answer = self.judge_file()
         is_refused = answer.fault_numbers != {EMPTY}
         if not is_refused:
@@ -182,7 +184,7 @@ class PairJudge:
             self.verdict.recording = self.recording.file
             self.verdict.named_faults.append(never.fault)
             for line in self.recording.survey.lines():
-                self.listener.said(line)
+                self.listener.print_line(line)
 
     def stop(self, now: str) -> str:
         """Keep the faults reported before a signal came. Return `now` with the time up to which the
@@ -207,20 +209,21 @@ class PairJudge:
         answer = self.check_alone()
         if has_valid_subtitles(answer.fault_numbers):
             answer = self.find_valid_subtitles(answer)
-        file = SubtitleFile(self.names.given)
+        file = SubtitleFile(self.names.program_stl)
         verdict.warnings += notices.count_notices(file)
         if request.from_time is None and (title := advise_on_title(file)):
-            self.listener.noted(title)
+            self.listener.add_notes(title)
         return answer
 
     def check_hidden_rows(self) -> None:
         """Add faults for rows that no receiver shows, and warnings for rows that some receivers
         hide."""
-        request, file = self.request, SubtitleFile(self.names.given)
-        if not may_hide_rows(subtitles_read(file.data), bool(request.layout)):
+        request, file = self.request, SubtitleFile(self.names.program_stl)
+        if not may_hide_rows(decode_subtitles(file.data), bool(request.layout)):
             return
         due = self.make_expected_pages(request, read_subtitles(
-            self.command_words.program_path, self.names.given, request.between, request.is_open))
+            self.command_paths.program_path, self.names.program_stl, request.between,
+            request.is_open))
         hidden = find_hidden_rows(due.subtitles, due.pages, file, request.option)
         self.verdict.named_faults += hidden.faults
         self.verdict.warn(hidden.warnings)
@@ -228,19 +231,20 @@ class PairJudge:
     def check_alone(self) -> CheckOutput:
         """Return the faults of the subtitle file; the fault of missing PES packets is among them.
         """
-        answer = check_file_alone(self.request, self.command_words.program_path, self.names)
+        answer = check_file_alone(self.request, self.command_paths.program_path, self.names)
         if answer.verdict != REFUSED or not answer.fault_numbers <= STL_FAULTS | {EMPTY}:
-            raise Unsaid(f"{NOT_ANSWERED}: {answer.last_line}, though there is no PES packet")
+            raise IncompleteAnswer(
+                f"{NOT_ANSWERED}: {answer.last_line}, though there is no PES packet")
         return answer
 
     def find_valid_subtitles(self, answer: CheckOutput) -> CheckOutput:
         """Store which subtitles are judged though others are refused. Return the faults of the file
         alone."""
         if self.request.recording is not None:
-            file = SubtitleFile(self.names.given, self.request.between)
+            file = SubtitleFile(self.names.program_stl, self.request.between)
             faults = (fault for fault, _ in answer.read_faults())
             self.verdict.valid_subtitles = find_valid_subtitles(file, faults, self.request.option)
-        return answer.copy_without(EMPTY, self.names.temporary("refused.txt"))
+        return answer.copy_without(EMPTY, self.names.temporary_path("refused.txt"))
 
     @property
     def skipped_positions(self) -> frozenset[int]:
@@ -250,12 +254,12 @@ class PairJudge:
 
     def judge_alone(self, answer: CheckOutput, is_refused: bool) -> None:
         """Finish a pair whose subtitle file is refused, or that has no recording."""
-        report_file_check(self.request, self.command_words, self.listener)
+        report_file_check(self.request, self.command_paths, self.listener)
         answer.move_file(self.names.list_path)
         if is_refused:
             for line in answer.read_lines():
-                self.listener.speech.of_list(line)
-            self.listener.speech.end_list(answer.last_line)
+                self.listener.printer.print_list_line(line)
+            self.listener.printer.end_list(answer.last_line)
         else:
             count = self.verdict.subtitle_count = len(self.find_subtitles())
             answer.accept_file(f"{counted(count, 'subtitle')} without a fault")
@@ -274,7 +278,7 @@ class PairJudge:
         between = self.request.between
         if self.verdict.valid_subtitles:
             return self.verdict.valid_subtitles.judged
-        subtitles = read_subtitles(self.command_words.program_path, self.names.given, between,
+        subtitles = read_subtitles(self.command_paths.program_path, self.names.program_stl, between,
                                    self.request.is_open)
         if not subtitles and between != ALL_DAY:
             raise Unclear(f"{self.request.stl} has no subtitle with a TCI at "
@@ -295,7 +299,7 @@ class PairJudge:
         clock = get_given_clock(request) or NO_CLOCK
         programme = PartSearch(request, TimedPart(subtitles[0].begin, subtitles[-1].end, clock),
                               request.pes, self.skipped_positions, self.is_continued(subtitles[0]))
-        self.recording = recording = Recording(request, self.command_words, self.names,
+        self.recording = recording = Recording(request, self.command_paths, self.names,
                                                self.listener, [(subtitle.begin, subtitle.end)
                                                 for subtitle in subtitles])
         recording.read(self.is_result_written)
@@ -304,7 +308,7 @@ class PairJudge:
         if request.pes is None:
             option = BY_WORD[request.option]
             refuse_dead_source(request, recording.survey, recording.packets, [
-                (one.begin, one.end) for one in subtitles if letters_of_text(one.text, option)])
+                (one.begin, one.end) for one in subtitles if find_text_letters(one.text, option)])
         clocks = find_parts(programme, recording, self.listener)
         first, last = clocks.alignments[0], clocks.alignments[-1]
         refuse_other_pid(request, recording.survey, pts_of(first.begin, first.origin),
@@ -319,8 +323,8 @@ class PairJudge:
         if not request.between.begin and not self.skipped_positions:
             return False
         return any(one.begin < first.begin <= one.end + request.within
-                   and letters_of_text(one.text, option) == letters_of_text(first.text, option)
-                   for one in subtitles_read(SubtitleFile(self.names.given).data))
+                   and find_text_letters(one.text, option) == find_text_letters(first.text, option)
+                   for one in decode_subtitles(SubtitleFile(self.names.program_stl).data))
 
     def refuse_range(self, recording: Recording) -> None:
         """Raise `Unclear` if the recording has no PES packet in the range of --pes."""
@@ -338,13 +342,13 @@ class PairJudge:
                 self.judge_transmission()
             if self.verdict.parts:
                 return
-            why: object = self.verdict.named_faults[0].words
+            why: object = self.verdict.named_faults[0].text
         except (Stop, Unclear) as reason:
             if self.current_part:
                 raise
             why = reason
         self.verdict.valid_subtitles, self.verdict.subtitle_count = None, 0
-        self.listener.noted(f"the other subtitles were not judged: {why}")
+        self.listener.add_notes(f"the other subtitles were not judged: {why}")
         self.judge_alone(answer, True)
 
     def judge_transmission(self) -> None:
@@ -355,12 +359,12 @@ class PairJudge:
             subtitles = self.verdict.valid_subtitles.judged
             self.verdict.subtitle_count = len(subtitles) + len(self.skipped_positions)
             for line in self.verdict.valid_subtitles.format_lines():
-                self.listener.said(line)
+                self.listener.print_line(line)
         self.add_recording_warnings(recording, clocks.alignments[0].origin, programme.full_range)
         parts = self.parts_in(recording, clocks.alignments, programme, subtitles)
         for part in parts:
             if selection := part.judged_recording[1].clock.chosen(part.number):
-                self.listener.chosen(selection, is_said=False)
+                self.listener.add_selection(selection, is_printed=False)
         for part in parts:
             self.judge_part(part, programme, subtitles)
         self.verdict.gaps += find_gaps(recording, self.verdict.parts)
@@ -375,8 +379,8 @@ class PairJudge:
         is_whole = len(alignments) == 1
         parts = []
         for number, alignment in enumerate(alignments, 1):
-            own = request if is_whole else request.of_part(*alignment.between)
-            names = self.names if is_whole else self.names.of_part(number)
+            own = request if is_whole else request.restrict_to(*alignment.between)
+            names = self.names if is_whole else self.names.name_part(number)
             parts.append(Part(number, own, names, CheckOutput(names.list_path), alignment,
                               recording, self.skipped_positions))
         return parts
@@ -394,7 +398,7 @@ class PairJudge:
         part = measure_part_pace(part, [(subtitle.begin, subtitle.end) for subtitle in own],
                                  listener)
         self.current_part = part
-        check_part(part, self.command_words, listener)
+        check_part(part, self.command_paths, listener)
         self.refuse_adjoining_cut(part)
         self.verdict.parts.append(part)
         self.check_pictures(part)
@@ -409,11 +413,12 @@ class PairJudge:
             not self.verdict.valid_subtitles else None
         if at is None or part.decoded_pages is None:
             return
-        request, program, given = self.request, self.command_words.program_path, self.names.given
+        request, given = self.request, self.names.program_stl
+        program = self.command_paths.program_path
         between = Between(at, at + 1)
         due = schedule_pages(program, given,
                              read_subtitles(program, given, between, request.is_open),
-                             request.page, request.option, between, request.words_of_pages())
+                             request.page, request.option, between, request.schedule_arguments())
         fault = part.check_output.first_fault
         if not due.pages or not fault or \
                 part.decoded_pages.page_at(fault.frame or at) != due.pages[0]:
@@ -431,17 +436,17 @@ class PairJudge:
         faults, notes = find_desync(recording.survey, recording.packets.pid, alignment,
                                     part.request.within, part.number)
         self.verdict.named_faults += faults
-        self.listener.noted(*notes)
+        self.listener.add_notes(*notes)
 
     def make_expected_pages(self, request: Request, subtitles: list[Subtitle]) -> ExpectedPages:
         """Return the expected pages of a part; if the file has refused subtitles, only those of the
         others."""
         if self.verdict.valid_subtitles:
-            layout = layout_of(request.layout or "") or PLAIN
+            layout = parse_layout(request.layout or "") or PLAIN
             return draw_valid_pages(subtitles, request.page, request.option, layout)
-        return schedule_pages(self.command_words.program_path, self.names.given, subtitles,
+        return schedule_pages(self.command_paths.program_path, self.names.program_stl, subtitles,
                               request.page,
-                              request.option, request.between, request.words_of_pages())
+                              request.option, request.between, request.schedule_arguments())
 
     # Anomalies that break no rule
 

@@ -12,11 +12,11 @@ from ..common.command_line import counted
 from ..common.files import SummedFile
 from ..common.times import (
     Between, FRAMES_OF_A_DAY, Span, Spans, TICKS, frame_in, pts_of, ticks_within, time_of)
-from ..formats.listing import EMPTY, FaultLine, PASSED_OVER, STL_FAULTS, UNDECIDED
+from ..formats.listing import EMPTY, FaultLine, SKIPPED_PACKETS, STL_FAULTS, UNDECIDED
 from ..formats.stl import Subtitle, SubtitleFile
 from ..formats.teletext import BY_BITS, RESERVED
 from ..recording.recording import Recording
-from ..request.commands import Listener, MOST_LINES, Names
+from ..request.commands import Listener, MOST_LIST_LINES, OutputNames
 from ..request.request import Request, Unclear
 from ..stream.gaps import LossPlace
 from ..stream.packets import NO_RANGE, PES, PTSPair, Packets, Range, parse_headers
@@ -47,7 +47,7 @@ class Part:
 
     number: int
     request: Request
-    names: Names
+    names: OutputNames
     check_output: CheckOutput
     alignment: TimedPart | None = None
     recording: Recording | None = None
@@ -141,7 +141,7 @@ class Part:
 
     def open_subtitle_file(self) -> SubtitleFile:
         """Open the subtitle file of a part, to look up subtitles by block or frame."""
-        return SubtitleFile(self.names.given, self.request.between, self.skipped_positions)
+        return SubtitleFile(self.names.program_stl, self.request.between, self.skipped_positions)
 
     def summarize_check(self) -> CheckSummary:
         """Return what decides the verdict on a part."""
@@ -159,7 +159,7 @@ class Part:
         numbers = self.check_output.fault_numbers - STL_FAULTS
         if not numbers:  # with refused subtitles, faults of the transmission show that it was read
             return not self.check_output.fault_numbers or len(self.trusted_frames) > 0
-        if numbers - PASSED_OVER - {EMPTY}:
+        if numbers - SKIPPED_PACKETS - {EMPTY}:
             return True
         count = min(self.pes[1] + 1, self.packets.count) - self.pes[0]
         return count > self.check_output.skipped_packets.total()
@@ -294,7 +294,7 @@ def find_lost_spans(places: Sequence[LossPlace], origin: int, within: int,
 def report_causes(listener: Listener, causes: Causes, option: str) -> None:
     """Print the first causes, and how many more there are."""
     wording, every = CauseDescriber(causes, option), causes.list_causes()
-    for cause in every[:MOST_LINES]:
-        listener.said(wording.format_line(cause))
-    if len(every) > MOST_LINES:
-        listener.said(f".. {len(every) - MOST_LINES} more causes")
+    for cause in every[:MOST_LIST_LINES]:
+        listener.print_line(wording.format_line(cause))
+    if len(every) > MOST_LIST_LINES:
+        listener.print_line(f".. {len(every) - MOST_LIST_LINES} more causes")

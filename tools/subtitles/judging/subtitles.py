@@ -7,14 +7,14 @@ from typing import Iterable, Iterator, NamedTuple, Sequence
 
 from ..common.command_line import counted
 from ..common.times import FRAMES_A_SECOND, FRAMES_OF_A_DAY, TICKS, frame_of_code, time_of
-from ..formats.layout import Layout, PLAIN, Refused, drawn, page_rows
+from ..formats.layout import Layout, PLAIN, TextFault, draw_text, make_page_rows
 from ..formats.listing import (
-    CHARACTER, EMPTY, EMPTY_TIME, FaultLine, LETTERS, Meaning, OUT_OF_ORDER, STL_FAULTS, meanings,
-    plain)
-from ..formats.stl import NamedSubtitle, Subtitle, SubtitleFile, subtitle_name, subtitles_read
+    CHARACTER, EMPTY, EMPTY_TIME, FaultLine, LETTERS, Meaning, OUT_OF_ORDER, STL_FAULTS,
+    read_meanings, remove_markup)
+from ..formats.stl import NamedSubtitle, Subtitle, SubtitleFile, subtitle_name, decode_subtitles
 from ..formats.teletext import (
-    BY_WORD, NationalOption, OPTIONS, Page, character_of, has_characters, letter_at, options_with)
-from ..request.commands import MOST_LINES
+    BY_WORD, NationalOption, OPTIONS, Page, decode_character, has_characters, character_bytes, find_options)
+from ..request.commands import MOST_LIST_LINES
 from ..stream.packets import PES, PacketRun, Packets
 from ..stream.receiver import BLANK_PAGE, Rows, Timeline
 from .sentence import FAULT_CLAUSES
@@ -37,7 +37,7 @@ def advise_on_midnight(fault: FaultLine, subtitles: SubtitleFile) -> str:
         block = subtitles.block(fault.block)
         is_night = falls_at_midnight(block[TCI], block[TCO])
     else:
-        before = subtitles.first_before(fault.block)
+        before = subtitles.find_previous_first(fault.block)
         is_night = before is not None and falls_at_midnight(
             subtitles.block(before)[TCI], subtitles.block(fault.block)[TCI])
     return AT_MIDNIGHT if is_night else ""
@@ -73,7 +73,7 @@ class OptionAdvice:
     @functools.cached_property
     def complete_options(self) -> list[NationalOption]:
         """Return the other national options that have every character of the file."""
-        texts = {self.subtitles.text(block) for block in self.subtitles.lasts()}
+        texts = {self.subtitles.text(block) for block in self.subtitles.list_last_blocks()}
         return [option for option in OPTIONS if option.word != self.option
                 and all(has_characters(text, option) for text in texts)]
 
@@ -81,7 +81,7 @@ class OptionAdvice:
         """Return advice on the byte at offset `offset` of the text that ends in a block."""
         text = self.subtitles.text(block)
         return "" if offset >= len(text) else advise_on_character(
-            letter_at(text, offset), self.complete_options)
+            character_bytes(text, offset), self.complete_options)
 
 
 def advise_on_character(letter: bytes, complete_options: list[NationalOption]) -> str:
@@ -90,10 +90,10 @@ def advise_on_character(letter: bytes, complete_options: list[NationalOption]) -
     if complete_options:
         verb = "has" if len(complete_options) == 1 else "have"
         return f"{format_options(complete_options)} {verb} all characters of the file"
-    character = character_of(letter)
+    character = decode_character(letter)
     if character is None:
         return f"byte {letter[:1].hex().upper()} is not a character of code table 00: correct it"
-    options = options_with(letter)
+    options = find_options(letter)
     if options:
         return f"{character} is in {format_options(options)}, but another character of the file " \
             "is not"
@@ -167,9 +167,9 @@ class ValidSubtitles(NamedTuple):
 
     def format_lines(self) -> Iterator[str]:
         """Yield a line for each refused subtitle, up to a limit."""
-        yield from (refused.format_line() for refused in self.refused[:MOST_LINES])
-        if len(self.refused) > MOST_LINES:
-            yield f"undecided: {counted(len(self.refused) - MOST_LINES, 'more subtitle')}"
+        yield from (refused.format_line() for refused in self.refused[:MOST_LIST_LINES])
+        if len(self.refused) > MOST_LIST_LINES:
+            yield f"undecided: {counted(len(self.refused) - MOST_LIST_LINES, 'more subtitle')}"
 
     def describe(self) -> str:
         """Describe the first refused subtitles, and count the other ones."""
@@ -195,7 +195,7 @@ def find_valid_subtitles(file: SubtitleFile, faults: Iterable[FaultLine],
     """Return which subtitles of a file can be judged, by the faults of the file."""
     by_position: dict[int, list[FaultLine]] = {}
     for fault in faults:
-        subtitle = file.at_block(fault.block) if fault.block is not None else None
+        subtitle = file.find_by_block(fault.block) if fault.block is not None else None
         if subtitle and fault.number in STL_FAULTS:
             by_position.setdefault(subtitle.position, []).append(fault)
     asked_for = [*list_positions(file)]
@@ -204,16 +204,16 @@ def find_valid_subtitles(file: SubtitleFile, faults: Iterable[FaultLine],
     judged = {place for place, after in zip(records, [*records[1:], None])
               if place not in by_position and not (after is not None and {
                   one.number for one in by_position.get(after, ())} & ORDER_FAULTS)}
-    advice, known = OptionAdvice(file, option), meanings()
+    advice, known = OptionAdvice(file, option), read_meanings()
     refused = [make_refused_subtitle(file, by_position[place][0], advice, known)
                for place in sorted(by_position)]
-    return ValidSubtitles([one for one in subtitles_read(file.data) if one.index in judged],
+    return ValidSubtitles([one for one in decode_subtitles(file.data) if one.index in judged],
                           refused, frozenset(asked_for) - judged)
 
 
 def list_positions(file: SubtitleFile) -> Iterator[int]:
     """Yield the positions of the subtitles between --from and --to."""
-    for place, block in enumerate(file.starts, 1):
+    for place, block in enumerate(file.start_blocks, 1):
         begin = frame_of_code(file.block(block)[5:9])
         if begin is None or file.between.has(begin):
             yield place
@@ -223,13 +223,13 @@ def make_refused_subtitle(file: SubtitleFile, fault: FaultLine, advice: OptionAd
                           known: dict[int, Meaning]) -> RefusedSubtitle:
     """Return a refused subtitle, by the first fault line that names the subtitle."""
     assert fault.block is not None
-    subtitle = file.at_block(fault.block)
+    subtitle = file.find_by_block(fault.block)
     assert subtitle
-    byte, character = file.letter(fault.block, fault.at) \
+    byte, character = file.describe_byte(fault.block, fault.at) \
         if fault.number in LETTERS and fault.at is not None else (None, None)
     of_letter = advice.advise(fault.block, fault.at) \
         if fault.number == CHARACTER and fault.at is not None else ""
-    of_manual = plain(known[fault.number].do) if fault.number in known else ""
+    of_manual = remove_markup(known[fault.number].remedy) if fault.number in known else ""
     do = of_letter or advise_on_midnight(fault, file) or of_manual
     return RefusedSubtitle(subtitle, fault, character or (f"byte {byte}" if byte else ""), do)
 
@@ -250,9 +250,9 @@ def draw_valid_pages(subtitles: Sequence[Subtitle], page: Page, option: str,
 
 def draw_page(subtitle: Subtitle, option: str, layout: Layout) -> Rows:
     """Draw the page of a subtitle."""
-    lines = drawn(subtitle.text, subtitle.row, subtitle.justify, layout, BY_WORD[option])
-    assert not isinstance(lines, Refused)
-    return page_rows(lines)
+    lines = draw_text(subtitle.text, subtitle.row, subtitle.justify, layout, BY_WORD[option])
+    assert not isinstance(lines, TextFault)
+    return make_page_rows(lines)
 
 
 def add_transmission(packets: Packets, frame: int, rows: Rows, page: Page, option: str) -> None:

@@ -63,7 +63,7 @@ def find_parts(search: PartSearch, recording: Recording, listener: Listener) -> 
     request, whole = search.request, search.full_range
     given = get_given_clock(request) or find_start_clock(search, recording, listener)
     origin = report_estimated_origin(search, recording, given, listener)
-    listener.noted(*origin.shift_texts)
+    listener.add_notes(*origin.shift_texts)
     alignments = list_timed_parts(origin, whole)
     if not alignments and (given is None or request.breaks or origin.airings):
         raise make_unclear_origin(origin, suggest_options(recording, origin))
@@ -94,7 +94,7 @@ def find_start_clock(search: PartSearch, recording: Recording, listener: Listene
     except NoFirstPicture as reason:
         raise recording.no_picture_error(reason) from None
     for line in begin.lines:
-        listener.said(line)
+        listener.print_line(line)
     if begin.clock.source == TCP:
         refuse_outside(request, begin, whole.begin, whole.end, recording.last())
     return begin.clock
@@ -117,7 +117,7 @@ def report_estimated_origin(search: PartSearch, recording: Recording, clock: Clo
     except (Stop, OSError) as reason:
         origin = OriginEstimate(2, lines=[error_line(reason)])
     for line in [*origin.printed, *(CLOCK_PREFIX + line for line in origin.lines)]:
-        listener.said(line)
+        listener.print_line(line)
     return origin
 
 
@@ -184,8 +184,8 @@ def describe_wrong_clock(request: Request, clock: Clock, delay: int) -> str:
 
 def make_unclear_origin(origin: OriginEstimate, again: Iterable[str]) -> Unclear:
     """Return an error that says why the origin is not clear, with the commands `again`."""
-    is_said = origin.airings or origin.breaks is not None
-    reason = "\n".join(origin.lines) if is_said else \
+    is_printed = origin.airings or origin.breaks is not None
+    reason = "\n".join(origin.lines) if is_printed else \
         f"the clock is not clear: {'; '.join(origin.lines)}"
     return Unclear(reason, *again)
 
@@ -215,13 +215,14 @@ def find_part_packets(search: PartSearch, part: Part, listener: Listener) -> Ran
     cut = cut_packets(search, recording, alignment, search.request.within)
     damage, line = recording.packets.damage, f"range: {cut.describe()}"
     if cut.range is None:
-        listener.said(line)
+        listener.print_line(line)
     else:
         first, last = cut.range
-        listener.chosen(Selection(PES_CHOICE, f"{first}-{last}", line, last - first + 1, cut.read,
+        listener.add_selection(Selection(PES_CHOICE, f"{first}-{last}", line, last - first + 1,
+                                         cut.read,
                                   part.number))
     if damage and not cut.is_over:
-        listener.said(f"range: {recording.shown}: {damage}; it was read up to there")
+        listener.print_line(f"range: {recording.shown}: {damage}; it was read up to there")
     if cut.range is None:
         raise Unclear("the recording has nothing of the page at the time of the subtitles",
                       recording.suggest_call("--origin", "T"),
@@ -250,11 +251,12 @@ def measure_part_pace(part: Part, times: Sequence[tuple[int, int]], listener: Li
     else:
         notes.append(note := describe_unchecked_losses(pace, unseen, recording))
         if pace.frames:
-            listener.chosen(make_pace_selection(pace, recording.is_stream, number))
+            listener.add_selection(make_pace_selection(pace, recording.is_stream, number))
             request = dataclasses.replace(request, pace_word=str(pace.frames))
         elif note:  # reported with the verdict
-            listener.chosen(Selection(PACE_CHOICE, None, note, part=number), is_said=False)
-    listener.noted(*notes)
+            listener.add_selection(Selection(PACE_CHOICE, None, note, part=number),
+                                   is_printed=False)
+    listener.add_notes(*notes)
     return dataclasses.replace(part, request=request, jumps=jumps)
 
 

@@ -11,11 +11,11 @@ from ..common.command_line import counted
 from ..common.files import temporary_folder
 from ..common.times import ALL_DAY, Between, Span
 from ..formats.listing import CHANGED
-from ..formats.stl import Subtitle, SubtitleList, stl_bytes, subtitles_read, subtitles_shown
+from ..formats.stl import Subtitle, SubtitleList, read_stl, decode_subtitles, parse_subtitles
 from ..formats.teletext import (
     BY_BITS, BY_WORD, ERASE, INHIBIT, NEWSFLASH, Page, RESERVED, SUBTITLE, SUPPRESS, has_bit,
     page_name)
-from ..request.request import Request, Unclear, Unsaid
+from ..request.request import Request, Unclear, IncompleteAnswer
 from ..stream.packets import CLOSED, HEADER, PES, PacketRun, Packets, parse_headers, subcode_of
 from ..stream.receiver import BLANK_PAGE, LEAST, ReceiverState, Rows, Timeline, national_option
 from ..stream.survey import survey_runs
@@ -220,22 +220,22 @@ class ExpectedPages(SubtitleList):
         """Return the subtitle that has a page and begins nearest to a frame; `None` for a blank
         page."""
         places = self.by_page.get(page)
-        return self.nearest(places, frame) if places and page != BLANK_PAGE else None
+        return self.find_nearest(places, frame) if places and page != BLANK_PAGE else None
 
     def page_at(self, frame: int) -> Rows:
         """Return the expected page at a frame."""
-        count, is_due = self.due(frame)
+        count, is_due = self.count_begun(frame)
         blank: Rows = BLANK_PAGE
         return self.pages[count - 1] if is_due else blank
 
 
 def run_program(program: str, *arguments: str) -> list[str]:
-    """Run the program and return its lines of output; raise `Unsaid` if the program fails."""
+    """Run the program and return its output lines. Raise `IncompleteAnswer` if it fails."""
     done = subprocess.run([program, *arguments], stdin=subprocess.DEVNULL, check=False,
                           stdout=subprocess.PIPE, encoding="utf-8", errors="replace")
     lines = done.stdout.splitlines()
     if done.returncode and f"refused {NO_SUBTITLE_FAULT} " not in "".join(lines[-1:]):
-        raise Unsaid(f"{arguments[0]} gave no result: {''.join(lines[-1:])}")
+        raise IncompleteAnswer(f"{arguments[0]} gave no result: {''.join(lines[-1:])}")
     return lines
 
 
@@ -247,12 +247,12 @@ def read_subtitles(program: str, stl: str, between: Between = ALL_DAY,
     here.
     """
     try:
-        subtitles = subtitles_read(stl_bytes(stl)) if is_open else \
-            subtitles_shown(run_program(program, "show", "--", stl))
+        subtitles = decode_subtitles(read_stl(stl)) if is_open else \
+            parse_subtitles(run_program(program, "show", "--", stl))
     except Unclear:
         if between == ALL_DAY:
             raise
-        subtitles = subtitles_read(stl_bytes(stl))
+        subtitles = decode_subtitles(read_stl(stl))
     return [subtitle for subtitle in subtitles if between.has(subtitle.begin)]
 
 
@@ -295,7 +295,7 @@ class PageTransmissions:
     def split_frames(self, first: int, last: int) -> list[Span]:
         """Split frames with a fault into spans in which neither the expected nor the decoded page
         changes."""
-        begins = {first, *self.expected.edges(first, last)}
+        begins = {first, *self.expected.list_cues(first, last)}
         begins.update(self.timeline.frames[number]
                       for number in self.timeline.page_numbers(first, last + 1)
                       if self.timeline.frames[number] > first)
@@ -305,7 +305,7 @@ class PageTransmissions:
     def find_owner(self, frame: int) -> int:
         """Return the subtitle that a wrong page at a frame belongs to: the latest expected
         subtitle, or the subtitle whose page was sent at another time."""
-        place = self.expected.place_at(frame)
+        place = self.expected.find_place(frame)
         number = self.timeline.number_at(frame)
         if place < 0 or number < 0:
             return max(place, 0)
@@ -384,14 +384,14 @@ class PageTransmissions:
     def find_subtitle_at_cue(self, frame: int) -> int | None:
         """Return the subtitle that begins at a frame, or up to the allowed delay before the frame.
         """
-        place = self.expected.place_at(frame)
+        place = self.expected.find_place(frame)
         is_in_time = place >= 0 and frame <= self.subtitles[place].begin + self.timeline.within
         return place if is_in_time else None
 
     def are_moved_together(self, place: int, frame: int) -> bool:
         """Return whether the subtitle expected at a frame is moved as far as the subtitle whose
         page came then, allowing for delays."""
-        other = self.expected.place_at(frame)
+        other = self.expected.find_place(frame)
         begin = self.subtitles[other].begin
         came = find_nearest(self.find_transmissions(other), begin)
         moved = frame - self.subtitles[place].begin

@@ -279,7 +279,7 @@ class Verdict:
             lost=[gap.format_line() for gap in self.gaps if gap.is_judged],
             warnings=self.collect_grounds().warnings,
             reason=self.unjudged_reason,
-            named=self.worst_named_fault.words if self.worst_named_fault else "",
+            named=self.worst_named_fault.text if self.worst_named_fault else "",
             is_file=self.request.recording is None, within=self.request.within,
             parts=len(self.parts), delay=self.delay_of_all, has_picture=self.has_picture)
         if refused and self.valid_subtitles:

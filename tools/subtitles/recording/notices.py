@@ -14,7 +14,8 @@ from ..common.times import (
     ticks_within, time_in, time_of, wrapped)
 from ..formats.listing import NEVER_SENT, NamedFault
 from ..formats.stl import SubtitleFile
-from ..formats.teletext import BY_WORD, OTHER_REGIONS, Page, as_sent, of_track, page_name
+from ..formats.teletext import (
+    BY_WORD, OTHER_REGIONS, Page, option_for_track, page_name, reverse_option_bits)
 from ..request.request import LC, Request, Unclear
 from ..stream.gaps import (
     ANOMALY_TEXTS, SECOND, explain_refusal, find_clock_jumps, find_pts_anomalies)
@@ -109,7 +110,7 @@ def page_notices(own: list[Announced], request: Request) -> Iterator[Notice]:
 def option_notices(languages: list[str], request: Request) -> Iterator[Notice]:
     """Yield a warning if no language that a PMT announces for the page can use the national option:
     receivers may choose characters by that language."""
-    options = [of_track(one) for one in languages]
+    options = [option_for_track(one) for one in languages]
     is_other = [bool(option and option.word != request.option) or language in OTHER_REGIONS
                 for language, option in zip(languages, options)]
     if not languages or not all(is_other):
@@ -127,7 +128,7 @@ def character_set_notices(packets: Packets, request: Request) -> Iterator[Notice
     for number, designation, region, option in packets.character_sets:
         if region is None or option is None:
             named = "an unreadable character set"
-        elif region or option != as_sent(BY_WORD[request.option]):
+        elif region or option != reverse_option_bits(BY_WORD[request.option]):
             named = f"character set {option:03b} of region {region:04b}"
         else:
             continue
@@ -154,7 +155,7 @@ def count_notices(subtitles: SubtitleFile) -> Iterator[Notice]:
     if expected is not None and expected != there:
         yield Notice("blocks", f"the GSI block counts {counted(expected, 'TTI block')} (TNB), but "
                      f"{count_text(there)}: is the subtitle file complete?")
-    expected, known = read_count(subtitles.data[TNS]), subtitles.ended()
+    expected, known = read_count(subtitles.data[TNS]), subtitles.count_ended()
     if expected is not None and expected not in known:
         yield Notice("subtitles", f"the GSI block counts {counted(expected, 'subtitle')} (TNS), "
                      f"but {count_text(known[0])}: is the subtitle file complete?")

@@ -15,7 +15,8 @@ from ..common.files import (
     BackgroundSum, STANDARD, SummedFile, first_bytes, naming, pieces_of)
 from ..common.times import ticks_between
 from ..formats.teletext import START
-from ..request.commands import CommandWords, KEPT, KEPT_STREAM, Listener, Names, Speech, again
+from ..request.commands import (
+    CommandPaths, KEPT_PES, KEPT_TS, Listener, OutputNames, Printer, make_qc_command)
 from ..request.request import PID_CHOICE, Request, Selection, Unclear
 from ..stream.gaps import (
     LossPlace, explain_refusal, find_loss_places, find_recorded_range, gap_marker_lines)
@@ -30,7 +31,7 @@ MOST_PAGES = 3  # other pages to propose
 MOST_PIPED = 32_000_000_000  # bytes: two hours of 35 Mbit/s
 
 
-def copy_piped(name: str, path: str, speech: Speech) -> SummedFile:
+def copy_piped(name: str, path: str, printer: Printer) -> SummedFile:
     """Copy all bytes from a pipe to a file, and return its size and checksum."""
     source = "standard input" if name == STANDARD else name
     digest, count = hashlib.sha256(), 0
@@ -44,7 +45,7 @@ def copy_piped(name: str, path: str, speech: Speech) -> SummedFile:
             with naming(path):
                 file.write(data)
                 file.flush()
-            speech.show(lambda: f"{source}: {count / 1e6:,.1f} MB")
+            printer.show_progress(lambda: f"{source}: {count / 1e6:,.1f} MB")
     return SummedFile(name, count, digest.hexdigest())
 
 
@@ -123,32 +124,34 @@ class Recording:
     """A recording that is read: `packets` are those of the PID with the page. What is judged is a
     range of the recording itself; what comes through a pipe is copied to a file, at `path`."""
 
-    def __init__(self, request: Request, typed: CommandWords, names: Names, listener: Listener,
-                 times: Sequence[tuple[int, int]] = ()) -> None:
+    def __init__(self, request: Request, command_paths: CommandPaths, names: OutputNames,
+                 listener: Listener, times: Sequence[tuple[int, int]] = ()) -> None:
         assert request.recording is not None
-        self.request, self.typed, self.names, self.listener = request, typed, names, listener
+        self.request, self.command_paths = request, command_paths
+        self.names, self.listener = names, listener
         self.name = request.recording
         self.times = times  # of the subtitles, in frames
         self.is_piped = self.name == STANDARD or not stat.S_ISREG(os.stat(self.name).st_mode)
-        self.path = names.whole_path if self.is_piped else names.as_program(self.name, "given")
+        self.path = names.recording_path if self.is_piped else \
+            names.make_utf_8_path(self.name, "given")
         self.survey, self.packets = Survey(), Packets(PES)
         self.file: SummedFile | None = None
 
     def read(self, is_summed: bool) -> None:
         """Read the recording to its end, and survey it."""
         if self.is_piped:
-            self.file = copy_piped(self.name, self.path, self.listener.speech)
+            self.file = copy_piped(self.name, self.path, self.listener.printer)
         summed = BackgroundSum(self.name) if is_summed and not self.is_piped else None
-        self.survey = survey(self.typed.program_path, self.path, self.request.page,
-                             self.request.pid, look=self.show)
+        self.survey = survey(self.command_paths.program_path, self.path, self.request.page,
+                             self.request.pid, look=self.show_progress)
         self.file = summed.result() if summed else self.file
         refuse_stream(self.survey, self.name)
         self.packets = self.chosen()
         self.print_losses()
 
-    def show(self) -> None:
+    def show_progress(self) -> None:
         """Show on a terminal how much was read."""
-        self.listener.speech.show(lambda: self.name)
+        self.listener.printer.show_progress(lambda: self.name)
 
     def chosen(self) -> Packets:
         """Return the requested PID, or the only one that carries the page."""
@@ -194,7 +197,7 @@ class Recording:
         begun = sum(run.length for run in packets.runs_with_pts() if HEADER in run.flags)
         line = f"{pid_name(packets.pid)}: page {self.request.page_name} has a header in {begun} " \
             f"of {counted(packets.count, 'PES packet')}, {why}"
-        self.listener.chosen(Selection(PID_CHOICE, f"0x{packets.pid:X}", line, begun,
+        self.listener.add_selection(Selection(PID_CHOICE, f"0x{packets.pid:X}", line, begun,
                                        packets.count))
 
     def unreadable_reasons(self) -> list[str]:
@@ -207,24 +210,23 @@ class Recording:
         if packets.pid != PES and not packets.packets:
             return ""
         begun = self.survey.head if packets.pid == PES else read_pes_header(
-            self.typed.program_path, self.path, packets.pid, self.survey.size or 0)
+            self.command_paths.program_path, self.path, packets.pid, self.survey.size or 0)
         return pes_header_problem(begun, packets.pid)
 
     def print_losses(self) -> None:
         """Report what was read, and the places where something is missing."""
         packets = self.packets
         if packets.damage:
-            self.listener.said(f"{self.name}: {packets.damage}; it was read up to there")
+            self.listener.print_line(f"{self.name}: {packets.damage}; it was read up to there")
         if not self.is_stream:
             return
         why = explain_refusal(packets)
         if why:
-            self.listener.said(why)
+            self.listener.print_line(why)
         if self.survey.skipped:
-            self.listener.said(f"{counted(self.survey.skipped, 'byte')} outside of TS packets "
-                               "skipped")
+            self.listener.print_line(f"{counted(self.survey.skipped, 'byte')} outside of TS packetsskipped")
         for line in gap_marker_lines(packets):
-            self.listener.said(line)
+            self.listener.print_line(line)
 
     # What it is.
 
@@ -247,24 +249,24 @@ class Recording:
         """Return the name of the recording as it was typed."""
         if not self.is_piped:
             return self.name
-        return self.names.typed(KEPT_STREAM if self.is_stream else KEPT)
+        return self.names.display_path(KEPT_TS if self.is_stream else KEPT_PES)
 
     @property
     def kept_ending(self) -> str | None:
         """Return the ending of the kept recording: everything from a pipe, or the PES packets of a
         transport stream; `None` for a file of PES packets, which exists already."""
         if self.is_piped and self.is_stream:
-            return KEPT_STREAM
-        return KEPT if self.is_piped or self.is_stream else None
+            return KEPT_TS
+        return KEPT_PES if self.is_piped or self.is_stream else None
 
     def kept(self) -> Iterator[bytes]:
         """Yield the bytes of the recording to keep."""
         if self.is_piped:
             yield from pieces_of(self.path)
             return
-        own = self.names.temporary("kept.pes")
-        done = subprocess.run([self.typed.program_path, "extract", *self.words(), "--", self.path,
-                               own], stdin=subprocess.DEVNULL, stdout=subprocess.DEVNULL,
+        own = self.names.temporary_path("kept.pes")
+        done = subprocess.run([self.command_paths.program_path, "extract", *self.words(), "--",
+                               self.path, own], stdin=subprocess.DEVNULL, stdout=subprocess.DEVNULL,
                               check=False)
         if done.returncode != 1:  # everything before a refused PES packet is kept
             done.check_returncode()
@@ -316,7 +318,7 @@ class Recording:
                        self.suggest_call("--origin", "T"))
 
     def suggest_call(self, *more: str) -> str:
-        return again(self.request, self.typed, *more)
+        return make_qc_command(self.request, self.command_paths, *more)
 
     def other_pages(self, several: Iterable[Packets]) -> Iterator[str]:
         """Yield the calls for the other pages of some PIDs, those with the most headers first."""
@@ -329,5 +331,5 @@ class Recording:
     def with_contents(self, reason: str) -> str:
         """Return a reason, followed by what the recording has."""
         if self.request.pid is not None:
-            self.survey = survey(self.typed.program_path, self.path, self.request.page)
+            self.survey = survey(self.command_paths.program_path, self.path, self.request.page)
         return "\n".join([reason, *(self.survey.lines() or ["no PID has Teletext"])])

@@ -1,8 +1,8 @@
-"""A verdict shown as a page.
+"""The report: a page about a verdict.
 
-blocks      the refused subtitles of a subtitle file
-cue_list    one row for each subtitle: expected, actual, text, verdict
-pictures    pages as level 1 Teletext draws them: expected beside decoded
-timeline    a lane for each kind of fault
-page        the page of a verdict
+blocks      refused subtitles of a subtitle file
+cue_list    a row for each subtitle: expected and actual cues, text, verdict
+pictures    pages as level 1 Teletext draws them
+timeline    the timeline of a part
+page        the whole page
 """

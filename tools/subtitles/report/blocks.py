@@ -1,65 +1,67 @@
-"""Show the refused subtitles of a subtitle file, with the bytes that are wrong."""
+"""Show refused subtitles of a subtitle file, with the wrong bytes marked."""
 from __future__ import annotations
 
 from typing import Sequence
 
 from ..common.markup import BREAK, Markup, Value, joined, markup
 from ..common.times import frame_of
-from ..formats.listing import FaultLine, number_link
+from ..formats.listing import FaultLine, make_number_link
 from ..formats.stl import GSI, NamedSubtitle, SubtitleFile
 
-ORDER_FAULTS = {56, 57}  # of the TCI
+ORDER_FAULTS = {56, 57}  # faults of the TCI
 BYTE_FAULTS, ROW_FAULTS = (50, 51), range(50, 56)
-# The field of a TTI block, or of the GSI block, that a fault is about: its name and its bytes.
+# By fault number: the field of the TTI or GSI block, with its name and bytes.
 FIELDS = {11: ("DFC", slice(3, 11)), 12: ("DFC", slice(3, 11)), 13: ("DSC", slice(11, 12)),
           14: ("CCT", slice(12, 14)), 15: ("EBN", slice(3, 4)), 16: ("CS", slice(4, 5)),
           17: ("CF", slice(15, 16)), 18: ("JC", slice(14, 15)), 19: ("VP", slice(13, 14)),
           22: ("SGN and SN", slice(0, 3))}
 
 
-def field_markup(file: SubtitleFile, fault: FaultLine) -> Markup:
-    """Return the field that a fault is about, with its bytes marked; else nothing."""
+def mark_field(file: SubtitleFile, fault: FaultLine) -> Markup:
+    """Return the field that a fault is about, with its bytes marked; empty if there is none."""
     if fault.number not in FIELDS or fault.block is None:
         return markup("")
     name, place = FIELDS[fault.number]
     data = file.block(fault.block) if fault.block else file.data[:GSI]
     return markup(" {} {}", name, mark(data[place].hex().upper() if fault.block else
-                                       joined(map(readable, data[place]))))
+                                       joined(map(show_byte, data[place]))))
 
 
 def mark(text: Value) -> Markup:
     return markup("<mark>{}</mark>", text)
 
 
-def marked_times(subtitle: NamedSubtitle, faults: Sequence[FaultLine]) -> tuple[Value, Value]:
-    """Return TCI and TCO of a subtitle, marked if a fault is about them."""
-    numbers = {one.number for one in faults}
+def mark_times(subtitle: NamedSubtitle, faults: Sequence[FaultLine]) -> tuple[Value, Value]:
+    """Return the TCI and TCO of a subtitle, marked if a fault is about them."""
+    numbers = {fault.number for fault in faults}
     is_begin, is_end = (20 in numbers and frame_of(time) is None or 21 in numbers
                         for time in (subtitle.begin, subtitle.end))
     return (mark(subtitle.begin) if is_begin or numbers & ORDER_FAULTS else subtitle.begin,
             mark(subtitle.end) if is_end else subtitle.end)
 
 
-def fault_lines(file: SubtitleFile, faults: Sequence[FaultLine]) -> Markup:
-    """Return the lines of `check` for some faults, each with its field."""
-    return joined((number_link(fault.line) + field_markup(file, fault) for fault in faults), BREAK)
+def make_fault_lines(file: SubtitleFile, faults: Sequence[FaultLine]) -> Markup:
+    """Return the lines of `check` about some faults, each with its field."""
+    return joined((make_number_link(fault.line) + mark_field(file, fault) for fault in faults),
+                  BREAK)
 
 
-def marked_text(text: bytes, faults: Sequence[FaultLine]) -> Markup:
-    """Return the lines of a text with the byte or the line marked that a fault names."""
-    marked = {(one.number in BYTE_FAULTS, one.at) for one in faults if one.number in ROW_FAULTS}
+def mark_text(text: bytes, faults: Sequence[FaultLine]) -> Markup:
+    """Return the lines of a text, with the bytes and lines marked that faults are about."""
+    marked = {(fault.number in BYTE_FAULTS, fault.at) for fault in faults if fault.number in
+              ROW_FAULTS}
     lines, begin = [], 0
     for number, line in enumerate(text.split(b"\x8a")):
-        characters = [" " if byte == 0x20 else readable(byte) for byte in line]
-        words = joined(mark(one) if (True, at) in marked else one
-                       for at, one in enumerate(characters, begin))
+        characters = [" " if byte == 0x20 else show_byte(byte) for byte in line]
+        words = joined(mark(fault) if (True, at) in marked else fault
+                       for at, fault in enumerate(characters, begin))
         lines.append(mark(words) if (False, number) in marked else words)
         begin += len(line) + 1
     return joined(lines, BREAK)
 
 
-def readable(byte: int) -> Value:
-    """Return a text byte as its ASCII character, else as its code."""
+def show_byte(byte: int) -> Value:
+    """Return a byte as its ASCII character or, if it has none, as its code."""
     if byte == 0x20:
         return "\u2423"
     return chr(byte) if 0x20 < byte <= 0x7E else markup("<i>{:02X}</i>", byte)

@@ -1,4 +1,5 @@
-"""A timeline of a part: a lane for what was expected, what was received, and each kind of fault."""
+"""The timeline of a part, with a lane for expected and for received pages and each kind of fault.
+"""
 from __future__ import annotations
 
 from typing import Iterable, Iterator
@@ -9,52 +10,52 @@ from ..judging.cues import Cue, find_text_spans
 from ..stream.receiver import Timeline
 from .cue_list import CueList, cause_key
 
-WIDTH = 1000  # units of a lane, which is as wide as the page
-LEAST = 2  # units of a mark
+WIDTH = 1000  # units; a lane is as wide as the page
+MIN_MARK_WIDTH = 2  # units
 MINUTE = 60 * FRAMES_A_SECOND
 STEPS = [seconds * FRAMES_A_SECOND for seconds in (1, 2, 5, 10, 30)] + [
     minutes * MINUTE for minutes in (1, 2, 5, 10, 30, 60, 120, 240)]
-MOST_WORDS = 10  # times below the lanes
-EDGE = 8  # percent: a time so near to an end of the lanes is written inside of them
+MOST_TIMES = 10  # below the lanes
+EDGE = 8  # percent; a time nearer to an end of the lanes is aligned with that end
 
 
 class Lanes:
     """The lanes of a part, from its first frame to its last."""
 
-    def __init__(self, cues: CueList, held: Timeline | None, lost: Iterable[Span]) -> None:
-        self.cues, self.held, self.lost = cues, held, list(lost)
+    def __init__(self, cues: CueList, decoded: Timeline | None, lost_spans: Iterable[Span]) -> None:
+        self.cues, self.decoded, self.lost_spans = cues, decoded, list(lost_spans)
         subtitles = [cue.subtitle for cue in cues.cues]
         self.begin = min(one.begin for one in subtitles)
         self.end = max(one.end for one in subtitles)
-        if held and held.frames:
-            self.begin, self.end = min(self.begin, held.first), max(self.end, held.last + 1)
+        if decoded and decoded.frames:
+            self.begin, self.end = min(self.begin, decoded.first), max(self.end, decoded.last + 1)
 
-    def x(self, frame: int) -> float:
-        """Return where a frame is on a lane."""
+    def find_x(self, frame: int) -> float:
+        """Return the position of a frame on a lane."""
         inside = min(max(frame, self.begin), self.end) - self.begin
         return round(inside * WIDTH / (self.end - self.begin), 1)
 
-    def drawn(self) -> Markup:
-        """Return all lanes, with times below them."""
-        lanes = [self.lane("expected", "Expected", ((one.subtitle.begin, one.subtitle.end)
+    def draw(self) -> Markup:
+        """Draw all lanes, with times below them."""
+        lanes = [self.draw_lane("expected", "Expected", ((one.subtitle.begin, one.subtitle.end)
                                                     for one in self.cues.cues))]
-        if self.held:
-            lanes.append(self.lane("received", "Decoded", (
-                (span.first, span.last + 1) for span in find_text_spans(self.held))))
+        if self.decoded:
+            lanes.append(self.draw_lane("received", "Decoded", (
+                (span.first, span.last + 1) for span in find_text_spans(self.decoded))))
         lanes += self.fault_lanes()
-        if self.lost:
-            lanes.append(self.lane("fault", "not recorded", (
-                (span.first, span.last + 1) for span in self.lost)))
+        if self.lost_spans:
+            lanes.append(self.draw_lane("fault", "not recorded", (
+                (span.first, span.last + 1) for span in self.lost_spans)))
         label = f"Timeline from {time_of(self.begin)} to {time_of(self.end)}"
         return markup('<figure class="lanes"><figcaption>{}</figcaption>{}{}</figure>', label,
-                      joined(lanes), self.axis())
+                      joined(lanes), self.draw_axis())
 
     def fault_lanes(self) -> Iterator[Markup]:
-        """Yield a lane for each kind of fault."""
+        """Draw a lane for each kind of fault."""
         places = {kind.key: list[tuple[int, int]]() for kind in self.cues.kinds}
         for cue in self.cues.cues:
             if cue.cause:
-                places[cause_key(cue.cause)].append(frames_around(cue))
+                places[cause_key(cue.cause)].append(find_cue_span(cue))
         for number, spans in self.cues.judge.spans.items():
             places[f"n{number}"] += [(span.first, span.last + 1) for span in spans]
         for kind in self.cues.kinds:
@@ -63,14 +64,15 @@ class Lanes:
                 words: Value = f"{kind.name} ({self.cues.counts[kind.key]})" if first else kind.name
                 if first:
                     words = markup('<a href="#s{}">{}</a>', first, words)
-                yield self.lane("waive" if kind.is_waived else "fault", words, places[kind.key])
+                yield self.draw_lane("waive" if kind.is_waived else "fault", words,
+                                     places[kind.key])
 
-    def lane(self, look: str, name: Value, spans: Iterable[tuple[int, int]]) -> Markup:
-        """Return one lane; marks that would touch are drawn as one."""
+    def draw_lane(self, css_class: str, name: Value, spans: Iterable[tuple[int, int]]) -> Markup:
+        """Draw a lane; marks that would touch are joined."""
         runs: list[list[float]] = []
         for begin, end in sorted(spans):
-            left, right = self.x(begin), self.x(end)
-            right = max(right, left + LEAST)
+            left, right = self.find_x(begin), self.find_x(end)
+            right = max(right, left + MIN_MARK_WIDTH)
             if runs and left - runs[-1][1] < 0.5:
                 runs[-1][1] = max(runs[-1][1], right)
             else:
@@ -78,26 +80,26 @@ class Lanes:
         path = "".join(f"M{left:g} 0H{right:.6g}V10H{left:g}z" for left, right in runs)
         return markup('<div class="lane"><span>{}</span><svg aria-hidden="true" viewBox="0 0 {} '
                       '10" preserveAspectRatio="none"><path class="{}" d="{}"/></svg></div>', name,
-                      WIDTH, look, path)
+                      WIDTH, css_class, path)
 
-    def axis(self) -> Markup:
-        """Return times, each a link to the first subtitle from then on."""
+    def draw_axis(self) -> Markup:
+        """Draw the times; each is a link to the next subtitle."""
         length = self.end - self.begin
-        step = next((one for one in STEPS if length <= MOST_WORDS * one), STEPS[-1])
+        step = next((one for one in STEPS if length <= MOST_TIMES * one), STEPS[-1])
         begins = [cue.subtitle for cue in self.cues.cues]
         words = []
         for frame in range(-(-self.begin // step) * step, self.end - length // 30, step):
             short = time_of(frame)[:5] if step >= MINUTE else time_of(frame)[3:8]
             one = next((one for one in begins if one.begin >= frame), None)
-            place = self.x(frame) / 10
+            place = self.find_x(frame) / 10
             edge = "first" if place < EDGE else "last" if place > 100 - EDGE else "inner"
             words.append(markup('<a class="{}" href="#s{}" style="left:{:.4g}%">{}</a>', edge,
                                 one.index, place, short) if one else NO_MARKUP)
         return markup('<div class="axis"><div>{}</div></div>', joined(words))
 
 
-def frames_around(cue: Cue) -> tuple[int, int]:
-    """Return the frames of a cue, expected and actual."""
+def find_cue_span(cue: Cue) -> tuple[int, int]:
+    """Return the frames from the earlier begin to the later end, expected or actual."""
     one = cue.subtitle
     return (min(one.begin, one.begin if cue.begin is None else cue.begin),
             max(one.end, one.end if cue.end is None else cue.end))

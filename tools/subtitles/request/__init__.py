@@ -1,6 +1,6 @@
-"""The request for a pair, from a call or a list, and the commands that an operator could type.
+"""The request for a pair: its options, from the command line, a profile or a list.
 
-request        the request for a pair: the table of options, a profile, the choices of qc
-commands       the commands that an operator could type, the names of their files, printing
-lines          lines of lists and profiles; the pairs of a folder and of a list
+request        the table of options, profiles, the request for a pair
+commands       commands for the operator, names of result files, printing
+lines          reading lists and profiles; finding the pairs of a list or folder
 """

@@ -1,4 +1,4 @@
-"""The commands that an operator could type, the names of their files, and printing."""
+"""Commands for the operator, names of result files, and printing."""
 from __future__ import annotations
 
 import collections
@@ -14,328 +14,339 @@ from typing import Callable, TextIO
 from ..common.command_line import HIDDEN, INSTALLED, Stop, quoted, shown, silence, tell
 from ..common.files import is_utf_8
 from ..common.program import TOP, behind_script
-from .request import OPTIONS, Profile, Request, Selection, option_words
+from .request import OPTIONS, Profile, Request, Selection, list_arguments
 
 
-class CommandWords:
-    """How the tools and the program are called, next to the tool called as `called`."""
+class CommandPaths:
+    """Paths by which an operator can run the tools and the program.
 
-    def __init__(self, called: str, program: str | None) -> None:
-        folder, name = os.path.split(called)
+    `program_name` is the path of the running tool.
+    """
+
+    def __init__(self, program_name: str, program: str | None) -> None:
+        folder, name = os.path.split(program_name)
         self.is_installed = name.startswith(INSTALLED)
-        found = shutil.which(name) if self.is_installed else None
-        if found and os.path.abspath(called) == os.path.abspath(found):
+        installed_path = shutil.which(name) if self.is_installed else None
+        if installed_path and os.path.abspath(program_name) == os.path.abspath(installed_path):
             folder = ""
         elif not folder:
             folder = "."
         self.folder = folder
-        self.program_word = program or self.beside()
+        self.program_command = program or self.default_program()
         path = os.path.abspath(program or os.path.join(TOP, "subttx"))
         if os.path.isdir(path) or not os.access(path, os.X_OK):
-            raise Stop(f"{self.program_word} is not an executable program")
-        self.program_path = behind_script(path)  # the script would look for it at each call
+            raise Stop(f"{self.program_command} is not an executable program")
+        self.program_path = behind_script(path)  # the script would search for it in each call
 
-    def beside(self) -> str:
-        """Return the program's name for a call, next to the tools."""
+    def default_program(self) -> str:
+        """Return the path of the program next to the tools."""
         if self.is_installed:
             return os.path.join(self.folder, "subttx")
         path = os.path.normpath(os.path.join(self.folder, "..", "subttx"))
         return path if os.path.dirname(path) else os.path.join(".", path)
 
-    def tool(self, name: str) -> str:
-        """Return a tool's name for a call."""
+    def tool_command(self, name: str) -> str:
+        """Return the path of a tool."""
         return os.path.join(self.folder, INSTALLED + name if self.is_installed else name)
 
 
 def shell_line(*words: str) -> str:
-    """Return a command line for a shell; `>` and `|` are not quoted."""
+    """Quote arguments for a shell, except `>` and `|`."""
     line = " ".join(word if word in (">", "|") else quoted(word) for word in words)
     return line.replace(" > ", " >")
 
 
-# The names of a call's files, and the call itself.
+# Names of result files.
 #
-# A file's name depends only on its pair and part, and no two are the same: in the name of a pair,
-# an ending like the number of a part or a line is escaped.
+# The name of a result file depends only on its pair and part. Names are unique: if the name of a
+# subtitle file ends like the number of a part or a line, that ending is escaped.
 #
-#     film.json       of the pair of film.stl      film~2.json     of the second film.stl of a list
-#     film.1.html     of its first part            line 7.json     of line 7, if it is no pair
-#     film%2E1.json   of the pair of film.1.stl    %69ndex.json    of the pair of index.stl
+#     film.json       the pair of film.stl         film~2.json     the second film.stl of a list
+#     film.1.html     the first part of film.stl   line 7.json     line 7, if it is no pair
+#     film%2E1.json   the pair of film.1.stl       %69ndex.json    the pair of index.stl
 
-ENDINGS = ("cut.pes", "txt", "html")  # of a part's files
-KEPT, KEPT_STREAM = "recording.pes", "recording.ts"  # of a kept recording
-OF_PAIR = (*ENDINGS, KEPT, KEPT_STREAM, "json")
-LOCK = "lock"  # of the file while a pair is judged
-INDEX = "index"  # of the page over all pairs of a folder
+PART_ENDINGS = ("cut.pes", "txt", "html")
+KEPT_PES, KEPT_TS = "recording.pes", "recording.ts"  # endings of a kept recording
+PAIR_ENDINGS = (*PART_ENDINGS, KEPT_PES, KEPT_TS, "json")
+LOCK = "lock"  # ending of the lock file of a pair that is being judged
+INDEX = "index"  # name of the page with all pairs of a folder
 ESCAPE = "%"
-# What is escaped in a name: the dot of a hidden file, control characters, and the endings of other
-# pairs, parts and lines.
+# Escaped in names: a leading dot, control characters, and endings that would be those of a second
+# pair, a part or a line.
 ESCAPED = re.compile(rf"^\.|{ESCAPE}|{HIDDEN.pattern}|[.~](?=[0-9]+$)|(?<=^line) (?=[0-9]+$)"
                      r"|^i(?=ndex$)")
-LONGEST, BEGINNING = 180, 120  # bytes of a name; of the beginning of a longer one
+MOST_NAME_BYTES, KEPT_NAME_BYTES = 180, 120  # a longer name is cut, and a digest is added
 
 
 def pair_name(stl: str) -> str:
-    """Return the name of a pair's results by its subtitle file."""
+    """Return the name of a pair's result files, from the name of its subtitle file."""
     stem = os.path.splitext(os.path.basename(stl))[0]
     name = ESCAPED.sub(lambda found: "".join(
         f"{ESCAPE}{byte:02X}" for byte in os.fsencode(found[0])), stem) or ESCAPE
-    if len(os.fsencode(name)) > LONGEST:
+    if len(os.fsencode(name)) > MOST_NAME_BYTES:
         digest = hashlib.sha256(os.fsencode(stem)).hexdigest()[:32]
-        begin = name.encode()[:BEGINNING].decode("utf-8", "ignore")
-        name = f"{begin}{ESCAPE}~{digest}"
+        beginning = name.encode()[:KEPT_NAME_BYTES].decode("utf-8", "ignore")
+        name = f"{beginning}{ESCAPE}~{digest}"
     return name
 
 
 def part_name(name: str, number: int) -> str:
-    """Return the name of a part's results."""
+    """Return the name of the result files of part `number`."""
     return f"{name}.{number}"
 
 
-class NamesOfList:
-    """The names of the results of a list's lines, in their order."""
+class ListNames:
+    """Assigns names to the results of a list's lines, in the order of the lines."""
 
     def __init__(self) -> None:
         self.counts: collections.Counter[str] = collections.Counter()
 
-    def pair(self, stl: str) -> str:
+    def name_pair(self, stl: str) -> str:
         """Return the name of the next pair."""
-        return self.numbered(pair_name(stl))
+        return self.add_number(pair_name(stl))
 
-    def line(self, number: int) -> str:
-        """Return the name of a line that is no pair; an edited list may have others."""
-        return self.numbered(f"line {number}")
+    def name_line(self, number: int) -> str:
+        """Return the name of a line that is not a pair."""
+        return self.add_number(f"line {number}")
 
-    def numbered(self, name: str) -> str:
-        """Return a name, with its number from the second one on."""
+    def add_number(self, name: str) -> str:
+        """Return a name, with a number if it was used before."""
         self.counts[name] += 1
         return name if self.counts[name] == 1 else f"{name}~{self.counts[name]}"
 
 
-OF_PART = re.compile(rf"(.*)\.[1-9][0-9]*\.({'|'.join(map(re.escape, ENDINGS))})", re.DOTALL)
+PART_FILE = re.compile(rf"(.*)\.[1-9][0-9]*\.({'|'.join(map(re.escape, PART_ENDINGS))})", re.DOTALL)
 
 
 class PartFiles:
-    """The files of parts in a folder of results. It is listed once: to list it for each pair of a
-    batch takes quadratic time."""
+    """The result files of parts in a folder.
+
+    The folder is listed only once: listing it for each pair of a batch would take quadratic time.
+    """
 
     def __init__(self, folder: str) -> None:
         self.folder = folder
-        self.listed: dict[str, set[str]] = collections.defaultdict(set)
+        self.files_by_pair: dict[str, set[str]] = collections.defaultdict(set)
         for file in os.listdir(folder) if os.path.isdir(folder) else ():
-            if match := OF_PART.fullmatch(file):
-                self.listed[match[1]].add(file)
+            if match := PART_FILE.fullmatch(file):
+                self.files_by_pair[match[1]].add(file)
 
-    def of_pair(self, name: str) -> list[str]:
-        """Return a pair's files, also of a call after the listing, which numbers them from 1."""
-        found = {*self.listed.get(name, ())}
+    def list_files(self, name: str) -> list[str]:
+        """Return the files of a pair's parts, including files written since the folder was listed.
+        """
+        names = {*self.files_by_pair.get(name, ())}
         for number in itertools.count(1):
-            files = {f"{part_name(name, number)}.{ending}" for ending in ENDINGS}
-            there = {file for file in files if os.path.lexists(os.path.join(self.folder, file))}
-            found |= there
-            if not there:
+            candidates = {f"{part_name(name, number)}.{ending}" for ending in PART_ENDINGS}
+            present = {file for file in candidates
+                       if os.path.lexists(os.path.join(self.folder, file))}
+            names |= present
+            if not present:
                 break
-        return sorted(found)
+        return sorted(names)
 
 
-def files_in(folder: str, name: str, parts: PartFiles | None = None) -> list[str]:
-    """Return all files of a pair in a folder of results that a call may write or remove."""
-    of_parts = (parts or PartFiles(folder)).of_pair(name)
+def list_pair_files(folder: str, name: str, parts: PartFiles | None = None) -> list[str]:
+    """Return the paths of all result files that judging a pair may write or remove."""
+    part_files = (parts or PartFiles(folder)).list_files(name)
     return [os.path.join(folder, file)
-            for file in (*(f"{name}.{ending}" for ending in OF_PAIR), *of_parts)]
+            for file in (*(f"{name}.{ending}" for ending in PAIR_ENDINGS), *part_files)]
 
 
-def lock_of(folder: str, name: str) -> str:
-    """Return the lock file of a pair, or without a name of a folder."""
+def lock_path(folder: str, name: str) -> str:
+    """Return the path of a pair's lock file, or of the folder's if the name is empty."""
     return os.path.join(folder, f".{name}.{LOCK}" if name else f".{LOCK}")
 
 
-def index_in(folder: str) -> str:
-    """Return the page over all pairs of a folder."""
+def index_path(folder: str) -> str:
+    """Return the path of the page with all pairs of a folder."""
     return os.path.join(folder, f"{INDEX}.html")
 
 
-class Names:
-    """The names of a call's files: as typed, in the output folder, and in a temporary one until
-    they are complete. `here` is the folder where they are put if the caller moves them later."""
+class OutputNames:
+    """Paths of the result files of a pair or part.
 
-    def __init__(self, name: str, folder: str, out: str | None, here: str | None = None) -> None:
-        self.name, self.folder, self.out, self.here = name, folder, out, here or out
-        self.given = ""  # the subtitle file, for the program
-        self.whole_path = self.temporary("recording")  # of the input of a pipe
-        self.list_path = self.temporary("txt")
-        self.report = self.placed("html")
-        self.machine = self.placed("json") if out else None
+    `folder` is temporary, `out` the output folder as typed. Complete files are put into
+    `staging_folder` if the caller moves them to `out` later.
+    """
 
-    def typed(self, ending: str) -> str:
-        """Return a file as typed."""
+    def __init__(self, name: str, folder: str, out: str | None,
+                 staging_folder: str | None = None) -> None:
+        self.name, self.folder, self.out = name, folder, out
+        self.staging_folder = staging_folder or out
+        self.program_stl = ""  # path of the subtitle file in UTF-8
+        self.recording_path = self.temporary_path("recording")  # of a copy of standard input
+        self.list_path = self.temporary_path("txt")
+        self.report_path = self.final_path("html")
+        self.json_path = self.final_path("json") if out else None
+
+    def display_path(self, ending: str) -> str:
+        """Return the path of a result file, as shown to the operator."""
         return os.path.join(self.out or "", f"{self.name}.{ending}")
 
-    def placed(self, ending: str) -> str:
+    def final_path(self, ending: str) -> str:
         """Return the path of a complete file."""
-        return os.path.join(self.here or "", f"{self.name}.{ending}")
+        return os.path.join(self.staging_folder or "", f"{self.name}.{ending}")
 
-    def temporary(self, ending: str) -> str:
+    def temporary_path(self, ending: str) -> str:
         """Return the path of a file in the temporary folder."""
         return os.path.join(self.folder, f"{self.name}.{ending}")
 
-    def of_part(self, number: int) -> Names:
-        """Return the names of a part's files."""
-        part = Names(part_name(self.name, number), self.folder, self.out, self.here)
-        part.given = self.given
+    def name_part(self, number: int) -> OutputNames:
+        """Return the paths of the result files of a part."""
+        part = OutputNames(part_name(self.name, number), self.folder, self.out, self.staging_folder)
+        part.program_stl = self.program_stl
         return part
 
-    def give(self, stl: str) -> None:
-        """Set the subtitle file for the program."""
-        self.given = self.as_program(stl, "given.stl")
+    def set_subtitle_file(self, stl: str) -> None:
+        """Set the path of the subtitle file."""
+        self.program_stl = self.make_utf_8_path(stl, "given.stl")
 
-    def as_program(self, name: str, ending: str) -> str:
-        """Return a name in UTF-8 for a file, as the program needs."""
+    def make_utf_8_path(self, name: str, ending: str) -> str:
+        """Return a path in UTF-8, through a symbolic link if needed: the program accepts no other.
+        """
         if is_utf_8(name):
             return name
-        path = self.temporary(ending)
+        path = self.temporary_path(ending)
         if not os.path.lexists(path):
             os.symlink(os.path.abspath(name), path)
         return path
 
 
-def again(asked: Request, typed: CommandWords, *more: str) -> str:
-    """Return the call of this tool for the pair, with more arguments, which replace the same
-    option."""
-    words = [typed.tool("qc"), asked.stl, *([asked.recording] if asked.recording else [])]
-    options = option_words(asked)
-    instead = {"--origin": ["--origin", "--start"]}.get(more[0], [more[0]]) if more else []
-    words += [word for option in options if not set(option[:1]) & set(instead) for word in option]
-    return shell_line(*words, *more)
+def make_qc_command(request: Request, command_paths: CommandPaths, *more: str) -> str:
+    """Return the command line that repeats a request with `more` arguments. These replace the same
+    option of the request."""
+    arguments = [command_paths.tool_command("qc"), request.stl,
+                 *([request.recording] if request.recording else [])]
+    options = list_arguments(request)
+    replaced = {"--origin": ["--origin", "--start"]}.get(more[0], [more[0]]) if more else []
+    arguments += [word for option in options if option and option[0] not in replaced
+                  for word in option]
+    return shell_line(*arguments, *more)
 
 
 def profile_line(profile: Profile) -> str:
-    """Return the options of a profile in a line."""
-    words = [word for one in OPTIONS if (setting := profile.settings.get(one.field))
-             and setting.name == one.name for word in one.words(setting.value, None)]
-    return f"profile {profile.name}: {shell_line(*words) or 'no options'}"
+    """Return the line that shows a profile's options."""
+    arguments = [word for option in OPTIONS if (setting := profile.settings.get(option.field))
+                 and setting.name == option.name
+                 for word in option.format_arguments(setting.value, None)]
+    return f"profile {profile.name}: {shell_line(*arguments) or 'no options'}"
 
 
 # The progress line on a terminal.
 
-EACH = 0.2  # seconds from one update to the next
-CLEAR = "\r\x1b[K"
+UPDATE_SECONDS = 0.2  # seconds from one update to the next
+CLEAR_LINE = "\r\x1b[K"
 
 
 class Progress:
-    """The progress line; nothing is written unless standard error is a terminal."""
+    """Shows a progress line if standard error is a terminal."""
 
     def __init__(self) -> None:
         self.is_terminal = sys.stderr is not None and sys.stderr.isatty()
-        self.next, self.is_shown = 0.0, False
+        self.next_update, self.is_shown = 0.0, False
 
     def show(self, make_line: Callable[[], str]) -> None:
-        """Make and print the line, if the printed line is old enough."""
-        if self.is_terminal and time.monotonic() >= self.next:
-            self.next, self.is_shown = time.monotonic() + EACH, True
+        """Print a line, unless the last one was printed less than `UPDATE_SECONDS` ago."""
+        if self.is_terminal and time.monotonic() >= self.next_update:
+            self.next_update, self.is_shown = time.monotonic() + UPDATE_SECONDS, True
             width = shutil.get_terminal_size().columns - 1
-            sys.stderr.write(CLEAR + make_line()[:width])
+            sys.stderr.write(CLEAR_LINE + make_line()[:width])
             sys.stderr.flush()
 
     def clear(self) -> None:
-        """Remove the line before other output."""
+        """Erase the progress line, so that other output can follow."""
         if self.is_shown:
             self.is_shown = False
-            sys.stderr.write(CLEAR)
+            sys.stderr.write(CLEAR_LINE)
             sys.stderr.flush()
 
 
-# What the operator reads: the commands, their output, the verdict.
-
-MOST_LINES = 40  # of a list
-
-
-class Speech:
-    """Prints lines on standard output, or on standard error if a file goes there."""
+MOST_LIST_LINES = 40  # printed lines of a list
+class Printer:
+    """Prints lines on standard output, or on standard error if an output file is `-`."""
 
     def __init__(self, progress: Progress, is_output_taken: bool = False) -> None:
         self.progress = progress
         self.out = sys.stderr if is_output_taken else sys.stdout
-        self.last, self.listed = "", 0
+        self.last_line, self.list_length = "", 0
         self.is_quiet = False  # until the verdict comes
-        self.at_end: Callable[[], None] = lambda: None  # called before the last line
+        self.before_last_line: Callable[[], None] = lambda: None  # called before the last line
 
-    def say(self, line: str) -> None:
-        """Print a line, unless quiet."""
+    def print_line(self, line: str) -> None:
+        """Print a line, unless `is_quiet`."""
         self.progress.clear()
-        self.last = line
+        self.last_line = line
         if not self.is_quiet:
-            self.put(shown(line), self.out)
+            self.write_line(shown(line), self.out)
 
     @staticmethod
-    def put(line: str, out: TextIO) -> None:
-        """Print a line at once. If a reader closes the output, judging and writing go on."""
+    def write_line(line: str, out: TextIO) -> None:
+        """Print a line and flush. Ignore a closed pipe, so that judging continues."""
         try:
             print(line, file=out, flush=True)
         except BrokenPipeError:
             silence(out)
 
-    def tell(self, line: str) -> None:
-        """Print a line on standard error, after earlier output."""
+    def print_error(self, line: str) -> None:
+        """Print a line on standard error, after all earlier output."""
         self.progress.clear()
         tell(line)
 
-    def show(self, make_line: Callable[[], str]) -> None:
-        """Show the progress on a terminal."""
+    def show_progress(self, make_line: Callable[[], str]) -> None:
+        """Show a progress line on a terminal."""
         self.progress.show(make_line)
 
-    def command(self, line: str) -> None:
-        """Print a command as it would be typed; its list begins."""
-        self.listed = 0
-        self.say(f"+ {line}")
+    def print_command(self, line: str) -> None:
+        """Print a command; the lines that it prints follow as a list."""
+        self.list_length = 0
+        self.print_line(f"+ {line}")
 
-    def of_list(self, line: str) -> None:
-        """Print a line of the list if it is among the first."""
-        self.listed += 1
-        if self.listed <= MOST_LINES:
-            self.say(line)
+    def print_list_line(self, line: str) -> None:
+        """Print a line of a list, if it is one of the first `MOST_LIST_LINES`."""
+        self.list_length += 1
+        if self.list_length <= MOST_LIST_LINES:
+            self.print_line(line)
 
-    def end_list(self, last: str) -> None:
-        """Print how many lines of the list were omitted, and its last line."""
-        left = self.listed - MOST_LINES
-        if left > 1:
-            self.say(f".. {left - 1} more lines")
-        if left > 0:
-            self.say(last)
+    def end_list(self, last_line: str) -> None:
+        """Print the number of omitted lines, and the last line of the list."""
+        omitted = self.list_length - MOST_LIST_LINES
+        if omitted > 1:
+            self.print_line(f".. {omitted - 1} more lines")
+        if omitted > 0:
+            self.print_line(last_line)
 
-    def end(self, sentence: str, line: str) -> None:
-        """Print the verdict: its sentence, then the last line."""
+    def print_verdict(self, sentence: str, line: str) -> None:
+        """Print the verdict: its sentence, then the line `accepted`, `refused` or other."""
         self.is_quiet = False
-        self.say(sentence)
-        self.at_end()
-        self.say(line)
+        self.print_line(sentence)
+        self.before_last_line()
+        self.print_line(line)
 
 
 class Listener:
-    """Passes on the lines about a pair, and keeps those for the result: commands, choices and
-    notes."""
+    """Prints the lines about a pair, and keeps its commands, choices and notes for the result."""
 
-    def __init__(self, speech: Speech) -> None:
-        self.speech = speech
+    def __init__(self, printer: Printer) -> None:
+        self.printer = printer
         self.commands: list[str] = []
         self.selections: list[Selection] = []
         self.notes: list[str] = []
 
-    def said(self, line: str) -> None:
+    def print_line(self, line: str) -> None:
         """Print a line."""
-        self.speech.say(line)
+        self.printer.print_line(line)
 
-    def chosen(self, selection: Selection, is_said: bool = True) -> None:
-        """Keep a choice; print its line unless that is printed elsewhere."""
-        if is_said:
-            self.speech.say(selection.line)
+    def add_selection(self, selection: Selection, is_printed: bool = True) -> None:
+        """Keep a choice, and print its line if `is_printed`."""
+        if is_printed:
+            self.printer.print_line(selection.line)
         self.selections.append(selection)
 
-    def written(self, *words: str) -> None:
-        """Print and keep a command as it would be typed."""
+    def add_command(self, *words: str) -> None:
+        """Print and keep a command."""
         self.commands.append(shell_line(*words))
-        self.speech.command(self.commands[-1])
+        self.printer.print_command(self.commands[-1])
 
-    def noted(self, *lines: str) -> None:
-        """Keep lines to print with the verdict."""
+    def add_notes(self, *lines: str) -> None:
+        """Keep notes, which are printed with the verdict."""
         self.notes += [line for line in lines if line and line not in self.notes]

@@ -1,4 +1,4 @@
-"""The request for a pair: the table of options, a profile, and what qc chooses itself."""
+"""The request for a pair: the table of options, profiles, and the choices of qc."""
 from __future__ import annotations
 
 import argparse
@@ -16,23 +16,23 @@ from ..common.files import first_bytes, plain_name
 from ..common.shapes import (
     COUNT, Flag, Integer, Listed, Maybe, Member, OneOf, PID, PTS, Record, SUM, Shape, TIME, Text)
 from ..common.times import Between, FRAMES_OF_A_DAY, frame_of, time_of
-from ..formats.layout import fault_in
-from ..formats.stl import stl_bytes
-from ..formats.teletext import WORDS, named_by, page_name
+from ..formats.layout import find_layout_fault
+from ..formats.stl import read_stl
+from ..formats.teletext import OPTION_WORDS, option_for_language, page_name
 
 
-# The table of the options of a pair.
+# The table of the options for a pair.
 #
-# From it come the parser and its help, the man page, the completion and the manual's table; the
-# arguments of `qc` and `check`; the calls and lines of a list that take an option; and the members
-# of a JSON result, which --resume compares. A new option is a row here and a field of `Request`.
+# The parser and its help, the man page, the completion, the manual's table, the arguments of `qc`
+# and `check`, and the members of a JSON result that --resume compares are all made from it. To add
+# an option, add a row here and a field to `Request`.
 
 
 class Mode(NamedTuple):
-    """A way to call the tool, or a line of a list: its name in the manual and in messages."""
+    """A way to use the tool: its name in the manual, and its text in messages."""
 
     name: str
-    words: str
+    text: str
 
 
 PAIR = Mode("a pair", "a recording")
@@ -48,77 +48,75 @@ PAIRS = (PAIR, BATCH, WATCH, LINE)
 JUDGED = (*PAIRS, ALONE)
 MEASURED_PAIRS, MEASURED = (*PAIRS, MEASURE), (*JUDGED, MEASURE)
 
-NOT = object()  # an option that `check` does not take
+NOT_TAKEN = object()  # `check` does not have the option
 
 
 class Option(NamedTuple):
-    """An option of a call or of a line of a list.
+    """An option of the command line or of a line in a list.
 
-    `metavar` names its value, None for a flag; `means` says in the imperative what it does, with
-    links for the manual, and `without` its default. `modes` are the calls and lines that take it;
-    `field` is its field of `Request`, or of the arguments. `read` parses the value and may raise
-    `ArgumentTypeError`, `write` formats it. A flag sets the field to `sets`; `nargs` is as in
-    argparse. `of_check` is the default of `check`. An option `of_pages` changes the expected pages,
-    so `schedule` takes it; `in_profile` says whether a profile may have it. `shape`, `note` and
-    `in_result` make its member of a JSON result: its kind, an addition to `means`, and the value
-    there.
+    `metavar` is the name of its value, `None` for a flag. `description` is in the imperative and
+    may have links of the manual. `field` is its field in `Request` or the parsed arguments. `read`
+    parses the value and may raise `ArgumentTypeError`, `write` formats it. A flag sets the field to
+    `flag_value`. `check_default` is the default in `check`. An option that `changes_pages` is
+    passed to `schedule` too. A profile may have it if `is_in_profile`. `shape`, `note` and
+    `result_value` define its member in a JSON result.
     """
 
     name: str
     metavar: str | None
-    means: str
+    description: str
     modes: Sequence[Mode]
-    without: str = ""
+    default_text: str = ""
     field: str = ""
     default: Any = None
     read: Callable[[str], Any] = str
     write: Callable[[Any], str] = str
-    sets: Any = True
+    flag_value: Any = True
     choices: Sequence[str] = ()
     nargs: str | None = None
-    of_check: Any = NOT
-    of_pages: bool = False
-    in_profile: bool = False
+    check_default: Any = NOT_TAKEN
+    changes_pages: bool = False
+    is_in_profile: bool = False
     shape: Shape | None = None
     note: str = ""
-    in_result: Callable[[Any], Any] = lambda value: value
+    result_value: Callable[[Any], Any] = lambda value: value
 
     @property
     def help(self) -> str:
-        """The line of --help."""
-        default = f" (default: {self.without})" if self.without and self.metavar else ""
-        return plain(self.means + default)
+        """Its line in --help."""
+        default = f" (default: {self.default_text})" if self.default_text and self.metavar else ""
+        return remove_markup(self.description + default)
 
     @property
     def form(self) -> str:
-        """The option with its value, as it is typed."""
+        """The option with the name of its value."""
         return f"{self.name} {self.metavar}" if self.metavar else self.name
 
     @property
     def member(self) -> Member | None:
-        """The member of `request` in a JSON result."""
+        """Its member of `request` in a JSON result."""
         if self.shape is None:
             return None
-        meaning = plain(self.means[0].upper() + self.means[1:] + ".")
+        meaning = remove_markup(self.description[0].upper() + self.description[1:] + ".")
         return Member(self.name.strip("-").replace("-", "_"), self.shape,
-                      f"{meaning} {self.note}".strip(), lambda asked: self.in_result(
-                          self.value_in(asked)))
+                      f"{meaning} {self.note}".strip(), lambda request: self.result_value(
+                          self.get_value(request)))
 
-    def value_in(self, asked: Any) -> Any:
-        """Return its value in a request."""
-        return getattr(asked, self.field)
+    def get_value(self, request: Any) -> Any:
+        """Return the option's value in a request."""
+        return getattr(request, self.field)
 
-    def words(self, value: Any, default: Any) -> list[str]:
-        """Return the arguments that give a value; none for the default."""
+    def format_arguments(self, value: Any, default: Any) -> list[str]:
+        """Return the arguments that set the option to a value; none for the default."""
         if value is None or value == default:
             return []
         if self.metavar:
             return [self.name, self.write(value)]
-        return [self.name] if value == self.sets else []
+        return [self.name] if value == self.flag_value else []
 
 
-def plain(text: str) -> str:
-    """Return a text of the table without Markdown: links as their text, no backquotes."""
+def remove_markup(text: str) -> str:
+    """Remove links and backquotes of Markdown from a text."""
     while "](" in text:
         before, _, rest = text.partition("](")
         start = before.rindex("[")
@@ -126,120 +124,124 @@ def plain(text: str) -> str:
     return text.replace("`", "")
 
 
-def time_text(text: str) -> str:
-    """Check a time of the day."""
+def check_time(text: str) -> str:
+    """Return a time of day unchanged; raise `ArgumentTypeError` if it is invalid."""
     time_word(text)
     return text
 
 
-AUTO = "auto"  # --option by the language of the file
-NONE = "none"  # --pace: check no interval
+AUTO = "auto"  # --option: use the language of the subtitle file
+NONE = "none"  # --pace: do not check the PES interval
 
 
-def layout_word(text: str) -> str:
-    """Check a layout as the program takes it."""
+def check_layout(text: str) -> str:
+    """Return a layout unchanged; raise `ArgumentTypeError` if it is invalid."""
     if text == AUTO:
         raise argparse.ArgumentTypeError(
-            "auto is no longer a layout: find your inserter's with `--measure STL RECORDING ..`, "
-            "and keep it in a profile")
-    fault = fault_in(text)
+            "auto is no longer a layout: find the layout of your inserter with `--measure STL "
+            "RECORDING ..`, and keep it in a profile")
+    fault = find_layout_fault(text)
     if fault is not None:
         raise argparse.ArgumentTypeError(f"{text!r} is not a layout: {fault}")
     return text
 
 
-def pace_or_none(text: str) -> str:
+def parse_pace_or_none(text: str) -> str:
     """Parse a maximum PES interval, or `none`."""
     return text if text == NONE else str(pace_word(text))
 
 
-def range_text(pes: tuple[int, int]) -> str:
-    """Format a range of PES packets as it is typed."""
+def format_range(pes: tuple[int, int]) -> str:
+    """Format a range of PES packets for --pes."""
     return f"{pes[0]}-{pes[1]}"
 
 
 PROFILE = Record("profile", "", Member("name", Text()), Member("sha256", SUM))
 
-IN_PART = "null if qc found the value, which is then in the part."  # of a request's key
+PART_NOTE = "null if qc chosen the value, which is then in see the part."
 
 OPTIONS: tuple[Option, ...] = (
     Option("--page", "P", "judge page P", MEASURED_PAIRS, "888", field="page", default=(0, 0x88),
-           read=page_word, write=lambda page: page_name(*page), of_check=(0, 0x88), in_profile=True,
-           shape=Text(r"[1-8][0-9A-F]{2}"), in_result=lambda page: page_name(*page)),
+           read=page_word, write=lambda page: page_name(*page), check_default=(0, 0x88),
+           is_in_profile=True,
+           shape=Text(r"[1-8][0-9A-F]{2}"), result_value=lambda page: page_name(*page)),
     Option("--every", "N", "allow at most N frames from one header of the page to the next", PAIRS,
-           "250", field="every", default=250, read=every_word, of_check=250, in_profile=True,
-           shape=Integer(1, MOST_EVERY)),
-    Option("--option", "O", "use this national option; `auto`: the one of the subtitle file's "
-           "language (LC)", MEASURED, "english", field="option", default="english",
-           choices=(*WORDS, AUTO), of_check="english", in_profile=True, shape=OneOf(*WORDS)),
+           "250", field="every", default=250, read=every_word, check_default=250,
+           is_in_profile=True, shape=Integer(1, MOST_EVERY)),
+    Option("--option", "O", "use this national option; `auto`: choose it by the language of the "
+           "subtitle file (LC)", MEASURED, "english", field="option", default="english",
+           choices=(*OPTION_WORDS, AUTO), check_default="english", is_in_profile=True,
+           shape=OneOf(*OPTION_WORDS)),
     Option("--origin", "T", "take T as the PTS of 00:00:00:00", MEASURED_PAIRS, "estimated",
-           field="origin", read=origin_word, in_profile=True, shape=Maybe(PTS), note=IN_PART),
-    Option("--complete", None, "require [closing headers]"
-           "(streams.md#closing-headers---complete)", PAIRS, "they are required",
-           field="is_complete", default=True, of_check=False, in_profile=True, shape=Flag()),
-    Option("--no-complete", None, "require no closing headers", PAIRS, "they are required",
-           field="is_complete", default=True, sets=False, in_profile=True),
-    Option("--pid", "PID", "judge this PID of a transport stream", MEASURED_PAIRS,
-           "the one that carries the page", field="pid", read=pid_word,
-           write=lambda pid: f"0x{pid:X}", in_profile=True, shape=Maybe(PID), note=IN_PART),
-    Option("--allow-lost", None, "treat lost TS packets (45, 79) as warnings", PAIRS,
-           "they are errors", field="is_loss_allowed", default=False, in_profile=True,
+           field="origin", read=origin_word, is_in_profile=True, shape=Maybe(PTS), note=PART_NOTE),
+    Option("--complete", None, "require a [terminator header]"
+           "(streams.md#closing-headers---complete) after each page", PAIRS, "required",
+           field="is_complete", default=True, check_default=False, is_in_profile=True,
            shape=Flag()),
-    Option("--no-allow-lost", None, "treat them as errors, whatever the profile says", PAIRS,
-           "they are errors", field="is_loss_allowed", default=False, sets=False),
-    Option("--severity", "FILE", "read from FILE which faults are only warnings; a line is `NUMBER "
-           "warning`, `NUMBER error` or `others warning`", JUDGED, "all are errors",
-           field="severity", in_profile=True, shape=Maybe(Text())),
-    Option("--breaks", "N", "expect N [breaks](#programmes-with-breaks) in the "
-           "programme, each part with its own clock", PAIRS, "0", field="breaks", default=0,
+    Option("--no-complete", None, "do not require terminator headers", PAIRS, "required",
+           field="is_complete", default=True, flag_value=False, is_in_profile=True),
+    Option("--pid", "PID", "judge this PID of a transport stream", MEASURED_PAIRS,
+           "the PID that carries the page", field="pid", read=pid_word,
+           write=lambda pid: f"0x{pid:X}", is_in_profile=True, shape=Maybe(PID), note=PART_NOTE),
+    Option("--allow-lost", None, "treat lost TS packets (45, 79) as warnings", PAIRS,
+           "they are errors", field="is_loss_allowed", default=False, is_in_profile=True,
+           shape=Flag()),
+    Option("--no-allow-lost", None, "treat lost TS packets as errors, even if the profile allows "
+           "them", PAIRS, "they are errors", field="is_loss_allowed", default=False,
+           flag_value=False),
+    Option("--severity", "FILE", "read from FILE which faults are only warnings; its lines are "
+           "`NUMBER warning`, `NUMBER error` or `others warning`", JUDGED, "all are errors",
+           field="severity", is_in_profile=True, shape=Maybe(Text())),
+    Option("--breaks", "N", "expect N [breaks](#programmes-with-breaks) in the programme; each "
+           "part has its own clock", PAIRS, "0", field="breaks", default=0,
            read=breaks_word, shape=COUNT),
-    Option("--pes", "I-J", "judge only PES packets I to J, if the programme is in the recording "
-           "twice", MEASURED_PAIRS, "all", field="pes", read=range_word, write=range_text,
+    Option("--pes", "I-J", "judge only PES packets I to J, if the recording has the programme "
+           "twice", MEASURED_PAIRS, "all", field="pes", read=range_word, write=format_range,
            shape=Maybe(Listed(COUNT, 2, 2))),
     Option("--start", "TIME|tcp", "take TIME as the time code of the recording's [first picture]"
-           "(#the-clock-by-the-first-picture); `tcp`: the TCP of the GSI block",
-           MEASURED_PAIRS, "estimated", field="start", read=start_word, in_profile=True,
+           "(#the-clock-by-the-first-picture); `tcp`: use the TCP of the GSI block",
+           MEASURED_PAIRS, "estimated", field="start", read=start_word, is_in_profile=True,
            shape=Maybe(Text())),
-    Option("--relative", None, "give [`relative`](#verdicts-and-exit-status) status 0: a delay "
-           "that all subtitles share is not checked", PAIRS, "status 3",
-           field="is_relative_allowed", default=False, in_profile=True, shape=Flag()),
+    Option("--relative", None, "exit with status 0 for [`relative`](#verdicts-and-exit-status): "
+           "a delay of all subtitles is not checked", PAIRS, "status 3",
+           field="is_relative_allowed", default=False, is_in_profile=True, shape=Flag()),
     Option("--within", "N", "accept pages that are complete at most N frames after their cues",
-           MEASURED_PAIRS, "0", field="within", default=0, read=within_word, of_check=0,
-           in_profile=True, shape=Integer(0, MOST_WITHIN)),
-    Option("--late", "SHARES", "choose the likeliest clock: SHARES are how many in-cues, and after "
-           "the slash out-cues, are usually 0, 1 .. frames late, for example "
+           MEASURED_PAIRS, "0", field="within", default=0, read=within_word, check_default=0,
+           is_in_profile=True, shape=Integer(0, MOST_WITHIN)),
+    Option("--late", "SHARES", "choose the likeliest clock by the usual delays of the inserter: "
+           "how many in-cues, and after the slash out-cues, are 0, 1 .. frames late, as "
            "`0:31,1:40,2:29/0:100`; only with `--within`",
-           PAIRS, "none", field="late", read=late_word, write=late_text, in_profile=True,
-           shape=Maybe(Text()), in_result=lambda late: late and late_text(late)),
+           PAIRS, "none", field="late", read=late_word, write=late_text, is_in_profile=True,
+           shape=Maybe(Text()), result_value=lambda late: late and late_text(late)),
     Option("--strict", None, "treat [warnings](#warnings) about the recording as faults", JUDGED,
            "they change nothing", field="is_strict", default=False, shape=Flag()),
     Option("--from", "TIME", "judge only subtitles with a TCI at TIME or later", MEASURED, "all",
-           field="from_time", read=time_text, of_check=None, shape=Maybe(TIME)),
+           field="from_time", read=check_time, check_default=None, shape=Maybe(TIME)),
     Option("--to", "TIME", "judge only subtitles with a TCI before TIME", MEASURED, "all",
-           field="to_time", read=time_text, of_check=None, shape=Maybe(TIME)),
+           field="to_time", read=check_time, check_default=None, shape=Maybe(TIME)),
     Option("--layout", "TEXT", "expect pages in the [layout]"
            "(subtitle-files.md#as-your-inserter-draws-it---layout) of your inserter", JUDGED,
-           "that of check", field="layout", read=layout_word, of_check=None, of_pages=True,
-           in_profile=True, shape=Maybe(Text())),
-    Option("--open", None, "judge a file of open subtitles, too", MEASURED, "it is refused",
-           field="is_open", default=False, of_check=False, of_pages=True, shape=Flag()),
-    Option("--keeping", None, "allow headers that repeat the page to keep it, with C4 (erase page) "
-           "clear", PAIRS, "they may not", field="may_keep", default=False, of_check=False,
-           in_profile=True, shape=Flag()),
-    Option("--no-keeping", None, "do not allow that, whatever the profile says", PAIRS,
-           "they may not", field="may_keep", default=False, sets=False),
-    Option("--pace", "K|none", "allow at most K frames from one PES packet to the next, its [pace]"
-           "(#the-pace); `none`: do not check that", PAIRS, "measured", field="pace_word",
-           read=pace_or_none, of_check=None, in_profile=True,
-           shape=Maybe(Text(r"(none|[1-9][0-9]{0,6})")), note=IN_PART),
+           "the layout of check", field="layout", read=check_layout, check_default=None,
+           changes_pages=True, is_in_profile=True, shape=Maybe(Text())),
+    Option("--open", None, "accept a file of open subtitles", MEASURED, "it is refused",
+           field="is_open", default=False, check_default=False, changes_pages=True, shape=Flag()),
+    Option("--keeping", None, "allow C4 (erase page) to be clear in headers that repeat the page",
+           PAIRS, "it must be set", field="may_keep", default=False, check_default=False,
+           is_in_profile=True, shape=Flag()),
+    Option("--no-keeping", None, "require C4 in these headers, even if the profile has --keeping",
+           PAIRS, "it must be set", field="may_keep", default=False, flag_value=False),
+    Option("--pace", "K|none", "allow at most K frames from one PES packet to the next (the [pace]"
+           "(#the-pace)); `none`: do not check this", PAIRS, "measured", field="pace_word",
+           read=parse_pace_or_none, check_default=None, is_in_profile=True,
+           shape=Maybe(Text(r"(none|[1-9][0-9]{0,6})")), note=PART_NOTE),
     Option("--profile", "FILE", "read options from FILE, [one per line](#a-profile); options on "
            "the command line override them", JUDGED, "none", field="profile",
            write=lambda profile: str(profile.name), shape=Maybe(PROFILE),
            note="The other keys have its options."),
 )
 
-# The options in each group of the help; all others are under `ACCEPTED`.
-ACCEPTED = "what is accepted"
+# The options in each group of the help; options that are missing here are in `ACCEPTED`.
+ACCEPTED = "acceptance"
 GROUPS = {
     "input": ("--page", "--option", "--pid", "--breaks", "--pes", "--from", "--to", "--layout",
               "--open", "--profile", "-p"),
@@ -251,41 +253,43 @@ GROUPS = {
 
 
 def add_options(parser: Words, options: Iterable[Option] | None = None) -> None:
-    """Add options to a parser, group by group; the options of a pair by default."""
-    for option in sorted(OPTIONS if options is None else options, key=group_of):
-        known: dict[str, Any] = {"help": option.help, "dest": option.field,
+    """Add options to a parser in their groups; by default the options for a pair."""
+    for option in sorted(OPTIONS if options is None else options, key=group_number):
+        arguments: dict[str, Any] = {"help": option.help, "dest": option.field,
                                  "default": option.default}
         if option.metavar is None:
-            known |= {"action": "store_const", "const": option.sets}
+            arguments |= {"action": "store_const", "const": option.flag_value}
         elif option.choices:
-            known["choices"] = option.choices
+            arguments["choices"] = option.choices
         else:
-            known |= {"metavar": option.metavar, "type": option.read, "nargs": option.nargs}
-        parser.add_to_group([*GROUPS][group_of(option)], option.name, **known)
+            arguments |= {"metavar": option.metavar, "type": option.read, "nargs": option.nargs}
+        parser.add_to_group([*GROUPS][group_number(option)], option.name, **arguments)
 
 
-def group_of(option: Option) -> int:
+def group_number(option: Option) -> int:
     """Return the number of an option's group."""
     titles = [title for title, names in GROUPS.items() if option.name in names]
     return [*GROUPS].index(titles[0] if titles else ACCEPTED)
 
 
-def option_words(asked: Any) -> list[list[str]]:
-    """Return the arguments of a request, option by option, without its profile's."""
-    return [one.words(one.value_in(asked), asked.profile.value(one.field, one.default)
-                      if asked.profile else one.default) for one in OPTIONS]
+def list_arguments(request: Any) -> list[list[str]]:
+    """Return the arguments of a request, option by option, without those that its profile has."""
+    profile = request.profile
+    return [option.format_arguments(
+        option.get_value(request), profile.get_value(option.field, option.default)
+        if profile else option.default) for option in OPTIONS]
 
 
-def members() -> list[Member]:
-    """Return the members of `request` in a JSON result."""
-    return [member for one in OPTIONS if (member := one.member)]
+def request_members() -> list[Member]:
+    """Return the members of the object `request` in a JSON result."""
+    return [member for option in OPTIONS if (member := option.member)]
 
 
-# A profile: the options of a site, in a file.
+# Profiles: files with the options of a site.
 
 
 class Setting(NamedTuple):
-    """A line of a profile: its option, the field of a request, the value."""
+    """A line of a profile: an option, its field in a request, and the value."""
 
     name: str
     field: str
@@ -293,28 +297,28 @@ class Setting(NamedTuple):
 
 
 class Profile(NamedTuple):
-    """A profile: its name as typed, its SHA-256, its lines by their fields."""
+    """A profile: its path as typed, its SHA-256, and its settings by field."""
 
     name: str
     sha256: str
     settings: Mapping[str, Setting]
 
-    def value(self, field: str, default: Any) -> Any:
-        """Return its value of a field, or the default."""
+    def get_value(self, field: str, default: Any) -> Any:
+        """Return the value of a field, or the default."""
         setting = self.settings.get(field)
         return setting.value if setting else default
 
 
 # The request for a pair.
 
-LC = slice(14, 16)  # the field in the GSI block
-KEPT = "subtitles.stl"  # in the temporary folder
+LC = slice(14, 16)  # bytes of the field in the GSI block
+COPY_NAME = "subtitles.stl"  # of a copy in the temporary folder
 
 
 @dataclasses.dataclass
 class Request:
-    """A pair with its options, and the national option of the file. `page` is magazine (0 is 8) and
-    number; `start` the time code of the first picture, or `tcp`."""
+    """A pair with its options. `page` is the magazine (0 is 8) and the page number, `start` is the
+    time code of the first picture, or `tcp`."""
 
     stl: str
     recording: str | None
@@ -330,27 +334,27 @@ class Request:
     pes: tuple[int, int] | None
     start: str | None
     is_relative_allowed: bool = False  # give `relative` status 0
-    within: int = 0  # frames until a page has to be complete
-    is_strict: bool = False  # count warnings
-    from_time: str | None = None  # as typed
+    within: int = 0  # frames from a cue until its page must be complete
+    is_strict: bool = False  # treat warnings as faults
+    from_time: str | None = None
     to_time: str | None = None
     layout: str | None = None
     is_open: bool = False  # accept open subtitles
-    may_keep: bool = False  # allow headers that keep the page
+    may_keep: bool = False  # accept repeated headers with C4 clear
     pace_word: str | None = None  # frames, or `none`
-    late: Lateness | None = None  # the usual delays of the inserter
-    profile: Profile | None = None  # its values are in the other fields
-    kept_stl: str | None = None  # a copy of the input of a pipe
-    language: str | None = None  # of the subtitle file, if it chose the option
+    late: Lateness | None = None  # usual delays of the inserter
+    profile: Profile | None = None  # its values are in the other fields, too
+    kept_stl: str | None = None  # path of the copy, if the subtitle file is a pipe
+    language: str | None = None  # language code, if `option` was chosen by it
 
     @property
     def stl_path(self) -> str:
-        """The path of the subtitle file, or of its copy."""
+        """The path of the subtitle file, or of its copy if it is a pipe."""
         return self.kept_stl or self.stl
 
     @property
-    def others(self) -> tuple[str | None, ...]:
-        """The other files that are read."""
+    def other_files(self) -> tuple[str | None, ...]:
+        """Its other input files: severity file and profile."""
         return self.severity, self.profile and self.profile.name
 
     @property
@@ -360,12 +364,12 @@ class Request:
 
     @property
     def between(self) -> Between:
-        """The frames whose subtitles are judged."""
+        """The judged range: subtitles with a TCI in it are judged."""
         begin, end = frame_of(self.from_time or ""), frame_of(self.to_time or "")
         return Between(begin or 0, FRAMES_OF_A_DAY if end is None else end)
 
-    def of_part(self, begin: int, end: int) -> Request:
-        """Return the request for the subtitles from one frame to before another."""
+    def restrict_to(self, begin: int, end: int) -> Request:
+        """Return the request for the subtitles from frame `begin` to before frame `end`."""
         return dataclasses.replace(self, from_time=time_of(begin), to_time=time_of(end))
 
     @property
@@ -381,111 +385,112 @@ class Request:
 
     @property
     def waivers(self) -> list[str]:
-        """The options of the profile that make this verdict more lenient."""
+        """The options of the profile that may turn a refusal into another verdict."""
         fields = ["is_loss_allowed", "severity", *["is_relative_allowed"] * (not self.has_clock)]
-        return [one.name for one in OPTIONS if one.field in fields
-                and one.words(one.value_in(self), one.default) and self.profile
-                and self.profile.value(one.field, None) == one.value_in(self)]
+        return [option.name for option in OPTIONS if option.field in fields
+                and option.format_arguments(option.get_value(self), option.default) and self.profile
+                and self.profile.get_value(option.field, None) == option.get_value(self)]
 
-    def words_of_pages(self) -> list[str]:
-        """Return the arguments of `schedule`, which change the expected pages."""
-        return self.words_of([one for one in OPTIONS if one.of_pages])
+    def schedule_arguments(self) -> list[str]:
+        """Return the arguments of `schedule`: the options that change the expected pages."""
+        return self.program_arguments([option for option in OPTIONS if option.changes_pages])
 
-    def check_words(self, is_file: bool = False) -> list[str]:
-        """Return the arguments of `check` without the origin; for a subtitle file alone only those
-        for its verdict."""
-        return self.words_of([one for one in OPTIONS if one.of_check is not NOT
-                              and (ALONE in one.modes or not is_file)])
+    def check_arguments(self, is_file_alone: bool = False) -> list[str]:
+        """Return the arguments of `check` except the origin."""
+        return self.program_arguments([
+            option for option in OPTIONS if option.check_default is not NOT_TAKEN
+            and (ALONE in option.modes or not is_file_alone)])
 
-    def words_of(self, options: Iterable[Option]) -> list[str]:
-        """Return the program's arguments for some options; it has no `--pace none`."""
-        asked = dataclasses.replace(
+    def program_arguments(self, options: Iterable[Option]) -> list[str]:
+        """Return the program's arguments for some options, without `--pace none`."""
+        request = dataclasses.replace(
             self, pace_word=None if self.pace_word == NONE else self.pace_word)
-        return [word for one in options for word in one.words(one.value_in(asked), one.of_check)]
+        return [word for option in options for word in
+                option.format_arguments(option.get_value(request), option.check_default)]
 
 
-def pair_options(names: argparse.Namespace) -> dict[str, Any]:
-    """Return the values of the options of a pair by their fields."""
-    return {one.field: getattr(names, one.field) for one in OPTIONS}
+def option_values(args: argparse.Namespace) -> dict[str, Any]:
+    """Return the values of a pair's options by field."""
+    return {option.field: getattr(args, option.field) for option in OPTIONS}
 
 
-def request_of(words: argparse.Namespace) -> Request:
+def make_request(args: argparse.Namespace) -> Request:
     """Return the request of a command line."""
-    return request_with(words.stl, words.recording, words)
+    return make_file_request(args.stl, args.recording, args)
 
 
-def request_with(stl: str, recording: str | None, options: argparse.Namespace) -> Request:
-    """Return the request for two files and parsed options."""
-    named = recording and (recording if recording == "-" else plain_name(recording))
+def make_file_request(stl: str, recording: str | None, options: argparse.Namespace) -> Request:
+    """Return the request for two files with parsed options."""
+    recording_name = recording and (recording if recording == "-" else plain_name(recording))
     if options.origin is not None and options.start is not None:
         raise Stop("--start and --origin both give the clock: remove one")
     if options.late and options.late.longest > options.within:
-        raise Stop(f"--late has {options.late.longest} frames, and --within {options.within}: "
-                   "give a greater --within")
-    asked = Request(plain_name(stl), named, **pair_options(options))
-    if asked.option == AUTO and not is_pipe(asked.stl):  # else once that is read
-        take_option(asked)
-    return asked
+        raise Stop(f"--late has delays of {options.late.longest} frames, but --within allows "
+                   f"{options.within}: give a greater --within")
+    request = Request(plain_name(stl), recording_name, **option_values(options))
+    if request.option == AUTO and not is_pipe(request.stl):  # a pipe is read later
+        choose_option(request)
+    return request
 
 
 def is_pipe(name: str) -> bool:
-    """Return whether a file can be read only once."""
+    """Return whether a path is a pipe, which can be read only once."""
     return os.path.exists(name) and stat.S_ISFIFO(os.stat(name).st_mode)
 
 
-def keep_stl(asked: Request, folder: str) -> None:
-    """Copy a subtitle file that comes through a pipe. Choose the national option by the file that
-    is judged: a list was read earlier."""
-    if is_pipe(asked.stl):
-        asked.kept_stl = os.path.join(folder, KEPT)
-        data = stl_bytes(asked.stl)
-        with open(asked.kept_stl, "wb") as file:
+def keep_stl(request: Request, folder: str) -> None:
+    """Copy a subtitle file that is a pipe into a folder. Choose `--option auto` again, since the
+    file may have changed since a list was read."""
+    if is_pipe(request.stl):
+        request.kept_stl = os.path.join(folder, COPY_NAME)
+        data = read_stl(request.stl)
+        with open(request.kept_stl, "wb") as file:
             file.write(data)
-    if asked.option == AUTO or asked.language is not None:
-        take_option(asked)
+    if request.option == AUTO or request.language is not None:
+        choose_option(request)
 
 
-def take_option(asked: Request) -> None:
+def choose_option(request: Request) -> None:
     """Choose the national option by the language of the subtitle file (GSI block, LC)."""
     language = b""
-    with contextlib.suppress(Stop, OSError):  # reported later
-        language = first_bytes(asked.stl_path, LC.stop)[LC]
-    asked.option, asked.language = named_by(language).word, language.decode("latin-1")
+    with contextlib.suppress(Stop, OSError):  # judging reports the error
+        language = first_bytes(request.stl_path, LC.stop)[LC]
+    request.option = option_for_language(language).word
+    request.language = language.decode("latin-1")
 
 
-def option_line(asked: Request) -> str:
-    """Return the line about the national option that the file's language names."""
-    language = f"the language of the file (LC) is {shown(asked.language)}" if asked.language else \
-        "the file names no language (LC)"
-    return f"option: {asked.option}, since {language}"
+def describe_option(request: Request) -> str:
+    """Return the line that explains the choice of the national option."""
+    language = f"the language of the file (LC) is {shown(request.language)}" \
+        if request.language else "the file names no language (LC)"
+    return f"option: {request.option}, since {language}"
 
 
-# What `qc` chooses itself, with the evidence, by the option that would give it.
-
+# Choices of qc, by the option that would replace the choice.
 PID_CHOICE, ORIGIN_CHOICE, PES_CHOICE = "pid", "origin", "pes"
 PACE_CHOICE, OPTION_CHOICE = "pace", "option"
 CHOICES = (PID_CHOICE, ORIGIN_CHOICE, PES_CHOICE, PACE_CHOICE, OPTION_CHOICE)
 
 
 class Selection(NamedTuple):
-    """A choice of qc: the option that would give it, the value to type (`None`: none), the printed
-    line, how many of how many agree, and the part (`None`: all)."""
+    """A choice of qc: the option with the chosen value (`None`: none), the printed line, how many
+    of how many items match, and the part (`None`: all parts)."""
 
-    what: str
+    option: str
     value: str | None
     line: str
-    agree: int | None = None
-    among: int | None = None
+    match_count: int | None = None
+    total_count: int | None = None
     part: int | None = None
 
 
 class Unclear(Exception):
-    """A pair that can't be judged since a step is not clear: the reason, and what to type."""
+    """A pair can't be judged: the reason, and the commands that may help."""
 
-    def __init__(self, reason: str, *to_type: str) -> None:
+    def __init__(self, reason: str, *commands: str) -> None:
         super().__init__(reason)
-        self.reason, self.to_type = reason, to_type
+        self.reason, self.commands = reason, commands
 
 
-class Unsaid(Unclear):
-    """The program ended before its answer was complete, as when it is killed: try again."""
+class IncompleteAnswer(Unclear):
+    """The program ended before its output was complete, for example because it was killed."""

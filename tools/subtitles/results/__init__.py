@@ -1,5 +1,5 @@
-"""Results for machines: JSON, CSV, JUnit.
+"""Results as files: JSON, CSV and JUnit.
 
-schema         the tables of JSON results, from which the schema is made
-files          results as files: JSON, written and read back; CSV, JUnit
+schema         tables of the members of JSON results, from which the schema is made
+files          writing JSON, CSV and JUnit; reading JSON results back
 """

@@ -1,4 +1,4 @@
-"""Results as files: JSON, written and read back; CSV; JUnit."""
+"""Result files: JSON, CSV and JUnit; reading JSON results back."""
 from __future__ import annotations
 
 import collections
@@ -21,67 +21,69 @@ from ..judging.subtitles import SubtitleCounts
 from ..judging.verdict import Verdict
 from ..request.request import Request
 from .schema import (
-    CUE, FORMAT, LISTS, NO_PAIR, OMITTED, REQUEST, VERDICT, Writing, misfit, subtitle_rows)
+    CUE, FORMAT, LISTS, NO_PAIR, OMITTED, REQUEST, VERDICT, ResultSource, find_misfit,
+    list_subtitle_rows)
 
 
-# JSON results, written item by item: there may be any number of faults.
+# JSON results. Items of lists are written one by one, since there may be any number of faults.
 
-MOST_BYTES = 32 << 20  # of the items of all lists
+MOST_BYTES = 32 << 20  # of the items in all lists of a result
 
 
-class Room:
-    """The bytes left for items of lists, and the number of omitted items of each list."""
+class ListLimit:
+    """Limits the size of the lists in a result, and counts omitted items."""
 
     def __init__(self) -> None:
-        self.left = MOST_BYTES
-        self.left_out = {one.name: 0 for one in LISTS}
+        self.remaining_bytes = MOST_BYTES
+        self.omitted_counts = {member.name: 0 for member in LISTS}
 
 
-def object_of(verdict: Verdict, program: MadeWith) -> Iterator[str]:
-    """Yield the text of a JSON result; it is checked when it is read back."""
-    known, room = Writing(verdict, program), Room()
-    before = "{"
+def write_result(verdict: Verdict, program: MadeWith) -> Iterator[str]:
+    """Yield the text of a JSON result in pieces."""
+    source, limit = ResultSource(verdict, program), ListLimit()
+    separator = "{"
     for member in VERDICT.members:
-        yield f"{before}\n \"{member.name}\": "
+        yield f"{separator}\n \"{member.name}\": "
         if member in LISTS:
-            yield from listed(member, known, room)
+            yield from write_list(member, source, limit)
         else:
-            value = room.left_out if member.shape is OMITTED else member.made(known)
+            value = limit.omitted_counts if member.shape is OMITTED else member.made(source)
             yield json.dumps(value, ensure_ascii=False)
-        before = ","
+        separator = ","
     yield "\n}\n"
 
 
-def listed(member: Member, known: Writing, room: Room) -> Iterator[str]:
-    """Yield the items of a list, one a line, as many as fit."""
+def write_list(member: Member, source: ResultSource, limit: ListLimit) -> Iterator[str]:
+    """Yield a list with one item per line, omitting the items that exceed the limit."""
     assert isinstance(member.shape, Listed) and member.of
-    items, before = iter(member.of(known)), "["
+    items, separator = iter(member.of(source)), "["
     for count, item in enumerate(items):
         text = json.dumps(member.shape.shape.made(item), ensure_ascii=False)
-        room.left -= len(text.encode("utf-8", "surrogatepass"))
-        if count == member.shape.most or room.left < 0:
-            room.left_out[member.name] = 1 + sum(1 for _ in items)
+        limit.remaining_bytes -= len(text.encode("utf-8", "surrogatepass"))
+        if count == member.shape.most or limit.remaining_bytes < 0:
+            limit.omitted_counts[member.name] = 1 + sum(1 for _ in items)
             break
-        yield f"{before}\n  {text}"
-        before = ","
-    yield "[]" if before == "[" else "]"
+        yield f"{separator}\n  {text}"
+        separator = ","
+    yield "[]" if separator == "[" else "]"
 
 
-# Results as rows of a table.
+# Reading JSON results, as rows of a table.
 
 ENDING = ".json"
-LINES = 100  # faults of a row
-MOST_READ = 2 * MOST_BYTES  # bytes of a result
-MOST_VALUES = 2_000_000  # Python needs 70 bytes for one, 160 for one with a name
-MOST_DIGITS = 20  # of a number
-
-
+MOST_ROW_LINES = 100
+MOST_RESULT_BYTES = 2 * MOST_BYTES
+MOST_VALUES = 2_000_000  # Python needs 70 bytes for a value, and 160 for a member of an object
+MOST_DIGITS = 20
 NO_CLOCK, LATER_CLOCK = "no clock was given", "the clock after a break was estimated"
 
 
 class Row(NamedTuple):
-    """A pair in a table: `title` has its two files, `hint` is about its first fault, `counts` says
-    how many subtitles were judged if some are refused, `clock` which delay was not checked."""
+    """A pair in a table.
+
+    `title` has its two files, `hint` is about its worst fault. `counts` says how many subtitles
+    were judged if some are refused, and `clock` why a delay was not checked.
+    """
 
     name: str
     title: str
@@ -99,304 +101,308 @@ class Row(NamedTuple):
 
     @property
     def is_judged(self) -> bool:
-        """Whether it has a verdict."""
+        """Whether the pair has a verdict other than `not judged`."""
         return self.verdict != NOT_JUDGED
 
 
-def unjudged(name: str, reason: str) -> dict[str, Any]:
-    """Return the result of no pair, or of a call that ended early."""
-    known = {"format": FORMAT, "verdict": NOT_JUDGED, "status": STATUSES[NOT_JUDGED], "name": name,
-             "reason": reason or "no reason was given"}
-    made: dict[str, Any] = NO_PAIR.made(known)
-    return made
+def make_unjudged(name: str, reason: str) -> dict[str, Any]:
+    """Return the result of a pair that was not judged and has no request."""
+    result: dict[str, Any] = NO_PAIR.made({
+        "format": FORMAT, "verdict": NOT_JUDGED, "status": STATUSES[NOT_JUDGED], "name": name,
+        "reason": reason or "no reason was given"})
+    return result
 
 
-def may_take(path: str, begins: bytes = b"{") -> bool:
-    """Return whether a result, or what begins otherwise, may replace a file, even if the arguments
-    are wrong: a file with other contents may be an input."""
+def can_replace(path: str, prefix: bytes = b"{") -> bool:
+    """Return whether a result may replace a file: it must be new, empty, or begin with `prefix`. A
+    file with other contents may be an input, given by mistake."""
     if not is_replaced(path) or not os.path.exists(path):
         return True
-    return first_bytes(path, len(begins)) in (begins, b"")
+    return first_bytes(path, len(prefix)) in (prefix, b"")
 
 
-def put_file(path: str | None, pieces: Callable[[], Iterable[bytes]]) -> None:
-    """Writes a file that is asked for, whole or not at all."""
+def write_file(path: str | None, make_chunks: Callable[[], Iterable[bytes]]) -> None:
+    """Write a requested file, completely or not at all."""
     if path is not None:
         with whole_file(path) as file:
-            file.writelines(pieces())
+            file.writelines(make_chunks())
 
 
-def object_text(known: dict[str, Any]) -> bytes:
-    """Return such a result as the bytes of a file."""
-    return json.dumps(known).encode() + b"\n"
+def result_bytes(result: dict[str, Any]) -> bytes:
+    """Encode a result that was not judged as JSON."""
+    return json.dumps(result).encode() + b"\n"
 
 
-def put_object(path: str, known: dict[str, Any]) -> None:
-    """Write such a result into a folder of results."""
+def write_result_file(path: str, result: dict[str, Any]) -> None:
+    """Write a result that was not judged into a folder of results."""
     with result_file(path) as file:
-        file.write(object_text(known))
+        file.write(result_bytes(result))
 
 
-def object_at(path: str) -> dict[str, Any] | None:
-    """Return the result in a file; as not judged if it can't be read, has another format, or does
-    not match the schema. `None` if the file is something else."""
+def read_result(path: str) -> dict[str, Any] | None:
+    """Read the result in a file, as not judged if the file can't be read, has another format, or
+    does not match the schema. Return `None` if the file is not a result."""
     name = os.path.basename(path).removesuffix(ENDING)
     try:
-        known = value_at(path)
+        result = read_json(path)
     except (Stop, OSError, ValueError) as reason:
-        return unjudged(name, f"its JSON result can't be read: {why(reason)}")
+        return make_unjudged(name, f"its JSON result can't be read: {describe_error(reason)}")
     except RecursionError:
-        return unjudged(name, "its JSON result can't be read: it is too deep")
+        return make_unjudged(name, "its JSON result can't be read: it is nested too deeply")
     except MemoryError:
-        return unjudged(name, "its JSON result can't be read: it is too large for this machine")
-    if not isinstance(known, dict) or "verdict" not in known:
+        return make_unjudged(
+            name, "its JSON result can't be read: it is too large for this machine")
+    if not isinstance(result, dict) or "verdict" not in result:
         return None
-    number = known.get("format")
+    number = result.get("format")
     if type(number) is int and number != FORMAT:
-        return unjudged(name, f"its JSON result has format {number}, and this version reads "
-                        f"{FORMAT}: judge it again")
-    wrong = misfit(known)
-    return known if wrong is None else \
-        unjudged(name, f"its JSON result does not match docs/verdict.schema.json at {wrong}: "
-                 "judge it again")
+        return make_unjudged(name, f"its JSON result has format {number}, but this version reads "
+                             f"format {FORMAT}: judge it again")
+    place = find_misfit(result)
+    return result if place is None else make_unjudged(
+        name, f"its JSON result does not match docs/verdict.schema.json at {place}: judge it again")
 
 
-def value_at(path: str) -> object:
-    """Return the JSON value in a file."""
-    data = bounded_bytes(path, MOST_READ, is_followed=False)
+def read_json(path: str) -> object:
+    """Read the JSON value in a file; raise `ValueError` if it is too large."""
+    data = bounded_bytes(path, MOST_RESULT_BYTES, is_followed=False)
     if sum(map(data.count, (b",", b"{", b"["))) > MOST_VALUES:
         raise ValueError(f"it has more than {MOST_VALUES:,} values")
-    return json.loads(data.decode("utf-8"), parse_int=number_in, parse_constant=refuse_constant)
+    return json.loads(data.decode("utf-8"), parse_int=parse_number, parse_constant=refuse_constant)
 
 
-def number_in(digits: str) -> int:
-    """Return a number of at most 20 digits."""
+def parse_number(digits: str) -> int:
+    """Parse a number of at most 20 digits; raise `ValueError` if it is longer."""
     return int(digits) if len(digits) <= MOST_DIGITS else refuse_constant(digits)
 
 
 def refuse_constant(text: str) -> int:
-    """Reject a number."""
-    raise ValueError(f"{text[:MOST_DIGITS]} is not a number of a result")
+    """Raise `ValueError` for a number that no result has, for example `NaN`."""
+    raise ValueError(f"{text[:MOST_DIGITS]} is not a number that a result can have")
 
 
-def why(reason: Exception) -> str:
-    """Return in a line why something can't be read."""
+def describe_error(reason: Exception) -> str:
+    """Return the message of an exception in one line."""
     return error_line(reason) if isinstance(reason, (Stop, OSError)) else \
         " ".join(str(reason).split())
 
 
-def left_by_call(path: str, name: str, ended: int, told: Sequence[str]) -> dict[str, Any]:
-    """Return the result of a call, if its status is that of the call; else `not judged`, with the
-    call's last message."""
-    known = object_at(path) if os.path.exists(path) else None
-    if known is not None and matches_exit_status(known["verdict"], known["status"], ended):
-        return known
-    if ended < 0:
-        return unjudged(name, "the process was killed")
-    return unjudged(name, told[-1].partition(": ")[2] if told else "the process left no result")
+def read_call_result(path: str, name: str, exit_status: int, messages: Sequence[str]) \
+        -> dict[str, Any]:
+    """Return the result that a process wrote. If it does not match the exit status, return `not
+    judged` with the last message of the process."""
+    result = read_result(path) if os.path.exists(path) else None
+    if result is not None and matches_exit_status(result["verdict"], result["status"], exit_status):
+        return result
+    if exit_status < 0:
+        return make_unjudged(name, "the process was killed")
+    return make_unjudged(name, messages[-1].partition(": ")[2] if messages
+                         else "the process wrote no result")
 
 
-def row_of_object(known: dict[str, Any], name: str) -> Row:
-    """Return a table's row for a result."""
-    if "request" not in known:
-        return Row(name, name, known["verdict"], known["status"], known["reason"], 0, {}, [], 0.0,
-                   "")
-    request = known["request"]
-    title = " ".join(request[word] for word in ("stl", "recording") if request[word])
-    counts = known["subtitle_counts"]
-    return Row(name, title or name, known["verdict"], known["status"],
-               known["reason"] or known["worst_fault"], known["fault_count"], causes_in(known),
-               [fault["line"] for fault in known["faults"][:LINES]], known["seconds"],
-               hint_in(known), SubtitleCounts(**counts).describe() if counts else "",
-               known["sentence"], clock_in(known))
+def make_row(result: dict[str, Any], name: str) -> Row:
+    """Return the row of a table for a result."""
+    if "request" not in result:
+        return Row(name, name, result["verdict"], result["status"], result["reason"], 0, {}, [],
+                   0.0, "")
+    request = result["request"]
+    title = " ".join(request[key] for key in ("stl", "recording") if request[key])
+    counts = result["subtitle_counts"]
+    return Row(name, title or name, result["verdict"], result["status"],
+               result["reason"] or result["worst_fault"], result["fault_count"],
+               count_row_causes(result),
+               [fault["line"] for fault in result["faults"][:MOST_ROW_LINES]], result["seconds"],
+               find_hint(result), SubtitleCounts(**counts).describe() if counts else "",
+               result["sentence"], describe_clock(result))
 
 
-def clock_in(known: dict[str, Any]) -> str:
-    """Return the note about a clock that was estimated, from the start or after a break."""
-    fitted = [part["clock"] and part["clock"]["source"] == RECORDING for part in known["parts"]]
-    return NO_CLOCK if fitted and fitted[0] else LATER_CLOCK if any(fitted) else ""
+def describe_clock(result: dict[str, Any]) -> str:
+    """Return the note about a clock that was estimated; empty if all clocks were given."""
+    clocks = [part["clock"] and part["clock"]["source"] for part in result["parts"]]
+    return NO_CLOCK if clocks[:1] == [RECORDING] else LATER_CLOCK if RECORDING in clocks else ""
 
 
-def hint_in(known: dict[str, Any]) -> str:
-    """Return the hint about the worst fault of a result, if there is one."""
-    refused = (known["worst_fault"] or "").partition("refused ")[2]
-    for hint in known["hints"]:
-        number, _, words = hint.partition(": ")
-        if refused.startswith(f"{number} "):
-            return str(words)
+def find_hint(result: dict[str, Any]) -> str:
+    """Return the hint about the worst fault of a result, or an empty text."""
+    worst_fault = (result["worst_fault"] or "").partition("refused ")[2]
+    for hint in result["hints"]:
+        number, _, hint_text = hint.partition(": ")
+        if worst_fault.startswith(f"{number} "):
+            return str(hint_text)
     return ""
 
 
-def causes_in(known: dict[str, Any]) -> dict[str, int]:
-    """Return how many subtitles have each cause, and how many faults without a cause have each
-    number and name."""
+def count_row_causes(result: dict[str, Any]) -> dict[str, int]:
+    """Count the subtitles with each cause, and the faults without a cause by number and name."""
     counts: collections.Counter[str] = collections.Counter()
-    for fault in known["faults"]:
+    for fault in result["faults"]:
         if not fault["cause"]:
             counts[f"{fault['number']} {fault['name']}"] += 1
-    return {name: count for name, count in known["cause_counts"].items() if count} | dict(counts)
+    return {name: count for name, count in result["cause_counts"].items() if count} | dict(counts)
 
 
-def objects_in(folder: str) -> Iterator[tuple[str, dict[str, Any] | None]]:
-    """Yield the files of a folder that can be results, by name."""
+def read_results(folder: str) -> Iterator[tuple[str, dict[str, Any] | None]]:
+    """Yield the JSON files of a folder, sorted by name, with their results."""
     for file in sorted(os.listdir(folder)):
         path, name = os.path.join(folder, file), file.removesuffix(ENDING)
         if name != file and not file.startswith(".") and os.path.isfile(path):
-            yield path, object_at(path)
+            yield path, read_result(path)
 
 
-def in_order(rows: dict[str, Row]) -> list[Row]:
-    """Return rows in the order of their names."""
+def sort_rows(rows: dict[str, Row]) -> list[Row]:
+    """Return rows sorted by name."""
     return [rows[name] for name in sorted(rows)]
 
 
-# Whether a result is up to date.
+# Checking whether a result is up to date.
 
-def modified(about: os.stat_result) -> str:
-    """Return the time of a file's last change, in UTC."""
-    second, rest = divmod(about.st_mtime_ns, 1_000_000_000)
+def format_change_time(stat_result: os.stat_result) -> str:
+    """Return the UTC time of a file's last change, in nanoseconds."""
+    second, rest = divmod(stat_result.st_mtime_ns, 1_000_000_000)
     return f"{time.strftime('%Y-%m-%dT%H:%M:%S', time.gmtime(second))}.{rest:09}Z"
 
 
-def found_at(path: str | None) -> dict[str, Any] | None:
-    """Return size and last change of a file; `None` if it is none."""
+def describe_file(path: str | None) -> dict[str, Any] | None:
+    """Return the size and last change of a file; `None` if there is no such file."""
     if path is None or not os.path.isfile(path):
         return None
-    about = os.stat(path)
-    return {"size": about.st_size, "modified": modified(about)}
+    stat_result = os.stat(path)
+    return {"size": stat_result.st_size, "modified": format_change_time(stat_result)}
 
 
-def found(asked: Request) -> dict[str, Any]:
-    """Return the files of a pair as they are now."""
-    return {"stl": found_at(asked.stl), "recording": found_at(asked.recording),
-            "severity": found_at(asked.severity)}
+def describe_inputs(request: Request) -> dict[str, Any]:
+    """Return the size and last change of each file of a pair."""
+    return {"stl": describe_file(request.stl), "recording": describe_file(request.recording),
+            "severity": describe_file(request.severity)}
 
 
-def is_current(known: dict[str, Any], asked: Request, program: MadeWith) -> bool:
-    """Return whether a pair would be judged with the same options, by the same program and tools,
-    from files of the same size and time."""
-    return "request" in known and known["request"] == REQUEST.made(asked) \
-        and known["files_at_start"] == found(asked) \
-        and known["program"]["sha256"] == program.sha256 \
-        and known["program"]["version"] == program.version
+def is_current(result: dict[str, Any], request: Request, program: MadeWith) -> bool:
+    """Return whether a pair has the same options and unchanged files, and would be judged by the
+    same version of program and tools."""
+    return "request" in result and result["request"] == REQUEST.made(request) \
+        and result["files_at_start"] == describe_inputs(request) \
+        and result["program"]["sha256"] == program.sha256 \
+        and result["program"]["version"] == program.version
 
 
-# CSV: of many pairs a line for each pair and each fault; of one pair a line for the pair and each
-# subtitle. A column has the name of its key in the JSON result, after the name of the object.
+# CSV. A file about many pairs has a line for each pair and each fault; a file about one pair has a
+# line for the pair and each subtitle. A column is named after its object and key in the JSON
+# result.
 
-OF_SUBTITLE = ["subtitle_number", "subtitle_begin", "subtitle_end"]
-OF_FAULT = ["part", "number", "name", "severity", "file", "block", *OF_SUBTITLE, "byte",
+SUBTITLE_COLUMNS = ["subtitle_number", "subtitle_begin", "subtitle_end"]
+FAULT_COLUMNS = ["part", "number", "name", "severity", "file", "block", *SUBTITLE_COLUMNS, "byte",
             "character", "pes", "pes_time", "packet", "frame", "time", "row", "column", "expected",
             "decoded", "last_time", "last_pes", "line", "meaning", "remedy"]
-OF_CAUSE = ["cause_name", "cause_frames", "cause_subtitle_number", "cause_expected_text",
+CAUSE_COLUMNS = ["cause_name", "cause_frames", "cause_subtitle_number", "cause_expected_text",
             "cause_decoded_text", "cause_line"]
-OF_PAIR = ["verdict", "status", "reason"]
-POSITIONS = ["subtitle_position", "cause_subtitle_position"]
-OF_PART = ["part_pid", "part_packet_size", "part_pes"]
-OF_COUNTS = ["subtitle_counts_judged", "subtitle_counts_refused"]
-FORMULA = ("=", "+", "-", "@", "\t", "\r")  # the beginning of a formula
-FILES = ["stl", "recording"]
-COLUMNS = [*FILES, *OF_FAULT, *OF_PAIR, *OF_CAUSE, *POSITIONS, "sentence", *OF_PART,
-           *OF_COUNTS]
-CUE_COLUMNS = [*FILES, *(member.name for member in CUE.members)]
+PAIR_COLUMNS = ["verdict", "status", "reason"]
+POSITION_COLUMNS = ["subtitle_position", "cause_subtitle_position"]
+PART_COLUMNS = ["part_pid", "part_packet_size", "part_pes"]
+COUNT_COLUMNS = ["subtitle_counts_judged", "subtitle_counts_refused"]
+FORMULA_BEGINNINGS = ("=", "+", "-", "@", "\t", "\r")  # in spreadsheets
+FILE_COLUMNS = ["stl", "recording"]
+COLUMNS = [*FILE_COLUMNS, *FAULT_COLUMNS, *PAIR_COLUMNS, *CAUSE_COLUMNS, *POSITION_COLUMNS,
+           "sentence", *PART_COLUMNS, *COUNT_COLUMNS]
+CUE_COLUMNS = [*FILE_COLUMNS, *(member.name for member in CUE.members)]
 
-Known = dict[str, object]  # the columns of a line that are not empty
+Columns = dict[str, object]  # values by column; a missing column is empty
 
 
-def cell_words(cell: Members | None) -> str:
-    """Return a cell as its code, with its character if it has one."""
+def format_cell(cell: Members | None) -> str:
+    """Format a page cell as its code and, if it has one, its character."""
     if cell is None:
         return ""
     code: str = cell["code"]
     return f"{code} {cell['character']}" if cell["character"] else code
 
 
-def columns_of(name: str, members: Members | None) -> Known:
-    """Return the columns of an object with this name: one for each of its members."""
+def object_columns(name: str, members: Members | None) -> Columns:
+    """Return the columns of a named object, one for each member."""
     return {f"{name}_{key}": value for key, value in (members or {}).items()}
 
 
-def part_columns(parts: Sequence[dict[str, Any]], number: int | None) -> Known:
-    """Return the columns of a part by its number; of the only part if there is no number."""
-    found = [part for part in parts if part["part"] == number or number is None]
-    if len(found) != 1:
+def part_columns(parts: Sequence[dict[str, Any]], number: int | None) -> Columns:
+    """Return the columns of a part; if `number` is `None`, those of the only part."""
+    numbered_parts = [part for part in parts if part["part"] == number or number is None]
+    if len(numbered_parts) != 1:
         return {}
-    columns, pid = columns_of("part", found[0]), found[0]["pid"]
+    columns, pid = object_columns("part", numbered_parts[0]), numbered_parts[0]["pid"]
     return {**columns, "part_pid": pid if pid is None else f"0x{pid:X}"}
 
 
-def of_object(known: dict[str, Any]) -> Known:
-    """Return the columns of a pair by its result; a result without a pair has only a name."""
-    pair = {name: known[name] for name in OF_PAIR}
-    if "request" not in known:
-        return {"stl": known["name"], **pair}
-    return {"stl": known["request"]["stl"], "recording": known["request"]["recording"], **pair,
-            "line": known["line"], "sentence": known["sentence"],
-            **columns_of("subtitle_counts", known["subtitle_counts"]),
-            **part_columns(known["parts"], None)}
+def pair_columns(result: dict[str, Any]) -> Columns:
+    """Return the columns of a pair."""
+    pair = {name: result[name] for name in PAIR_COLUMNS}
+    if "request" not in result:
+        return {"stl": result["name"], **pair}
+    return {"stl": result["request"]["stl"], "recording": result["request"]["recording"], **pair,
+            "line": result["line"], "sentence": result["sentence"],
+            **object_columns("subtitle_counts", result["subtitle_counts"]),
+            **part_columns(result["parts"], None)}
 
 
-def with_fault(pair: Known, parts: Sequence[dict[str, Any]], fault: Members) -> Known:
-    """Return the columns of a fault of a pair with these parts."""
+def fault_columns(pair: Columns, parts: Sequence[dict[str, Any]], fault: Members) -> Columns:
+    """Return the columns of a fault, with those of its pair and part."""
     cause = fault["cause"]
     return {**pair, **part_columns(parts, fault["part"]), **fault,
-            **columns_of("subtitle", fault["subtitle"]), **columns_of("cause", cause),
-            **columns_of("cause_subtitle", cause and cause["subtitle"]),
-            "expected": cell_words(fault["expected"]), "decoded": cell_words(fault["decoded"])}
+            **object_columns("subtitle", fault["subtitle"]), **object_columns("cause", cause),
+            **object_columns("cause_subtitle", cause and cause["subtitle"]),
+            "expected": format_cell(fault["expected"]), "decoded": format_cell(fault["decoded"])}
 
 
 def subtitle_lines(verdict: Verdict) -> Iterator[bytes]:
-    """Yield the lines of one pair: its verdict with the sentence, then each subtitle."""
-    files: Known = {"stl": verdict.request.stl, "recording": verdict.request.recording}
-    pair: Known = {**files, "verdict": verdict.word,
+    """Yield the lines of a CSV file about one pair: its verdict, then its subtitles."""
+    files: Columns = {"stl": verdict.request.stl, "recording": verdict.request.recording}
+    pair: Columns = {**files, "verdict": verdict.word,
                    "reason": verdict.unjudged_reason or verdict.sentence}
-    rows = ({**files, **row} for row in subtitle_rows(verdict))
+    rows = ({**files, **row} for row in list_subtitle_rows(verdict))
     return map(str.encode, column_lines(itertools.chain([pair], rows), CUE_COLUMNS))
 
 
-def column_lines(rows: Iterable[Known], columns: Sequence[str]) -> Iterator[str]:
-    """Yield the names of the columns, then a line for each row; a column that does not apply is
-    empty."""
+def column_lines(rows: Iterable[Columns], columns: Sequence[str]) -> Iterator[str]:
+    """Yield a line with the names of the columns, then a line for each row."""
     text = io.StringIO()
     writer = csv.writer(text, lineterminator="\n")
     values: Iterator[list[object]] = (
-        [said(known.get(name)) for name in columns] for known in rows)
-    head: list[object] = [*columns]
-    for line in itertools.chain([head], values):
-        writer.writerow(["" if one is None else one for one in line])
+        [table_value(row.get(name)) for name in columns] for row in rows)
+    header: list[object] = [*columns]
+    for line in itertools.chain([header], values):
+        writer.writerow(["" if cell is None else cell for cell in line])
         yield text.getvalue()
         text.seek(0)
         text.truncate()
 
 
-def said(value: object) -> object:
-    """Return a value for a table: text without control characters, an apostrophe before a formula.
-    """
+def table_value(value: object) -> object:
+    """Escape control characters in a text, and put an apostrophe before a formula."""
     if not isinstance(value, str):
         return value
     text = shown_lines(value)
-    return f"'{text}" if text.startswith(FORMULA) else text
+    return f"'{text}" if text.startswith(FORMULA_BEGINNINGS) else text
 
 
-def table_lines(objects: Iterable[dict[str, Any]]) -> Iterator[bytes]:
-    """Yield the lines of many pairs and their faults, after the names of the columns."""
-    rows = (row for known in objects for row in column_rows(known))
+def table_lines(results: Iterable[dict[str, Any]]) -> Iterator[bytes]:
+    """Yield the lines of a CSV file about many pairs and their faults."""
+    rows = (row for result in results for row in column_rows(result))
     return map(str.encode, column_lines(rows, COLUMNS))
 
 
-def column_rows(known: dict[str, Any]) -> Iterator[Known]:
-    """Yield the columns of a pair, then of each of its faults."""
-    pair = of_object(known)
+def column_rows(result: dict[str, Any]) -> Iterator[Columns]:
+    """Yield the columns of a pair, then those of each fault."""
+    pair = pair_columns(result)
     yield pair
-    for fault in known["faults"] if "request" in known else ():
-        yield with_fault(pair, known["parts"], fault)
+    for fault in result["faults"] if "request" in result else ():
+        yield fault_columns(pair, result["parts"], fault)
 
 
-# JUnit, which any CI shows.
+# JUnit files.
 
 class TestCase(NamedTuple):
-    """A pair: its worst fault or reason, the first lines of its list, its seconds, how many
-    subtitles were judged if some are refused, and its sentence."""
+    """A pair as a test case.
+
+    `line` is its worst fault or the reason, `lines` are the first lines of its list of faults.
+    `counts` says how many subtitles were judged if some are refused.
+    """
 
     name: str
     verdict: str
@@ -408,7 +414,7 @@ class TestCase(NamedTuple):
     sentence: str = ""
 
 
-def element_of(case: TestCase) -> tree.Element:
+def make_element(case: TestCase) -> tree.Element:
     element = tree.Element("testcase", classname="subttx", name=shown_lines(case.name),
                            time=f"{case.seconds:.3f}")
     text = shown_lines("\n".join(
@@ -424,7 +430,7 @@ def element_of(case: TestCase) -> tree.Element:
 
 
 def junit_file(cases: Sequence[TestCase], date: str) -> bytes:
-    """Return the JUnit file of some pairs."""
+    """Return the JUnit file for some pairs."""
     def count(kind: str) -> str:
         return str(sum(case.status != 0 and (case.verdict == NOT_JUDGED) == (kind == "errors")
                        for case in cases))
@@ -434,7 +440,7 @@ def junit_file(cases: Sequence[TestCase], date: str) -> bytes:
     suites = tree.Element("testsuites", counts)
     suite = tree.SubElement(suites, "testsuite", {"name": "subttx qc", **counts, "skipped": "0",
                                                   "timestamp": date.removesuffix("Z")})
-    suite.extend(map(element_of, cases))
+    suite.extend(map(make_element, cases))
     tree.indent(suites, " ")
     text: bytes = tree.tostring(suites, encoding="utf-8", xml_declaration=True)
     return text + b"\n"

@@ -7,9 +7,10 @@ from typing import Iterable, Iterator, NamedTuple, Optional, Sequence, TypeVar
 
 from ..formats.layout import (
     CODES, COLOURS, COLUMNS, DOUBLE, DRAWN_CODES, Layout, MOST_AFTER, MOST_BEFORE, MOST_SHIFT,
-    PLAIN, Refused, START_BOX, WHITE, column_of, drawn, inner, layout_text, leading, letter_cells,
-    letters_of_text, letters_on, page_rows, placed_rows, prepared, raw_lines, simplicity,
-    spaces_before, start_of, stripped)
+    PLAIN, START_BOX, TextFault, WHITE, assign_rows, complexity_key, count_leading_codes,
+    count_leading_spaces, draw_text, find_column, find_page_letters, find_start_column,
+    find_text_letters, format_layout, make_page_rows, prepare_line, remove_attributes, remove_codes,
+    split_raw_lines, trim_line)
 from ..formats.stl import Subtitle
 from ..formats.teletext import COMMON, NationalOption
 from .receiver import Rows, Timeline
@@ -50,15 +51,15 @@ class SentLine(NamedTuple):
 
 def is_found(sent: SentSubtitle, option: NationalOption) -> bool:
     """Return whether a subtitle has characters and these were sent."""
-    letters = letters_of_text(sent.text, option)
-    return bool(letters) and letters_on(sent.rows) == letters
+    letters = find_text_letters(sent.text, option)
+    return bool(letters) and find_page_letters(sent.rows) == letters
 
 
 def pair_lines(place: int, lines: Sequence[bytes], rows: Sequence[bytes]) -> list[SentLine]:
     """Return the lines of a subtitle with their sent rows, or none if the characters differ."""
-    said = [(number, line) for number, line in enumerate(lines) if letter_cells(line)]
-    shown = [(number, row) for number, row in enumerate(rows, 1) if letter_cells(row)]
-    if [letter_cells(line) for _, line in said] != [letter_cells(row) for _, row in shown]:
+    said = [(number, line) for number, line in enumerate(lines) if remove_attributes(line)]
+    shown = [(number, row) for number, row in enumerate(rows, 1) if remove_attributes(row)]
+    if [remove_attributes(line) for _, line in said] != [remove_attributes(row) for _, row in shown]:
         return []
     return [SentLine(place, number, line, row, sent)
             for (number, line), (row, sent) in zip(said, shown)]
@@ -69,7 +70,7 @@ def codes_to_strip(pairs: Sequence[SentLine]) -> Iterator[bytes]:
     between characters, and combinations of the codes at the ends of lines."""
     lacks, has, ends = set[int](), set[int](), set[int]()
     for cells, sent in {(pair.cells, pair.sent) for pair in pairs}:
-        said, shown = Counter(inner(cells)), Counter(inner(sent))
+        said, shown = Counter(trim_line(cells)), Counter(trim_line(sent))
         for code in set(said) & set(CODES):
             (has if shown[code] else lacks).add(code)
         ends |= set(cells) & set(CODES)
@@ -99,7 +100,7 @@ def find_beginnings(lines: Counter[tuple[bytes, bytes]],
     for (cells, sent), count in lines.items():
         shown = sent.lstrip(b" ")
         cells = cells.strip(b" ") if trim else cells
-        seen[cells[:leading(cells)], shown[:leading(shown)]] += count
+        seen[cells[:count_leading_codes(cells)], shown[:count_leading_codes(shown)]] += count
     votes = Counter[tuple[bool, bytes, bytes]]()
     for white in (False, True):
         whole = {(own + bytes([WHITE]) * (white and not any(it in COLOURS for it in own)), shown)
@@ -121,7 +122,7 @@ def find_ends(lines: Counter[tuple[bytes, bytes]]) -> list[bytes]:
     votes = Counter[bytes]()
     for (cells, sent), count in lines.items():
         own, shown = (one.rstrip(b" ")[::-1] for one in (cells, sent))
-        codes, added = own[:leading(own)][::-1], shown[:leading(shown)][::-1]
+        codes, added = (one[:count_leading_codes(one)][::-1] for one in (own, shown))
         if cells.endswith(b" ") and not sent.rstrip(b" ").endswith(cells.strip(b" ")):
             codes = b""
         if added.startswith(codes):
@@ -134,7 +135,7 @@ def find_line_layouts(pairs: Sequence[SentLine]) -> list[Layout]:
     """Return layouts of the cells of lines, by the number of lines drawn as sent, most first."""
     scores = Counter[Layout]()
     for strip, trim in itertools.product(codes_to_strip(pairs), (False, True)):
-        all_lines = Counter((stripped(pair.cells, strip), pair.sent) for pair in pairs)
+        all_lines = Counter((remove_codes(pair.cells, strip), pair.sent) for pair in pairs)
         lines = Counter({line: count for line, count in all_lines.items()
                          if START_BOX not in line[0]})
         beginnings = [(False, PLAIN.before, PLAIN.behind)]
@@ -146,11 +147,11 @@ def find_line_layouts(pairs: Sequence[SentLine]) -> list[Layout]:
             if layout not in scores:
                 scores[layout] = sum(
                     count for (cells, sent), count in all_lines.items()
-                    for made in [prepared(cells, layout)]
+                    for made in [prepare_line(cells, layout)]
                     if made.strip(b" ") == sent.strip(b" ") and len(made) <= COLUMNS)
     best = max(scores.values())
     near = [one for one, score in scores.items() if score * 10 >= best * TENTHS]
-    return sorted(near, key=lambda one: (-scores[one], simplicity(one)))[:4 * MOST_KEPT]
+    return sorted(near, key=lambda one: (-scores[one], complexity_key(one)))[:4 * MOST_KEPT]
 
 
 def as_bits(places: Iterable[int]) -> int:
@@ -165,10 +166,10 @@ def find_row_layouts(layout: Layout, pairs: Sequence[SentLine],
                      all_lines: Sequence[Sequence[bytes]],
                      subtitles: Sequence[SentSubtitle]) -> Iterator[tuple[Layout, int]]:
     """Yield layouts of the rows of lines, each with the subtitles whose rows are wrong."""
-    lines = [[prepared(stripped(line, layout.strip), layout) for line in one] for one in all_lines]
+    lines = [[prepare_line(remove_codes(line, layout.strip), layout) for line in one] for one in all_lines]
     for double, pack, last in itertools.product((False, True), repeat=3):
         shape = layout._replace(double=double, pack=pack, last=last)
-        rows = {pair.place: placed_rows(lines[pair.place], subtitles[pair.place].row, shape)
+        rows = {pair.place: assign_rows(lines[pair.place], subtitles[pair.place].row, shape)
                 for pair in pairs}
         votes = Counter(pair.row - rows[pair.place][pair.number] for pair in pairs)
         for shift in {0, *most(votes, 2)}:
@@ -183,11 +184,11 @@ def find_column_layouts(layout: Layout, pairs: Sequence[SentLine], subtitles: Se
     """Yield layouts of the columns of lines, each with the subtitles that have a wrong line."""
     wrong, kinds = set[int](), dict[tuple[bytes, int, int], set[int]]()
     for pair in pairs:
-        cells = prepared(stripped(pair.cells, layout.strip), layout)
+        cells = prepare_line(remove_codes(pair.cells, layout.strip), layout)
         if cells.strip(b" ") != pair.sent.strip(b" ") or not 0 < len(cells) <= COLUMNS:
             wrong.add(pair.place)
             continue
-        column = spaces_before(pair.sent) - spaces_before(cells)
+        column = count_leading_spaces(pair.sent) - count_leading_spaces(cells)
         kind = cells, subtitles[pair.place].justify, column
         kinds.setdefault(kind, set()).add(pair.place)
     for text, up, free in itertools.product((False, True), (False, True), (1, 2, 3)):
@@ -195,21 +196,21 @@ def find_column_layouts(layout: Layout, pairs: Sequence[SentLine], subtitles: Se
         left, right = Counter[int](), Counter[int]()
         for (cells, justify, column), places in kinds.items():
             if (justify or free) == 1:
-                left[column - start_of(cells, 1, shape)] += len(places)
+                left[column - find_start_column(cells, 1, shape)] += len(places)
             elif (justify or free) == 3:
-                right[start_of(cells, 3, shape) - column] += len(places)
+                right[find_start_column(cells, 3, shape) - column] += len(places)
         for left_free, right_free in itertools.product({0, *most(left, 2)}, {0, *most(right, 2)}):
             if left_free in range(COLUMNS) and right_free in range(COLUMNS):
                 candidate = shape._replace(left=left_free, right=right_free)
                 others = {place for (cells, justify, column), places in kinds.items()
-                          if column_of(cells, justify, candidate) != column for place in places}
+                          if find_column(cells, justify, candidate) != column for place in places}
                 yield candidate, as_bits(wrong | others)
 
 
 def draws_as_sent(layout: Layout, sent: SentSubtitle, option: NationalOption) -> bool:
     """Return whether a layout draws a subtitle as it was sent."""
-    lines = drawn(sent.text, sent.row, sent.justify, layout, option)
-    return not isinstance(lines, Refused) and page_rows(lines) == sent.rows
+    lines = draw_text(sent.text, sent.row, sent.justify, layout, option)
+    return not isinstance(lines, TextFault) and make_page_rows(lines) == sent.rows
 
 
 def count_misdrawn(layout: Layout, subtitles: Sequence[SentSubtitle], option: NationalOption,
@@ -225,7 +226,7 @@ def simplify(layout: Layout, subtitles: Sequence[SentSubtitle], option: National
     for names in (("strip",), ("before", "behind"), ("behind",), ("after",), *(
             (name,) for name in Layout._fields[4:])):
         less = layout._replace(**{name: getattr(PLAIN, name) for name in names})
-        if less != layout and simplicity(less) < simplicity(layout):
+        if less != layout and complexity_key(less) < complexity_key(layout):
             others = count_misdrawn(less, subtitles, option, most)
             if others <= most:
                 layout, most = less, others
@@ -234,7 +235,7 @@ def simplify(layout: Layout, subtitles: Sequence[SentSubtitle], option: National
 
 def find_candidates(subtitles: Sequence[SentSubtitle], option: NationalOption) -> list[Layout]:
     """Return the layouts that draw most of the found subtitles as sent, and the plain layout."""
-    all_lines = [raw_lines(sent.text, option) for sent in subtitles]
+    all_lines = [split_raw_lines(sent.text, option) for sent in subtitles]
     pairs = [pair for place, sent in enumerate(subtitles)
              for pair in pair_lines(place, all_lines[place], sent.rows)]
     if not pairs:
@@ -249,7 +250,7 @@ def find_candidates(subtitles: Sequence[SentSubtitle], option: NationalOption) -
                                          row=row.row)
                 counts[layout] = len(subtitles) - bin(wrong | others | unknown).count("1")
     best = max(counts.values())
-    near = sorted((one for one in counts if counts[one] == best), key=simplicity)
+    near = sorted((one for one in counts if counts[one] == best), key=complexity_key)
     return [PLAIN, *(simplify(one, subtitles, option) for one in near[:MOST_KEPT])]
 
 
@@ -353,7 +354,7 @@ def add_items(layout: Layout, group: Iterable[LayoutItem], other: Layout) -> Lay
 
 def items_text(group: Iterable[LayoutItem], layout: Layout) -> str:
     """Return items of a layout as a TEXT."""
-    return layout_text(add_items(PLAIN, group, layout))
+    return format_layout(add_items(PLAIN, group, layout))
 
 
 def find_questionable_items(layout: Layout) -> Group:
@@ -381,8 +382,8 @@ class Evidence:
 
     def page(self, sent: SentSubtitle, layout: Layout) -> Page:
         """Return the page that a layout draws for a subtitle, or `None` if it can't."""
-        lines = drawn(sent.text, sent.row, sent.justify, layout, self.option)
-        return None if isinstance(lines, Refused) else page_rows(lines)
+        lines = draw_text(sent.text, sent.row, sent.justify, layout, self.option)
+        return None if isinstance(lines, TextFault) else make_page_rows(lines)
 
     def pages(self, layout: Layout) -> list[Page]:
         """Return the page that a layout draws for each subtitle."""
@@ -399,14 +400,14 @@ class Evidence:
         """Return the evidence for a group of items; `is_enough`: stop as soon as it is enough."""
         less, text = remove_items(layout, group), items_text(group, layout)
         right = [page == one.rows for page, one in zip(self.pages(layout), self.subtitles)]
-        decides = as_sent = 0
+        decides = reverse_option_bits = 0
         for is_right in (False, True):
             for page, sent, was_right in zip(self.pages(layout), self.subtitles, right):
                 if was_right == is_right and self.page(sent, less) != page:
-                    decides, as_sent = decides + 1, as_sent + is_right
-                    if is_enough and is_right and ItemEvidence(text, decides, as_sent).has_evidence:
-                        return ItemEvidence(text, decides, as_sent)
-        return ItemEvidence(text, decides, as_sent)
+                    decides, reverse_option_bits = decides + 1, reverse_option_bits + is_right
+                    if is_enough and is_right and ItemEvidence(text, decides, reverse_option_bits).has_evidence:
+                        return ItemEvidence(text, decides, reverse_option_bits)
+        return ItemEvidence(text, decides, reverse_option_bits)
 
     def find_unsupported(self, layout: Layout) -> Group | None:
         """Return the group of items without evidence that changes the fewest subtitles; `None` if
@@ -446,11 +447,11 @@ class Evidence:
             other, text = add_items(layout, group, whole), items_text(group, whole)
             more = self.count(other) - count
             if more > 0 and all(one.text != text for one in left):
-                left.append(RejectedItems(text, more, layout_text(other)))
+                left.append(RejectedItems(text, more, format_layout(other)))
         together = self.count(whole) - count
         if together > max((one.more for one in left), default=0):
             items = [item for group in gone for item in group]
-            left.append(RejectedItems(items_text(items, whole), together, layout_text(whole)))
+            left.append(RejectedItems(items_text(items, whole), together, format_layout(whole)))
         return left
 
 
@@ -462,11 +463,11 @@ def choose_layouts(sent: Sequence[SentSubtitle],
     evidence = Evidence(subtitles, option)
     best = find_candidates(subtitles, option)
     closest = evidence.make_choice(min(best, key=lambda one: (-evidence.count(one),
-                                                              simplicity(one))))
+                                                              complexity_key(one))))
     if not closest.is_clear:
         return closest, closest
     layout = min((evidence.remove_unsupported(one)[0] for one in best),
-                 key=lambda one: (-evidence.count(one), simplicity(one)))
+                 key=lambda one: (-evidence.count(one), complexity_key(one)))
     gone = evidence.remove_unsupported(closest.layout)[1]
     return closest, evidence.make_choice(
         layout, evidence.find_rejected_items(layout, gone, closest.layout))
@@ -480,10 +481,10 @@ def find_sent_subtitles(subtitles: Iterable[Subtitle], held: Timeline,
     page that lasted longest."""
     drawings = []
     for subtitle in subtitles:
-        letters = letters_of_text(subtitle.text, option)
+        letters = find_text_letters(subtitle.text, option)
         pages = [(-count_shared_frames(held, number, subtitle), number)
                  for number in held.page_numbers(subtitle.begin, subtitle.end)
-                 if letters and letters_on(held.pages[number]) == letters]
+                 if letters and find_page_letters(held.pages[number]) == letters]
         if pages:
             drawings.append(SentSubtitle(subtitle.text, subtitle.row, subtitle.justify,
                                          held.pages[min(pages)[1]]))
