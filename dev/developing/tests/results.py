@@ -97,12 +97,11 @@ def violations(value: Any, known: dict[str, Any], at: str = "") -> Iterator[str]
 def inner_violations(value: Any, known: dict[str, Any], at: str) -> Iterator[str]:
     """Return how the members of an object or the items of a list violate a schema."""
     if isinstance(value, dict):
-        request_members, is_closed = known.get("properties",
-                                               {}), known.get("additionalProperties") is False
+        members, is_closed = known.get("properties", {}), known.get("additionalProperties") is False
         yield from (f"{at}: no {name}" for name in known.get("required", ()) if name not in value)
         for name, one in value.items():
-            if name in request_members:
-                yield from violations(one, request_members[name], f"{at}.{name}")
+            if name in members:
+                yield from violations(one, members[name], f"{at}.{name}")
             elif is_closed:
                 yield f"{at}: {name}"
     elif "items" in known:

@@ -112,10 +112,10 @@ class NewOptions(Case):
                 ("completion", " --new-one ")):
             self.must(name, line in made[name], made[name])
         self.must("a flag has no value", "--newer" not in made["completion"])
-        for name, request_members in (("asked", ("5", True)), ("left out", (None, False)),
+        for name, members in (("asked", ("5", True)), ("left out", (None, False)),
                               ("line", ("5", True))):
             found = made[name]["new_one"], made[name]["newer"]
-            self.must(name, found == request_members, found)
+            self.must(name, found == members, found)
         self.must("call", made["call"] == [*given, "--", "a.stl", "a.ts"] and made["same"], made)
         self.must("again", made["again"] == "tools/qc a.stl a.ts " + " ".join(given), made["again"])
         self.must("check", made["check"] == ["--complete", *given] and made["file"] == given[:2] ==
