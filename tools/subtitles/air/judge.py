@@ -1,5 +1,5 @@
-"""The judge: works on the schedule, the segments and the results on disk. Its memory says only when
-to try again, so it may be killed and started again at any moment."""
+"""The judge of programmes on air. It keeps only retry times in memory, and everything else on disk,
+so it may be killed and restarted at any time."""
 from __future__ import annotations
 
 import argparse
@@ -21,13 +21,13 @@ from .schedule import Programme, Schedule, length_of, read_schedule
 from .segments import segments_between, stretches_in
 from .state import Monitor, write_state
 
-RETRY, MOST_RETRY = 2.0, 60.0  # seconds until a failure of the machine is tried again
-SHARE = 10  # of the judge's time, at most one part in so many is for what fails
-HOOK_SECONDS = 10  # for the site's command
+RETRY, MOST_RETRY = 2.0, 60.0  # seconds until the next try after a system error
+SHARE = 10  # failing programmes get at most one part in ten of the judge's time
+HOOK_SECONDS = 10  # time limit of the site's command
 
 
 class Tries:
-    """When a programme is tried again, how often the machine failed, and why it did last."""
+    """The time of the next try, the number of system errors, and the last reason."""
 
     def __init__(self) -> None:
         self.next, self.failures, self.reason = 0.0, 0, ""
@@ -46,8 +46,8 @@ class Judge:
         self.monitor = Monitor()
 
     def look(self, now: float) -> bool:
-        """Judge the first programme whose time has come, and write the state. Return whether there
-        was one."""
+        """Judge the first programme that can be judged now, and write the state. Return whether
+        there was one."""
         self.read_schedule()
         waiting = self.waiting()
         tried = next((one for one in waiting if self.attempt(one, now)), None)
@@ -60,7 +60,7 @@ class Judge:
         return tried is not None
 
     def read_schedule(self) -> None:
-        """Read the schedule; as long as it can't be read the last one holds."""
+        """Read the schedule; if it can't be read, keep the previous one."""
         try:
             self.schedule = read_schedule(self.args.schedule, self.args, self.schedule)
             self.monitor.schedule_faults = [*self.schedule.faults]
@@ -79,7 +79,7 @@ class Judge:
         return now > programme.begin + 2 * margin and now > self.window(programme).last + margin
 
     def attempt(self, programme: Programme, now: float) -> bool:
-        """Judge a programme if its time has come. Return whether it was tried."""
+        """Judge a programme if it is time. Return whether judging was tried."""
         tries, started = self.tries.setdefault(programme.name, Tries()), time.monotonic()
         if now < max(tries.next, programme.begin + SOON):
             return False
@@ -97,13 +97,13 @@ class Judge:
                 self.retry(programme, now, started, outcome.reason)
             else:
                 self.publish(programme.name, outcome)
-        except Exception as reason:  # whatever it is, other programmes are judged all the same
+        except Exception as reason:  # other programmes must still be judged
             self.retry(programme, now, started, error_line(reason))
         return True
 
     def window(self, programme: Programme) -> Window:
-        """Return when a programme is looked for; as if it had no length if its subtitle file is not
-        there. An END before that of the subtitle file is not believed."""
+        """Return the window in which a programme is searched. If its subtitle file is missing, its
+        length is 0. An END earlier than that of the subtitle file is ignored."""
         length = 0.0
         with contextlib.suppress(OSError):
             length = length_of(programme.request)
@@ -111,7 +111,7 @@ class Judge:
         return Window(programme.begin, end, length, self.args.margin)
 
     def judge(self, programme: Programme, window: Window, now: float) -> Outcome | None:
-        """Judge each stretch that may hold a programme, until one is final."""
+        """Judge the stretches that may contain a programme, until a result is final."""
         name, has_passed = programme.name, now >= window.last + SOON
         segments = segments_between(self.segments, window.first, window.last)
         if not os.path.exists(programme.request.stl):
@@ -127,7 +127,7 @@ class Judge:
         return decide(name, outcomes, gaps, has_passed, self.tries[name].reason)
 
     def retry(self, programme: Programme, now: float, started: float, reason: str) -> None:
-        """Try a programme again later, since the machine failed; report each reason once."""
+        """Try a programme again later, after a system error; report each reason once."""
         tries, spent = self.tries[programme.name], time.monotonic() - started
         if reason != tries.reason:
             line, *_ = reason.split("\n")
@@ -158,19 +158,19 @@ class Judge:
         self.call_hook(os.path.join(self.out, main), outcome.result["verdict"])
 
     def call_hook(self, *words: str) -> None:
-        """Call the site's command, if there is one. Its failure changes nothing."""
+        """Call the site's command, if there is one. A failure of it is ignored."""
         if self.args.on_result:
             with contextlib.suppress(OSError, subprocess.SubprocessError):
                 subprocess.run([self.args.on_result, *words], timeout=HOOK_SECONDS, check=False)
 
 
 def judge_schedule(args: argparse.Namespace, program_name: str) -> int:
-    """Judge a schedule, once or until a signal ends it; return the exit status."""
+    """Judge a schedule, once or until a signal; return the exit status."""
     handle_signals()
     os.makedirs(args.work or args.out, exist_ok=True)
-    with hold_lock(args.out, "air", "another call is judging into "):
+    with hold_lock(args.out, "air", "another run of air is judging into "):
         for name in os.listdir(args.out):
-            if name.startswith(BEGIN):  # an earlier call was killed while it wrote this file
+            if name.startswith(BEGIN):  # an earlier run was killed while writing this file
                 os.unlink(os.path.join(args.out, name))
         judge = Judge(args, program_name)
         judge.checker.clear()

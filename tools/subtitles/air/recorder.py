@@ -1,5 +1,5 @@
-"""The recorder: appends segments named by time, and deletes the oldest. It knows nothing of
-programmes, and may be killed and started again at any moment."""
+"""The recorder writes segments named by time, and deletes the oldest. It knows no programmes, and
+may be killed and restarted at any time."""
 from __future__ import annotations
 
 import contextlib
@@ -16,13 +16,13 @@ from .segments import names_in, segment_name
 
 MOST_READ = 1 << 18  # bytes at a time
 PIPE_SIZE = 1 << 20  # bytes that a pipe holds: a quarter of a second of 40 Mbit/s
-# Seconds between two tries to write to a full disk, and after which what can't be written is lost.
+# Seconds between tries to write to a full disk, and until bytes that can't be written are lost.
 WRITE_RETRY, WRITE_PATIENCE = 0.1, 5.0
 MOST_DELETED = 50  # segments at a time, so that a full folder does not hold up the feed
 
 
 class Limits(NamedTuple):
-    """How long a segment is, and how long it is kept, in seconds; how many bytes stay free."""
+    """The length of a segment and how long it is kept, in seconds; the bytes to leave free."""
 
     length: float
     kept: float
@@ -36,11 +36,11 @@ class Recorder:
         self.folder, self.limits = folder, limits
         self.file: int | None = None
         self.is_new = True  # something may be missing before the next segment
-        self.begun = self.latest = 0.0  # when the segment began, by the clock and by its name
+        self.begun = self.latest = 0.0  # begin of the segment, by the clock and by its name
 
     def take(self, data: bytes) -> None:
-        """Write some bytes. On a full disk the oldest segments make room; what can't be written
-        even so is lost, and the name of the next segment says so."""
+        """Write bytes. If the disk is full, delete the oldest segments. Bytes that still can't be
+        written are lost, and the name of the next segment is marked."""
         left, until = memoryview(data), time.monotonic() + WRITE_PATIENCE
         while left:
             try:
@@ -85,7 +85,7 @@ class Recorder:
             self.file = None
 
     def make_room(self, now: float) -> None:
-        """Delete what is too old, and as much as has to be free."""
+        """Delete segments that are too old, and more until enough bytes are free."""
         while self.delete_oldest(MOST_DELETED, now - self.limits.kept):
             pass
         for _ in range(MOST_DELETED):
@@ -94,8 +94,8 @@ class Recorder:
                 break
 
     def delete_oldest(self, most: int, before: float | None = None) -> bool:
-        """Delete so many of the oldest segments, of those that begin before a time; never the last
-        one. Return whether there was one to delete."""
+        """Delete some of the oldest segments that begin before a time, but never the last segment.
+        Return whether there was one to delete."""
         oldest = [name for begin, name in names_in(self.folder)[:-1]
                   if before is None or begin < before][:most]
         for name in oldest:

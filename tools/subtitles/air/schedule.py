@@ -24,8 +24,8 @@ RECORDING = "recording.ts"  # the name under which a line's recording will be ju
 
 
 class Programme(NamedTuple):
-    """A line of the schedule: the name of its result, and its time of air in seconds since the
-    epoch. `end` is `None` if the line gives none: then the subtitle file tells how long it is."""
+    """A programme in the schedule: the name of its result, and its time of air in seconds since the
+    epoch. If `end` is `None`, its length is that of the subtitle file."""
 
     name: str
     begin: float
@@ -42,7 +42,8 @@ class Schedule(NamedTuple):
 
 
 def time_of_air(text: str) -> float:
-    """Return a date and time with its zone in seconds since the epoch; `Stop` if it is none."""
+    """Parse a date and time with its zone to seconds since the epoch; raise `Stop` if it is
+    invalid."""
     found = TIME.fullmatch(text)
     with contextlib.suppress(ValueError, OverflowError):
         if found:
@@ -53,7 +54,7 @@ def time_of_air(text: str) -> float:
 
 
 def times_of_air(word: str) -> tuple[float, float | None]:
-    """Return the times in the first word of a line, which is `BEGIN` or `BEGIN/END`."""
+    """Parse the first word of a line, `BEGIN` or `BEGIN/END`."""
     first, slash, last = word.partition("/")
     begin, end = time_of_air(first), time_of_air(last) if slash else None
     if end is not None and end <= begin:
@@ -68,8 +69,8 @@ def result_name(begin: float, stl: str) -> str:
 
 
 def read_schedule(path: str, options: argparse.Namespace, known: Schedule = Schedule()) -> Schedule:
-    """Read the schedule in a file. A line counts once its line feed is there: the rest may still be
-    being written. `known` is returned if nothing has changed since then."""
+    """Read a schedule file up to its last line feed: the rest may not be complete yet. Return
+    `known` if the file has not changed."""
     text = read_list(path)
     text = text[:text.rfind("\n") + 1]
     return known if text == known.text else parse_schedule(text, os.path.dirname(path), options)

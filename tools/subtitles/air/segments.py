@@ -1,5 +1,5 @@
-"""Segments of a feed: files named by the UTC time at which they begin, whoever records them. The
-time of the last write (mtime) is when a segment ends."""
+"""Segments of a feed: files that are named after the UTC time at which they begin. A segment ends
+at the time of its last write (mtime)."""
 from __future__ import annotations
 
 import bisect
@@ -17,9 +17,9 @@ from ..common.times import ticks_between
 NAME = re.compile(r"(?:.*\D)?(\d{4})-?(\d\d)-?(\d\d)[T_-]?(\d\d)[-.:]?(\d\d)[-.:]?(\d\d)"
                   r"(\.\d{1,6})?Z?(?:-new)?\.(?:ts|m2ts|mts|trp)", re.ASCII | re.DOTALL)
 NEW = "-new.ts"  # ends the name of a segment if something may be missing before it
-BLOCK = 1 << 19  # bytes that are read at a time, and compared where segments meet
+BLOCK = 1 << 19  # bytes to read at a time, and to compare at the end and beginning of segments
 PACKET_SIZES, SYNC = (188, 192, 204), 0x47
-LEAST_PACKETS = 5  # whose sync bytes tell where the TS packets begin
+LEAST_PACKETS = 5  # sync bytes needed to find the beginning of the TS packets
 Sides = tuple[list[int], list[int]]  # numbers before and after the middle
 
 
@@ -34,7 +34,7 @@ class Segment(NamedTuple):
     is_new: bool = False
 
     def offset_at(self, time: float) -> int:
-        """Return how many of its bytes came before a time, as if all came at one rate."""
+        """Return how many of its bytes came before a time, assuming a constant rate."""
         if time <= self.begin or time >= self.end:
             return 0 if time <= self.begin else self.size
         return int(self.size * (time - self.begin) / (self.end - self.begin))
@@ -65,8 +65,8 @@ def names_in(folder: str) -> list[tuple[float, str]]:
 
 
 def segments_between(folder: str, begin: float, end: float) -> list[Segment]:
-    """Return the segments that hold something of a time, earliest first. An empty segment holds
-    nothing: after a power failure it may stand where bytes were lost."""
+    """Return the segments that overlap a period, earliest first, without empty segments, which a
+    power failure may leave where bytes were lost."""
     names = names_in(folder)
     first = max(bisect.bisect_left(names, (begin, "")) - 1, 0)  # it may last beyond `begin`
     found = (segment_at(folder, name, time) for time, name in names[first:] if time < end)
@@ -74,7 +74,7 @@ def segments_between(folder: str, begin: float, end: float) -> list[Segment]:
 
 
 def segment_at(folder: str, name: str, begin: float) -> Segment | None:
-    """Return the segment with a name; `None` if it has been deleted meanwhile."""
+    """Return the segment with a name; `None` if it was deleted."""
     path = os.path.join(folder, name)
     with contextlib.suppress(FileNotFoundError):
         about = os.stat(path)
@@ -83,7 +83,7 @@ def segment_at(folder: str, name: str, begin: float) -> Segment | None:
 
 
 class Unbroken(NamedTuple):
-    """An unbroken stretch of the feed: segments between which nothing is missing."""
+    """A stretch of the feed: segments between which nothing is missing."""
 
     segments: tuple[Segment, ...]
 
@@ -156,7 +156,7 @@ def is_continued(before: Segment, after: Segment) -> bool | None:
 
 
 def is_usual(before: Sequence[int], after: Sequence[int]) -> bool:
-    """Return whether the step from some PCR to others is about as long as those within them."""
+    """Return whether the step between two groups of PCR is about as long as steps within them."""
     step, *steps = (ticks_between(first, second) for pcrs in (
         [before[-1], after[0]], before, after) for first, second in zip(pcrs, pcrs[1:]))
     return 0 <= 2 * step <= 3 * max(steps)

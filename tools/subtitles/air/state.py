@@ -1,4 +1,4 @@
-"""The state for monitoring: one JSON file. Nothing reads it back, and nothing is decided by it."""
+"""The state for monitoring: a JSON file that the tools only write."""
 from __future__ import annotations
 
 import contextlib
@@ -16,25 +16,25 @@ from .segments import names_in, segment_at
 NAME = "state.json"
 SILENCE = 10.0  # seconds without a byte
 PAGE_SILENCE = 600.0  # seconds without a header of a page
-PAGES_EVERY, NEWEST = 60.0, 3  # seconds between two looks for pages, in so many segments
+PAGES_EVERY, NEWEST = 60.0, 3  # seconds between searches for pages, and segments to search
 LEAST_FREE = 100_000_000  # bytes
 
 
 class Monitor:
-    """What is known of the feed, the disks, the schedule and the results."""
+    """The state of the feed, the disks, the schedule and the results."""
 
     def __init__(self) -> None:
         self.now = self.next_look = 0.0
         self.started: float | None = None
         self.segments, self.oldest, self.last_byte = 0, 0.0, 0.0
         self.free: list[int] = []
-        self.headers: dict[Page, float] = {}  # when the last one of each page came
+        self.headers: dict[Page, float] = {}  # time of the last header of each page
         self.waiting, self.late, self.schedule_faults = 0, list[str](), list[str]()
         self.last_error = self.last_result = ""
 
     def look(self, segments: str, out: str, now: float, program: str,
              pages: Collection[Page]) -> None:
-        """Look at the segments and the disks."""
+        """Update the state of the segments and the disks."""
         self.now, self.started = now, now if self.started is None else self.started
         names = []
         with contextlib.suppress(OSError):
@@ -51,7 +51,7 @@ class Monitor:
                 self.look_for_pages(os.path.join(segments, name), program)
 
     def look_for_pages(self, path: str, program: str) -> None:
-        """Look for headers of all pages in a segment."""
+        """Search a segment for headers of all pages."""
         for page in self.headers:
             with contextlib.suppress(OSError, Stop):
                 found = survey(program, path, page)
@@ -59,7 +59,7 @@ class Monitor:
                     self.headers[page] = max(self.headers[page], os.stat(path).st_mtime)
 
     def alarms(self) -> list[str]:
-        """Return the names of the alarms that are on."""
+        """Return the names of active alarms."""
         alarms = {
             "silence": self.now - self.last_byte > SILENCE,
             "disk": min(self.free) < LEAST_FREE,
@@ -70,7 +70,7 @@ class Monitor:
         return [name for name, is_on in alarms.items() if is_on] + pages
 
     def state(self) -> dict[str, Any]:
-        """Return what the file holds."""
+        """Return the contents of the file."""
         return {
             "date": date(self.now), "alarms": self.alarms(),
             "last_byte": date_or_none(self.last_byte), "oldest": date_or_none(self.oldest),
@@ -82,12 +82,12 @@ class Monitor:
 
 
 def date_or_none(time: float) -> str | None:
-    """Return a time as text in UTC; `None` for 0, which stands for never."""
+    """Return a time as text in UTC; `None` for 0, which means never."""
     return date(time) if time else None
 
 
 def free_bytes(folder: str) -> int:
-    """Return how many bytes are free where a folder is; 0 if it is not there."""
+    """Return the free bytes on the disk of a folder; 0 if the folder does not exist."""
     with contextlib.suppress(OSError):
         about = os.statvfs(folder)
         return about.f_bavail * about.f_frsize
@@ -95,6 +95,6 @@ def free_bytes(folder: str) -> int:
 
 
 def write_state(folder: str, state: dict[str, Any]) -> None:
-    """Write the file. If that fails its date becomes old, which monitoring sees."""
+    """Write the file. If that fails, monitoring sees its old date."""
     with contextlib.suppress(OSError), result_file(os.path.join(folder, NAME)) as file:
         file.write(json.dumps(state, indent=1).encode() + b"\n")

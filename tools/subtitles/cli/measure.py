@@ -1,4 +1,4 @@
-"""--measure: a profile of recordings that are right, what it rests on, and what it refuses."""
+"""--measure: propose a profile from correct recordings, with the evidence for each option."""
 from __future__ import annotations
 
 import argparse
@@ -41,26 +41,25 @@ from .single import now
 
 
 MOST_EXAMPLES = 5  # counterexamples to list
-MOST_EARLY = 25  # frames before a TCI within which its page may come too early
+MOST_EARLY = 25  # frames before a TCI in which its page is searched
 GOOD_STATUSES = {0, 3}  # statuses: accepted, and relative
 
 
 class Finding(NamedTuple):
-    """What is found of an option: the words that propose it, none where it is not proposed; and
-    what that rests on, in lines."""
+    """A proposed option as text, empty if none is proposed, and lines with the evidence."""
 
     text: str
     lines: Sequence[str]
 
     def list_subtitles(self) -> Iterator[str]:
-        """Yield the lines of a finding for a profile."""
+        """Yield the lines for a profile."""
         yield from (f"# {line}" for line in self.lines)
         if self.text:
             yield self.text
 
 
 class ReceivedSubtitle(NamedTuple):
-    """A subtitle of a file, and the page with its letters that was sent at its frames."""
+    """A subtitle, and the page with its text that was sent at its time."""
 
     stl: str
     subtitle: Subtitle
@@ -120,8 +119,8 @@ def propose_pace(paces: Sequence[Pace]) -> Finding:
 
 
 class Delays(NamedTuple):
-    """How many begins, and ends, are so many frames late; in words each cue that is early, and each
-    subtitle whose letters never came; and each cue that is late, by its frames."""
+    """How many in-cues and out-cues have each delay in frames; descriptions of early cues and of
+    subtitles that were never sent; and each late cue with its delay."""
 
     begins: collections.Counter[int]
     ends: collections.Counter[int]
@@ -171,7 +170,7 @@ def add_delays(counts: collections.Counter[int], early: list[str], late: list[tu
 
 
 def remove_unusual(delays: collections.Counter[int]) -> collections.Counter[int]:
-    """Return the delays without the longest ones that are so few that they are no habit."""
+    """Return the delays without the longest delays that are rare."""
     usual, rest = collections.Counter(delays), 0
     for delay in sorted(delays, reverse=True):
         rest += delays[delay]
@@ -182,7 +181,7 @@ def remove_unusual(delays: collections.Counter[int]) -> collections.Counter[int]
 
 
 def find_text_begin(held: Timeline, subtitle: Subtitle, letters: bytes, earlier: int) -> int | None:
-    """Return the first frame with the text of a subtitle, from `earlier` frames before its TCI on.
+    """Return the first frame with the text of a subtitle, not before `earlier` frames before its TCI.
     """
     numbers = held.page_numbers(max(subtitle.begin - earlier, 0), subtitle.end)
     return next((held.page_span(number).first for number in numbers
@@ -191,8 +190,7 @@ def find_text_begin(held: Timeline, subtitle: Subtitle, letters: bytes, earlier:
 
 def find_text_end(held: Timeline, subtitle: Subtitle, letters: bytes, first: int,
                   limit: int) -> int:
-    """Return the last frame with the text of a subtitle, from `first` up to some frames after its
-    TCO."""
+    """Return the last frame with the text of a subtitle, up to some frames after its TCO."""
     end = min(subtitle.end + MOST_WITHIN + 1, limit)
     numbers = held.page_numbers(first, max(end, subtitle.end))
     return max(held.page_span(number).last for number in numbers
@@ -251,7 +249,7 @@ def named_lines(what: str, names: Sequence[str]) -> list[str]:
     return [f"{what}: {'; '.join(names[:MOST_EXAMPLES])}{more}"]
 
 
-# Whether headers that repeat the page keep it, and their national option.
+# C4 (erase page) and the national option in page headers.
 
 
 def propose_keeping(headers: int, keeping: int, is_alone: bool) -> Finding:
@@ -274,15 +272,14 @@ def propose_option(options: Iterable[str], judged: str) -> Finding:
     return Finding(f"--option {sent[0]}" if len(sent) == 1 else "", lines)
 
 
-# The layout of the site's inserter.
+# The layout of the inserter.
 
 # Spaces after the codes that open a box, or before those that close it.
 SPACE_IN_BOX = re.compile(rb"^[\x00-\x1f]*\x0b[\x00-\x1f]* | [\x00-\x1f]*\x0a[\x00-\x1f]*$")
 
 
 def propose_layout(sendings: Sequence[ReceivedSubtitle], option: NationalOption) -> Finding:
-    """Propose the layout that draws nearly all subtitles as sent, with counterexamples; otherwise
-    say why there is none, with the nearest."""
+    """Propose the layout that draws nearly all subtitles as sent, with counterexamples. If there is none, describe the nearest layout."""
     closest, choice = choose_layouts([sending.sent for sending in sendings], option)
     if closest.total < FEWEST:
         return Finding("", [f"layout: {counted(closest.total, 'subtitle')} found with their text, "
@@ -318,7 +315,7 @@ def list_counterexamples(choice: LayoutChoice, sendings: Sequence[ReceivedSubtit
 
 
 def page_text(choice: LayoutChoice, sent: SentSubtitle, option: NationalOption) -> str:
-    """Return what a layout draws of a subtitle."""
+    """Return the page of a subtitle in a layout."""
     lines = draw_text(sent.text, sent.row, sent.justify, choice.layout, option)
     return f"nothing: refused {lines.number}" if isinstance(lines, TextFault) else \
         format_cells(make_page_rows(lines))
@@ -327,7 +324,7 @@ def page_text(choice: LayoutChoice, sent: SentSubtitle, option: NationalOption) 
 def explain_missing_layout(nearest: LayoutChoice, sendings: Sequence[ReceivedSubtitle],
                            option: NationalOption) \
         -> Iterator[str]:
-    """Yield why no layout is proposed: the nearest one, and what no layout can do."""
+    """Yield the reasons why no layout is proposed, with the nearest layout."""
     others = [sending.sent for sending in sendings
               if not draws_as_sent(nearest.layout, sending.sent, option)]
     text = format_layout(nearest.layout)
@@ -386,11 +383,11 @@ def format_counts(choice: LayoutChoice) -> str:
     return f"{choice.as_sent} of {counted(choice.total, 'subtitle')} as they were sent"
 
 
-# The recordings, one after another.
+# Measuring recordings.
 
 
 class SilentPrinter(Printer):
-    """What a pair says while it is read, which is kept."""
+    """Keeps lines instead of printing them."""
 
     def __init__(self) -> None:
         super().__init__(Progress())
@@ -463,7 +460,8 @@ def is_stl(path: str) -> bool:
 
 
 def requests_in(path: str, args: argparse.Namespace) -> list[Request]:
-    """Return the pairs of a list, each with the options of its line; `Stop` if one is none."""
+    """Return the pairs of a list with the options of their lines; raise `Stop` for a faulty line.
+    """
     items = read_pairs(path, args)
     for item in items:
         if item.reason:
@@ -488,7 +486,7 @@ def measure_recording(request: Request, command_paths: CommandPaths, folder: str
 
 
 def make_pair(request: Request, command_paths: CommandPaths, folder: str) -> PairJudge:
-    """Return a pair of which nothing is printed."""
+    """Return a pair that is judged without printing."""
     names = OutputNames("measured", folder, None)
     names.set_subtitle_file(request.stl)
     return PairJudge(Verdict(request, Severity(None), now()), command_paths, names,
@@ -497,7 +495,7 @@ def make_pair(request: Request, command_paths: CommandPaths, folder: str) -> Pai
 
 def list_refused(requests: Sequence[Request], command_paths: CommandPaths,
                  folder: str) -> Iterator[str]:
-    """Yield for each recording that the profile does not accept why not; else that it does."""
+    """Yield why the profile does not accept a recording, or that it accepts all."""
     refused = 0
     for request in requests:
         pair = make_pair(request, command_paths, folder)
@@ -578,7 +576,7 @@ def find_pid(pair: PairJudge) -> tuple[str | None, list[str]]:
     return f"0x{pid:X}", [*dict.fromkeys(lines)] or [f"PID 0x{pid:X} was given"]
 
 
-# What is printed.
+# Printing.
 
 def profile_lines(requests: Sequence[Request], recordings: Sequence[Measured]) -> Iterator[str]:
     """Yield the lines of the profile, which `--profile` reads."""
