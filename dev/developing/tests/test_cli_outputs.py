@@ -23,8 +23,8 @@ from subtitles.common.command_line import shown
 from subtitles.common.files import SummedFile
 from subtitles.judging.verdict import Gap
 from subtitles.results.files import (
-    Row, TestCase, format_cell, column_rows, junit_file as junit_of, format_change_time, part_columns, table_value,
-    table_lines as csv_of, make_unjudged)
+    Row, TestCase, format_cell, column_rows, junit_file as junit_of, format_change_time,
+    part_columns, table_value, table_lines as csv_of, make_unjudged)
 from subtitles.results.schema import JUDGED_PART, LOSS, PartResult
 from subtitles.stream.gaps import LossPlace
 from .bench import Case

@@ -58,7 +58,8 @@ class CompletePage(Case):
         verdict.notes, verdict.warnings = ["note <1>", "note 2"], [
             Notice("pause", "one &", None), Notice("page", "other", "00:00:03:04")]
         verdict.gaps = [Gap(f"00:00:0{at}:00", None, f"{at} packets", LossPlace(
-            TICKS * 80, TICKS * 81, at, gap_marker=2 if at == 2 else None), True) for at in (1, 2, 3)]
+            TICKS * 80, TICKS * 81, at, gap_marker=2 if at == 2 else None), True) for at in
+                        (1, 2, 3)]
         verdict.date = "now"
         return verdict
 

@@ -255,7 +255,7 @@ def call_in_process(name: str, words: Sequence[str]) -> Done:
     module, out, errors = tool_module(name), io.StringIO(), io.StringIO()
     with mock.patch.object(sys, "argv", [tool_path(name), *words]), \
             contextlib.redirect_stdout(out), contextlib.redirect_stderr(errors):
-        status = ended(module.called if name == "qc" else module.main, words)
+        status = ended(module.call_main if name == "qc" else module.main, words)
     return Done(status, out.getvalue().encode(), errors.getvalue().splitlines())
 
 

@@ -166,7 +166,8 @@ class ProposedItems(Case):
         for count, taken in ((1, ""), (9, ""), (10, "right=2")):
             right = [moved(one, 2) for one in sent_of([SentText(b"Hi", b"Hi", 3)] * count)]
             choice = choose_layouts([*sent_of(plain(100 - count)), *right], ENGLISH)[1]
-            self.must(f"{count}", format_layout(choice.layout) == taken and choice.as_sent == 100 - (
+            self.must(f"{count}", format_layout(choice.layout) == taken and choice.as_sent == 100 -
+                      (
                 count if not taken else 0), choice)
 
     def test_puts_codes_before_a_lines_own_colour(self) -> None:

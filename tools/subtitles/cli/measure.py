@@ -181,8 +181,8 @@ def remove_unusual(delays: collections.Counter[int]) -> collections.Counter[int]
 
 
 def find_text_begin(held: Timeline, subtitle: Subtitle, letters: bytes, earlier: int) -> int | None:
-    """Return the first frame with the text of a subtitle, not before `earlier` frames before its TCI.
-    """
+    """Return the first frame with the text of a subtitle, not before `earlier` frames before its
+    TCI."""
     numbers = held.page_numbers(max(subtitle.begin - earlier, 0), subtitle.end)
     return next((held.page_span(number).first for number in numbers
                  if find_page_letters(held.pages[number]) == letters), None)
@@ -279,7 +279,8 @@ SPACE_IN_BOX = re.compile(rb"^[\x00-\x1f]*\x0b[\x00-\x1f]* | [\x00-\x1f]*\x0a[\x
 
 
 def propose_layout(sendings: Sequence[ReceivedSubtitle], option: NationalOption) -> Finding:
-    """Propose the layout that draws nearly all subtitles as sent, with counterexamples. If there is none, describe the nearest layout."""
+    """Propose the layout that draws nearly all subtitles as sent, with counterexamples. If there is
+    none, describe the nearest layout."""
     closest, choice = choose_layouts([sending.sent for sending in sendings], option)
     if closest.total < FEWEST:
         return Finding("", [f"layout: {counted(closest.total, 'subtitle')} found with their text, "

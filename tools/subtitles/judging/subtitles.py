@@ -13,7 +13,8 @@ from ..formats.listing import (
     read_meanings, remove_markup)
 from ..formats.stl import NamedSubtitle, Subtitle, SubtitleFile, subtitle_name, decode_subtitles
 from ..formats.teletext import (
-    BY_WORD, NationalOption, OPTIONS, Page, decode_character, has_characters, character_bytes, find_options)
+    BY_WORD, NationalOption, OPTIONS, Page, decode_character, has_characters, character_bytes,
+    find_options)
 from ..request.commands import MOST_LIST_LINES
 from ..stream.packets import PES, PacketRun, Packets
 from ..stream.receiver import BLANK_PAGE, Rows, Timeline

@@ -224,7 +224,8 @@ class Recording:
         if why:
             self.listener.print_line(why)
         if self.survey.skipped:
-            self.listener.print_line(f"{counted(self.survey.skipped, 'byte')} outside of TS packetsskipped")
+            self.listener.print_line(f"{counted(self.survey.skipped, 'byte')} outside of TS "
+                                    "packets skipped")
         for line in gap_marker_lines(packets):
             self.listener.print_line(line)
 

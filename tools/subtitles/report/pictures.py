@@ -227,7 +227,8 @@ def find_differences(expected: Rows, decoded: Rows) -> list[Place]:
 NO_TEXT = "no text"
 
 
-def draw_picture_pair(time: str, expected: Rows, header: bytes, state: ReceiverState | None) -> Markup:
+def draw_picture_pair(time: str, expected: Rows, header: bytes, state: ReceiverState |
+                      None) -> Markup:
     """Draw the expected and the decoded page at the end of a frame."""
     decoded = state.rows if state and state.is_received else None
     shown_rows = find_used_rows([expected, decoded] if decoded else [expected])

@@ -1,7 +1,7 @@
 """The tables of JSON results: a row for each member, with its name, shape, meaning and source.
 
-Results are written and checked by these tables. `dev/make-pages` makes docs/verdict.schema.json and
-docs/manual/results.md from them. A new member is a row here, or an option in request/request.py.
+Results are written and checked by them; `dev/make-pages` makes docs/verdict.schema.json and
+docs/manual/results.md from them. A new member is a row here, or in `request.members`.
 """
 from __future__ import annotations
 
@@ -27,7 +27,7 @@ FIRST_FAULT, LAST_FAULT = 10, 79  # fault numbers
 
 CODE_TIME = named("code_time", Text(r"[0-9]{2,3}(:[0-9]{2,3}){3}"))
 DATE = named("date", Text(r"[0-9]{4}-[0-9]{2}-[0-9]{2}T[0-9]{2}:[0-9]{2}:[0-9]{2}Z"))
-PART = named("part_number", Integer(1, MOST_NUMBER), "The number of the part, from 1.")
+PART = named("part_number", Integer(1, MOST_NUMBER), "The part, from 1.")
 STATUS = named("status", OneOf(*sorted({*STATUSES.values()})), "The exit status.")
 WORD = named("word", OneOf(*STATUSES))
 
@@ -48,9 +48,9 @@ SUBTITLE = Record(
     "subtitle", "",
     Member("position", COUNT, "The position in the subtitle file, or in the part, from 1. A "
            "comment or user data has the position of the previous subtitle."),
-    Member("number", Integer(0, 65535), "Its number (SN)."),
-    Member("begin", CODE_TIME, "Its in-cue (TCI)."),
-    Member("end", CODE_TIME, "Its out-cue (TCO)."))
+    Member("number", Integer(0, 65535), "SN."),
+    Member("begin", CODE_TIME, "TCI."),
+    Member("end", CODE_TIME, "TCO."))
 
 CAUSE_NAME = named("cause_name", OneOf(*CAUSE_NAMES))
 CAUSE_MEMBERS = (
@@ -63,9 +63,9 @@ CAUSE_MEMBERS = (
     Member("other_number", Maybe(Integer(0, 65535)),
            "The number (SN) of the subtitle with the received text."),
     Member("other_position", Maybe(Integer(1, MOST_NUMBER)),
-           "The position of that subtitle in the file, from 1."),
+           "That subtitle's position in the file, from 1."),
     Member("line", Text(), "The cause as printed."))
-CAUSE = Record("cause", "A cause says why the content of the text of a subtitle differs from the expected "
+CAUSE = Record("cause", "A cause says why the content of a subtitle differs from the expected "
                "content. All faults 72 of a subtitle have the same cause.", *CAUSE_MEMBERS)
 LISTED_CAUSE = Record("listed_cause", "",
                       Member("part", PART), *CAUSE_MEMBERS)
@@ -89,12 +89,12 @@ FAULT = Record(
            "The subtitle of the block, or the expected subtitle at the frame."),
     Member("byte", Maybe(Text(r"[0-9A-F]{2}")), "For faults 50 and 51, the byte in "
            "hexadecimal."),
-    Member("character", Maybe(Text()), "The character of this byte, with its accent if any; "
-           " nullfor a control code."),
-    Member("text_offset", Maybe(COUNT), "For faults 50 and 51: the offset of, the offset of this byte in the "
-           "text; for faults 52 to 55, the line of the text. Both count from 0."),
-    Member("pes", Maybe(COUNT), "The number of the PES packet, from 0 (in a feed: from the start of the judged "
-           "packet); null if the fault is between PES packets."),
+    Member("character", Maybe(Text()), "The character of this byte, with its accent if any; null "
+           "for a control code."),
+    Member("text_offset", Maybe(COUNT), "For faults 50 and 51, the offset of this byte in the "
+           "text; for faults 52 to 55, the line. Both count from 0."),
+    Member("pes", Maybe(COUNT), "The PES packet, from 0 (in a feed: from the start of the judged "
+           "part); null if the fault is between PES packets."),
     Member("pes_pts", Maybe(PTS), "The PTS of this PES packet."),
     Member("pes_time", Maybe(TIME), "The time of this PTS."),
     Member("packet", Maybe(COUNT), "The Teletext packet in the frame, from 0."),
@@ -118,7 +118,7 @@ FAULT = Record(
 REQUEST = Record(
     "request", "",
     Member("stl", Text(), "The subtitle file as typed."),
-    Member("recording", Maybe(Text()), "The recording as typed; null: none."),
+    Member("recording", Maybe(Text()), "The recording as typed; null: a subtitle file alone."),
     *request_members())
 
 CLOCK_OF_PART = Record(
@@ -127,18 +127,18 @@ CLOCK_OF_PART = Record(
     Member("source", OneOf(*SOURCES), "How the clock was found: recording (estimated), origin "
            "(--origin), start (--start TIME) or tcp (--start tcp)."),
     Member("delay_frames", Maybe(Integer(-FRAMES_OF_A_DAY, FRAMES_OF_A_DAY)), "The number of "
-           "frames by which cues are later than this clock; null if it is unknown clock."))
+           "frames by which cues are later than this clock; null if it is unknown."))
 
 
 class PartResult(NamedTuple):
-    """A part, and whether its judged PES packets are kept in the output folder."""
+    """A part, and whether its judged PES packets stay in a folder."""
 
     part: Part
     is_kept: bool
 
     @property
     def judged_file(self) -> dict[str, object] | None:
-        """The file of judged PES packets of a feed; it has a name only if it is kept."""
+        """The judged PES packets of a feed; without a name unless they are kept."""
         file = self.part.judged_file
         return file and {**file._asdict(), **({} if self.is_kept else {"name": None})}
 
@@ -146,7 +146,7 @@ class PartResult(NamedTuple):
 JUDGED_PART = Record(
     "part", "",
     Member("part", PART, of=lambda of: of.part.number),
-    Member("stl", Text(), "The subtitle file as typed.", lambda of: of.part.request.stl),
+    Member("stl", Text(), "The subtitle file, as typed.", lambda of: of.part.request.stl),
     Member("origin", Maybe(PTS), "The PTS of 00:00:00:00.", lambda of: of.part.origin),
     Member("from", Maybe(TIME), "The first judged time.", lambda of: of.part.time_codes()[0]),
     Member("to", Maybe(TIME), "The last judged time.", lambda of: of.part.time_codes()[1]),
@@ -166,7 +166,7 @@ JUDGED_PART = Record(
     Member("packet_size", OneOf(*PACKET_SIZES, None), "The packet size in bytes; null for PES "
            "packets.", lambda of: (of.part.stream or (None, None))[1]),
     Member("pes", Maybe(Text(r"[0-9]+-[0-9]+", 40)), "The first and the last judged PES packet, as "
-           "for --pes; null if a feed was judged completely.", lambda of: of.part.pes_argument),
+           "for --pes; null if all of a feed was judged.", lambda of: of.part.pes_argument),
     Member("pace", Maybe(Integer(1, MOST_EVERY)), "The longest allowed PES interval in frames; "
            "null if it is not checked.", lambda of: of.part.request.pace),
     Member("judged_file", Maybe(FILE), "The judged PES packets of a feed."),
@@ -182,14 +182,13 @@ LOSS = Record(
     Member("gap_marker", Maybe(COUNT), "The number of the gap marker (45) among the PES packets; "
            "null if only the PCR shows the loss.", lambda gap: gap.place.gap_marker),
     Member("lost_ts_packets", COUNT, "The number of lost TS packets by the counters, which do "
-           "not "
-           " show multiples of 16.",
+           "not show multiples of 16.",
            lambda gap: gap.place.lost),
     Member("scrambled_ts_packets", COUNT, "The number of scrambled TS packets.",
            lambda gap: gap.place.scrambled),
     Member("missing_ticks", COUNT, "The length of the loss by the PCR, in 90 kHz ticks; 0 if the "
            "PCR does not show it.", lambda gap: gap.place.missing),
-    Member("judged", Flag(), "Whether the verdict covers the frames of the loss these times.",
+    Member("judged", Flag(), "Whether the verdict covers the frames between these times.",
            lambda gap: gap.is_judged))
 
 WARNING = Record(
@@ -212,18 +211,18 @@ CUE = Record(
     "cue", "",
     Member("part", PART),
     Member("position", Integer(1, MOST_NUMBER), "The position in the subtitle file, from 1."),
-    Member("number", Integer(0, 65535), "Its number (SN)."),
-    Member("recording_offset", Maybe(Text(r"[0-9]+:[0-9]{2}:[0-9]{2}")), "The TCIin "
-           " the recording's beginning, as H:MM:SS from the beginning."),
-    Member("expected_in", CODE_TIME, "The expected in-cue (TCI)."),
-    Member("expected_out", CODE_TIME, "The expected out-cue (TCO)."),
+    Member("number", Integer(0, 65535), "SN."),
+    Member("recording_offset", Maybe(Text(r"[0-9]+:[0-9]{2}:[0-9]{2}")), "The TCI, "
+           "counted from the recording's beginning, as H:MM:SS."),
+    Member("expected_in", CODE_TIME, "TCI."),
+    Member("expected_out", CODE_TIME, "TCO."),
     Member("actual_in", Maybe(TIME), "The first frame at whose end a receiver has the page, or "
            "another page in its place; null if there is none."),
-    Member("actual_out", Maybe(TIME), "The first frame at whose end a receiver no longer has a receiver no longer has "
+    Member("actual_out", Maybe(TIME), "The first frame at whose end a receiver no longer has "
            "the page."),
     Member("delay_in", DELAY, "The number of frames by which the in-cue is late; negative if it is "
            "early."),
-    Member("delay_out", DELAY, "How many frames late the out-cue is; negative: early."),
+    Member("delay_out", DELAY, "The same for the out-cue."),
     Member("expected_text", Maybe(Text()), "The subtitle's text, with a slash between rows; null "
            "if the subtitle is refused."),
     Member("decoded_text", Maybe(Text()), "The received text."),
@@ -231,7 +230,7 @@ CUE = Record(
            "faults are warnings, not known if the subtitle can't be judged."),
     Member("reason", Maybe(Text()), "The reason why the subtitle is not right."),
     Member("complete_after", Maybe(COUNT), "The number of frames from the TCI until the page was "
-           "complete, and with --complete terminated; null if it was not, or if this is unknown."))
+           "complete, and with --complete closed; null if it was not, or if this is unknown."))
 
 CHOICE = Record(
     "choice", "",
@@ -240,10 +239,10 @@ CHOICE = Record(
            lambda choice: choice.option),
     Member("value", Maybe(Text()), "The chosen value; null if there is none."),
     Member("matches", Maybe(COUNT), "The number of matches: for pid, PES packets with a header of "
-           "the page; for origin: matching, cues; for pes, PES packets in the time of the subtitles; forpace, positions where a loss would "
-           "be noticed.",
+           "the page; for origin, cues; for pes, PES packets in the time of the subtitles; for "
+           "pace, positions where a loss would take longer.",
            lambda choice: choice.match_count),
-    Member("total", Maybe(COUNT), "The number that was compared were compared.", lambda choice: choice.total_count),
+    Member("total", Maybe(COUNT), "The number that was compared.", lambda choice: choice.total_count),
     Member("line", Text(), "The evidence as printed."))
 
 PROGRAM = Record(
@@ -264,72 +263,72 @@ SPREAD = Record(
 COUNTS = Record(
     "counts", "",
     Member("judged", COUNT, "The number of judged subtitles."),
-    Member("refused", COUNT, "The number of these that were refused in the file, or that overlap the next "
+    Member("refused", COUNT, "The number of these that were refused, or that overlap the next "
            "subtitle or come after it."))
 
 FORMAT = 7
-MOST_LISTED = 20_000
-MOST_SUBTITLES = 100_000  # a subtitle file has at most 99,999 blocks
+MOST_LISTED = 20_000  # items of a list
+MOST_SUBTITLES = 100_000  # a subtitle file has 99,999 blocks at most
 MOST_SECONDS = 10 ** 9
 Value = object
 
 
 class ResultSource(NamedTuple):
-    """The verdict and the program from which a result is made."""
+    """What a result is made from: the verdict and the program."""
 
     verdict: Verdict
     program: MadeWith
 
 
-def list_trusted_frames(source: ResultSource) -> Iterator[dict[str, Value]]:
+def list_trusted_frames(known: ResultSource) -> Iterator[dict[str, Value]]:
     """Yield the trusted frames of all parts."""
-    for part in source.verdict.parts:
+    for part in known.verdict.parts:
         for begin, end in part.trusted_frames:
             yield {"part": part.number, "from": time_of(begin), "to": time_of(end)}
 
 
-def list_cause_rows(source: ResultSource) -> Iterator[dict[str, Value]]:
-    """Yield the causes of all parts in the order of their subtitles."""
-    for part in source.verdict.parts:
+def list_cause_rows(known: ResultSource) -> Iterator[dict[str, Value]]:
+    """Yield the causes of all parts, in the order of the subtitles."""
+    for part in known.verdict.parts:
         if part.causes:
-            wording = CauseDescriber(part.causes, source.verdict.request.option)
+            wording = CauseDescriber(part.causes, known.verdict.request.option)
             for cause in part.causes.list_causes():
                 yield {"part": part.number, **wording.make_json(cause)}
 
 
 def list_subtitle_rows(verdict: Verdict) -> Iterator[dict[str, Value]]:
-    """Yield the subtitles of all parts; none if the verdict is `not judged`."""
+    """Yield the subtitles of all parts, unless nothing is judged."""
     for part in verdict.parts if verdict.word != NOT_JUDGED else ():
         yield from make_subtitle_rows(part, verdict.severity, verdict.valid_subtitles)
 
 
 def add_known(numbers: list[int | None]) -> int | None:
-    """Return the sum of numbers; `None` if one is unknown, or there are none."""
-    values = [number for number in numbers if number is not None]
-    return sum(values) if values and len(values) == len(numbers) else None
+    """Return the sum; `None` if a number is unknown."""
+    known = [number for number in numbers if number is not None]
+    return sum(known) if known and len(known) == len(numbers) else None
 
 
-def sum_parts(source: ResultSource, name: str) -> int | None:
+def sum_parts(known: ResultSource, name: str) -> int | None:
     """Return the sum of a count over all parts."""
-    return add_known([getattr(part.check_output, name) for part in source.verdict.parts])
+    return add_known([getattr(part.check_output, name) for part in known.verdict.parts])
 
 
 FILES_AT_START = Record(
-    "files_at_start", "The files at the start of judging began, which --resume and --watch compare.", *(
+    "files_at_start", "The files when judging began, which --resume and --watch compare.", *(
         Member(name, Maybe(FILE_AT_START)) for name in ("stl", "recording", "severity")))
-INPUTS = Record("inputs", "The input files as they were read.",
+INPUTS = Record("inputs", "The files as they were read.",
                 Member("stl", Maybe(FILE)), Member("recording", Maybe(FILE)))
-CAUSE_COUNTS = Record("cause_counts", "The number of causes for each cause.", *(
+CAUSE_COUNTS = Record("cause_counts", "The number of causes for each name.", *(
     Member(name, COUNT) for name in CAUSE_NAMES))
 
-# The allowed combinations of verdict, status, last line and reason.
+# Verdict, status, last line and reason belong together.
 TEXT, NOTHING = Text(least=1), OneOf(None)
 TOGETHER = Rules([
     {"verdict": OneOf(word), "status": OneOf(status),
      "line": NOTHING if word == NOT_JUDGED else TEXT,
      "worst_fault": NOTHING if word == NOT_JUDGED else TEXT,
      "reason": TEXT if word == NOT_JUDGED else NOTHING} for word, status in POSSIBLE_RESULTS])
-# `accepted` and `waived` need a given clock; `relative` has status 0 only with --relative.
+# Without a clock nothing is accepted or waived; `relative` has status 0 only with --relative.
 HAS_CLOCK = Rules([{"origin": PTS}, {"start": TEXT}, {"recording": NOTHING}])
 IS_ALLOWED = Rules([{"relative": OneOf(True)}])
 TIMED = Rules([
@@ -338,74 +337,75 @@ TIMED = Rules([
     {"verdict": OneOf(RELATIVE), "status": OneOf(STATUSES[RELATIVE])},
     {"verdict": OneOf(RELATIVE), "request": IS_ALLOWED}])
 
-# Lists, written item by item. `omitted` has the number of items that each list lacks.
+# The lists, written item by item; `omitted` counts the rest of each.
 LISTS = (
-    Member("parts", Listed(JUDGED_PART, MOST_LISTED), "The parts. Each part has its own clockand verdict. Frames between parts are not judged.",
-           lambda source: (PartResult(part, source.verdict.is_kept) for part in source.verdict.parts)),
+    Member("parts", Listed(JUDGED_PART, MOST_LISTED), "The parts. Each has its own clock "
+           "and verdict. Frames between parts are not judged.",
+           lambda known: (PartResult(part, known.verdict.is_kept) for part in known.verdict.parts)),
     Member("losses", Listed(LOSS, MOST_LISTED), "The losses in the recording.",
-           lambda source: source.verdict.gaps),
+           lambda known: known.verdict.gaps),
     Member("notes", Listed(Text(), MOST_LISTED),
            "The notes as printed.",
-           lambda source: source.verdict.list_notes()),
+           lambda known: known.verdict.list_notes()),
     Member("hints", Listed(Text(), MOST_LISTED), "The hints as printed, about the first fault with "
            "some numbers.",
-           lambda source: source.verdict.hints),
+           lambda known: known.verdict.hints),
     Member("warnings", Listed(WARNING, MOST_LISTED), "Unusual values in the files.",
-           lambda source: source.verdict.warnings),
+           lambda known: known.verdict.warnings),
     Member("commands", Listed(Text(), MOST_LISTED), "The check commands that qc ran.",
-           lambda source: source.verdict.commands),
-    Member("choices", Listed(CHOICE, MOST_LISTED), "The values that qc, in order.",
-           lambda source: source.verdict.selections),
+           lambda known: known.verdict.commands),
+    Member("choices", Listed(CHOICE, MOST_LISTED), "The values that qc chose, in order.",
+           lambda known: known.verdict.selections),
     Member("trusted_frames", Listed(TRUSTED, MOST_LISTED), "Frames without a fault; "
            "with --within N, frames that become right within N frames.", list_trusted_frames),
-    Member("faults", Listed(FAULT, MOST_LISTED), "The faults: first those without a number first, then "
+    Member("faults", Listed(FAULT, MOST_LISTED), "The faults: first those without a number, then "
            "the others in the order of check --all.",
-           lambda source: make_faults(source.verdict)),
+           lambda known: make_faults(known.verdict)),
     Member("causes", Listed(LISTED_CAUSE, MOST_LISTED), "The cause for each subtitle with a fault "
-           "72, and for the first and the last subtitle with a fault 63 or 74. Each cause also has a "
+           "72, and for the first and last subtitle with a fault 63 or 74. Each cause also has a "
            "key part.", list_cause_rows),
     Member("subtitles", Listed(CUE, MOST_SUBTITLES), "All subtitles, including refused subtitles. "
            "A fault between two subtitles belongs to neither.",
-           lambda source: list_subtitle_rows(source.verdict)))
+           lambda known: list_subtitle_rows(known.verdict)))
 OMITTED = Record("omitted", "The number of items that were left out of each list.", *(
     Member(one.name, COUNT) for one in LISTS))
 
 VERDICT = Record(
     "verdict", "",
     Member("format", OneOf(FORMAT), "The format number.", lambda _: FORMAT),
-    Member("verdict", WORD, of=lambda source: source.verdict.word),
-    Member("status", STATUS, of=lambda source: source.verdict.status),
+    Member("verdict", WORD, of=lambda known: known.verdict.word),
+    Member("status", STATUS, of=lambda known: known.verdict.status),
     Member("line", Maybe(Text()), "The last line on standard output.",
-           lambda source: source.verdict.line),
+           lambda known: known.verdict.line),
     Member("worst_fault", Maybe(Text()), "The last line with the worst fault that is not waived.",
-           lambda source: source.verdict.worst_line),
+           lambda known: known.verdict.worst_line),
     Member("sentence", Text(), "The verdict in one sentence.",
-           lambda source: source.verdict.sentence),
+           lambda known: known.verdict.sentence),
     Member("reason", Maybe(Text()), "The reason why the pair was not judged.",
-           lambda source: source.verdict.unjudged_reason),
+           lambda known: known.verdict.unjudged_reason),
     Member("scope", OneOf("transmission", "subtitle file"),
            "Whether a transmission or a subtitle file alone was judged.",
-           lambda source: "subtitle file" if source.verdict.request.recording is None
+           lambda known: "subtitle file" if known.verdict.request.recording is None
            else "transmission"),
     Member("frames", Maybe(COUNT), "The number of judged frames.",
-           lambda source: sum_parts(source, "frames")),
+           lambda known: sum_parts(known, "frames")),
     Member("transmissions", Maybe(COUNT), "The number of page transmissions.",
-           lambda source: sum_parts(source, "transmissions")),
+           lambda known: sum_parts(known, "transmissions")),
     Member("fault_count", COUNT, "The number of all faults, including omitted faults.",
-           lambda source: source.verdict.fault_count),
-    Member("subtitle_counts", Maybe(COUNTS), of=lambda source: source.verdict.subtitle_counts),
-    Member("request", REQUEST, of=lambda source: source.verdict.request),
-    Member("files_at_start", FILES_AT_START, of=lambda source: source.verdict.files_at_start),
-    Member("inputs", INPUTS, of=lambda source: source.verdict),
+           lambda known: known.verdict.fault_count),
+    Member("subtitle_counts", Maybe(COUNTS), of=lambda known: known.verdict.subtitle_counts),
+    Member("request", REQUEST, of=lambda known: known.verdict.request),
+    Member("files_at_start", FILES_AT_START, of=lambda known: known.verdict.files_at_start),
+    Member("inputs", INPUTS, of=lambda known: known.verdict),
     Member("program", PROGRAM),
-    Member("date", DATE, "The time of judging, in UTC.", lambda source: source.verdict.date),
+    Member("date", DATE, "The time of judging, in UTC.", lambda known: known.verdict.date),
     Member("seconds", Number(MOST_SECONDS), "The time that judging took.",
-           lambda source: source.verdict.seconds),
-    Member("cause_counts", CAUSE_COUNTS, of=lambda source: count_causes(
-        part.causes for part in source.verdict.parts if part.causes)),
+           lambda known: known.verdict.seconds),
+    Member("cause_counts", CAUSE_COUNTS, of=lambda known: count_causes(
+        part.causes for part in known.verdict.parts if part.causes)),
     Member("complete_after", Maybe(SPREAD),
            "The number of frames after which subtitles were complete.",
-           lambda source: source.verdict.delays),
+           lambda known: known.verdict.delays),
     *LISTS,
     Member("omitted", OMITTED),
     rules=[TOGETHER, TIMED])
@@ -426,10 +426,10 @@ BATCH = Record(
     Member("date", DATE))
 
 
-def find_misfit(result: object) -> str | None:
-    """Return the first place where a value does not match the schema; `None` if it matches."""
-    is_pair = isinstance(result, dict) and "request" in result
-    return (VERDICT if is_pair else NO_PAIR).misfit(result)
+def find_misfit(known: object) -> str | None:
+    """Return where a value does not match the schema of a pair's result; `None` if it does."""
+    is_pair = isinstance(known, dict) and "request" in known
+    return (VERDICT if is_pair else NO_PAIR).misfit(known)
 
 
 def schema() -> Schema:
@@ -440,9 +440,9 @@ def schema() -> Schema:
         "type": "array", "items": {"oneOf": [VERDICT.reference(), NO_PAIR.reference()]}}
     return {
         "$schema": "http://json-schema.org/draft-07/schema#",
-        "$comment": "The output of tools/qc --json; dev/make-pages makes this file. Objects have "
-                    "all their members; null means unknown or not applicable. Times are "
-                    "HH:MM:SS:FF at 25 frames a second, by the subtitle file's clock.",
+        "$comment": "What tools/qc --json writes; dev/make-pages makes this file. All members are "
+                    "always there; null stands for what does not apply or is unknown. Times are "
+                    "HH:MM:SS:FF at 25 frames a second, in the time of the subtitle file.",
         "title": "A verdict on a subtitle file and its recording, or on a batch of them",
         "oneOf": [one.reference() for one in (VERDICT, BATCH, NO_PAIR)],
         "definitions": {**definitions([VERDICT, NO_PAIR]), BATCH.name: batch}}

@@ -59,7 +59,8 @@ def pair_lines(place: int, lines: Sequence[bytes], rows: Sequence[bytes]) -> lis
     """Return the lines of a subtitle with their sent rows, or none if the characters differ."""
     said = [(number, line) for number, line in enumerate(lines) if remove_attributes(line)]
     shown = [(number, row) for number, row in enumerate(rows, 1) if remove_attributes(row)]
-    if [remove_attributes(line) for _, line in said] != [remove_attributes(row) for _, row in shown]:
+    if [remove_attributes(line) for _, line in said] != [remove_attributes(row) for _, row in
+                                                         shown]:
         return []
     return [SentLine(place, number, line, row, sent)
             for (number, line), (row, sent) in zip(said, shown)]
@@ -166,7 +167,8 @@ def find_row_layouts(layout: Layout, pairs: Sequence[SentLine],
                      all_lines: Sequence[Sequence[bytes]],
                      subtitles: Sequence[SentSubtitle]) -> Iterator[tuple[Layout, int]]:
     """Yield layouts of the rows of lines, each with the subtitles whose rows are wrong."""
-    lines = [[prepare_line(remove_codes(line, layout.strip), layout) for line in one] for one in all_lines]
+    lines = [[prepare_line(remove_codes(line, layout.strip), layout) for line in one] for one in
+             all_lines]
     for double, pack, last in itertools.product((False, True), repeat=3):
         shape = layout._replace(double=double, pack=pack, last=last)
         rows = {pair.place: assign_rows(lines[pair.place], subtitles[pair.place].row, shape)
@@ -400,14 +402,14 @@ class Evidence:
         """Return the evidence for a group of items; `is_enough`: stop as soon as it is enough."""
         less, text = remove_items(layout, group), items_text(group, layout)
         right = [page == one.rows for page, one in zip(self.pages(layout), self.subtitles)]
-        decides = reverse_option_bits = 0
+        decides = as_sent = 0
         for is_right in (False, True):
             for page, sent, was_right in zip(self.pages(layout), self.subtitles, right):
                 if was_right == is_right and self.page(sent, less) != page:
-                    decides, reverse_option_bits = decides + 1, reverse_option_bits + is_right
-                    if is_enough and is_right and ItemEvidence(text, decides, reverse_option_bits).has_evidence:
-                        return ItemEvidence(text, decides, reverse_option_bits)
-        return ItemEvidence(text, decides, reverse_option_bits)
+                    decides, as_sent = decides + 1, as_sent + is_right
+                    if is_enough and is_right and ItemEvidence(text, decides, as_sent).has_evidence:
+                        return ItemEvidence(text, decides, as_sent)
+        return ItemEvidence(text, decides, as_sent)
 
     def find_unsupported(self, layout: Layout) -> Group | None:
         """Return the group of items without evidence that changes the fewest subtitles; `None` if
