@@ -428,11 +428,11 @@ class Pages(Case):
         self.must("a pipe", "Programme" in scope and "piped.stl" in
                   markup_text(report_page.scope_section(verdict)), scope)
         verdict.parts = [make_part(0, 9, 7, packets=mock.MagicMock(count=9), pes=(2, 4))]
-        listed = "".join(report_page.not_checked(verdict))
+        listed = "".join(report_page.list_unchecked(verdict))
         self.must("packets", "6 PES packets of 9, before" in listed, listed)
         verdict.named_faults = [NamedFault("never sent", "a"), NamedFault("not shown", "b")]
         verdict.severity.by_fault = {"not shown": "warning"}
-        self.must("waived", [*report_page.waived_faults(verdict)] == ["not shown: b"])
+        self.must("waived", [*report_page.list_waived(verdict)] == ["not shown: b"])
 
     def test_has_unique_anchors_for_all_parts(self) -> None:
         page = markup_text(report_page.make_report_page(self.several(), CommandPaths(

@@ -242,7 +242,8 @@ CHOICE = Record(
            "the page; for origin, cues; for pes, PES packets in the time of the subtitles; for "
            "pace, positions where a loss would take longer.",
            lambda choice: choice.match_count),
-    Member("total", Maybe(COUNT), "The number that was compared.", lambda choice: choice.total_count),
+    Member("total", Maybe(COUNT), "The number that was compared.",
+           lambda choice: choice.total_count),
     Member("line", Text(), "The evidence as printed."))
 
 PROGRAM = Record(
