@@ -135,10 +135,10 @@ def enhancement(chance: Random, magazine: int, number: int) -> bytes:
 
 def teletext_pes(chance: Random, pts: int, packets: list[bytes]) -> bytes:
     """Return a PES packet, sometimes with a fault."""
-    data = make_pes_packet(wrapped(pts), packets)
+    data = make_pes_packet(wrapped(pts), packets) + bytes(chance.choice([0] * 60 + [20, 184]))
     if chance.random() < 0.02:
         return data[:6] + b"\xff" * (len(data) - 6)  # a gap marker, if it is short
-    if chance.random() < 0.06:  # another PTS_DTS_flags
+    if chance.random() < (0.03 if packets else 0.15):  # another PTS_DTS_flags
         return data[:7] + bytes([chance.choice([0, 0xC0])]) + data[8:]
     if chance.random() < 0.05:
         unit = 46 * chance.randrange(1, len(data) // 46)
@@ -177,7 +177,9 @@ def picture_pes(chance: Random, kind: int, pts: int, dts: int, is_first: bool, i
         head = bytes(changed)
     codes = [code for code in BEFORE_PICTURE[kind] if is_first and chance.random() < 0.8]
     next_codes = BEFORE_PICTURE[kind] if chance.random() < 0.3 else []
-    for code in [*codes, chance.choice(OF_PICTURE[kind]), *next_codes]:
+    if not is_odd:
+        codes.append(chance.choice(OF_PICTURE[kind]))
+    for code in codes + next_codes:
         head += b"\0" * chance.choice([2, 2, 3]) + bytes([1, code]) \
             + chance.randbytes(chance.choice([4, 8, 60, 200]))
     return head
@@ -199,8 +201,7 @@ class Programme:
         self.jumps = self.random_jumps(JUMPS, chance.choice([0, 0, 0, 1, 2, 5]))
         self.events: list[Event] = []
         self.streams: list[tuple[int, int, bool]] = []  # stream_type, PID, whether it is announced
-        videos, teletexts = chance.choice([0, 1, 1, 1, 2]), chance.choice([0, 1, 1, 1, 2, 3])
-        own = first + 15
+        own, videos, teletexts = first + 15, chance.choice([0, 1, 1, 1, 2]), chance.choice([0, 1, 1, 1, 2, 3])
         self.clock = chance.choice([own, own, FIRST_PCR, NO_PCR, first if videos else own])
         for at in range(min(videos, 1) if is_small else videos):
             self.add_video(first + at)
@@ -209,7 +210,7 @@ class Programme:
         if chance.random() < 0.3:
             self.add_other(first + 14)
         if self.clock == own:
-            self.each(chance.choice([1800, 3600, 3600, 9000, 20_000]), lambda _, time: (
+            self.each(chance.choice([600, 1800, 3600, 9000, 20_000]), lambda _, time: (
                 mux.send(self.clock, bytes(chance.choice([0, 0, 10, 177])), pcr=self.pcr_at(time))))
         self.events += [(at, self.splice) for at, _ in self.jumps]
         self.change_pmt()
@@ -248,7 +249,7 @@ class Programme:
         kind = chance.choice(list(OF_PICTURE))
         self.streams.append((kind, pid, False))
         step, group = chance.choice([3600, 3600, 3003, 1800, 40_000]), chance.choice([5, 12, 400])
-        late, odd = chance.choice([0, 0, 1, 2]), chance.choice([0, 0, 0.1])
+        late, odd = chance.choice([0, 0, 1, 2]), chance.choice([0, 0, 0, 0.1, 0.1, 1])
         sizes = chance.choice([(FULL,), (FULL,), (FULL, FULL, 5, 12, 100)])
         lead, flagged = chance.choice([0, 0, 18_000]), chance.choice([1, 1, 0.5, 0.3])
         jumps = self.random_jumps([3600, -3600, 180_000, 1], chance.choice([0, 0, 1]))
@@ -268,7 +269,7 @@ class Programme:
         if is_announced or chance.random() < 0.5:
             self.streams.append((6, pid, is_announced))
         delay = chance.choice([0, 9000, -20_000])
-        sizes = chance.choice([(FULL,), (FULL,), (FULL, 5, 12, 100)])
+        sizes = chance.choice([(FULL,), (FULL, 5, 12, 100)])
         same = random_teletext(chance, True)
 
         def send(_: int, time: int) -> None:
@@ -313,7 +314,7 @@ def random_units(chance: Random) -> list[Unit]:
     count, length = chance.choice([
         (1, 1_000_000), (1, 200_000), (1, 90_000), (1, 90_000), (1, 30_000), (1, 30_000),
         (2, 200_000), (2, 50_000), (3, 60_000),
-        chance.choice([(60, 9000), (80, 9000), (140, 4500)])])
+        chance.choice([(50, 9000), (80, 9000), (140, 4500)])])
     programmes = [Programme(chance, mux, number, length, count > 3)
                   for number in range(1, count + 1)]
 
