@@ -89,8 +89,6 @@ def random_descriptors(chance: Random, announces: bool) -> bytes:
     return made
 
 
-# Teletext
-
 def random_header(chance: Random, page: Page) -> bytes:
     numbers = [page[1] & 15, page[1] >> 4, chance.choice([0, 0, 3]), 8, chance.choice([0, 0, 2]),
                8, 1, 0]
@@ -147,9 +145,7 @@ def teletext_pes(chance: Random, pts: int, packets: list[bytes]) -> bytes:
     return data
 
 
-# Pictures
-
-# Start codes or NAL unit headers before a picture, and of it.
+# Start codes or NAL unit headers before a picture, and those of pictures.
 BEFORE_PICTURE = {MPEG_1: [0xB3, 0xB2, 0xB8], MPEG_2: [0xB3, 0xB5, 0xB2, 0xB8], H264: [0x09],
                   HEVC: [0x46, 0x40, 0x42, 0x44, 0x4E]}
 OF_PICTURE = {MPEG_1: [0], MPEG_2: [0], H264: [0x65], HEVC: [2 * unit for unit in (
@@ -201,7 +197,8 @@ class Programme:
         self.jumps = self.random_jumps(JUMPS, chance.choice([0, 0, 0, 1, 2, 5]))
         self.events: list[Event] = []
         self.streams: list[tuple[int, int, bool]] = []  # stream_type, PID, whether it is announced
-        own, videos, teletexts = first + 15, chance.choice([0, 1, 1, 1, 2]), chance.choice([0, 1, 1, 1, 2, 3])
+        videos, teletexts = chance.choice([0, 1, 1, 1, 2]), chance.choice([0, 1, 1, 1, 2, 3])
+        own = first + 15
         self.clock = chance.choice([own, own, FIRST_PCR, NO_PCR, first if videos else own])
         for at in range(min(videos, 1) if is_small else videos):
             self.add_video(first + at)
