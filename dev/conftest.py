@@ -1,6 +1,6 @@
-"""Let pytest run the tests of dev/check-tools. `--forked` gives each its own process, as there.
+"""Let pytest run the tests of dev/check-tools. With `--forked` each test has its own process.
 
-The program is the one that ./subttx runs, or the one that the variable SUBTTX names.
+The tests use the program of ./subttx, or the program that the variable SUBTTX names.
 """
 import os
 import sys

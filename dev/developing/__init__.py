@@ -1,27 +1,27 @@
-"""Modules that the scripts of dev/ share, one idea each.
+"""Modules that the scripts of dev/ share.
 
 proved        the facts about the built program in dist/PROVED
 debian        the Debian package
 pages         man pages and completion, generated from the help and one table of options
 crates        the crates and their dependencies
-prover        how a crate is proved
+prover        the toolchain's prover
 sizes         lines of the crates by kind
-definitions   the definitions of specs/, and those that a name or a clause depends on
+definitions   the definitions of specs/, and the dependencies of names and clauses
 sources       the names that a file of specs/, proofs/ or src/ defines
-graph         which of these names uses which, and which promises it serves
+graph         the uses of these names, and the promises that they serve
 signs         the symbols of antt and their meanings
 promises      the index of clauses in CLAUSES
 cited         names that documents cite
 shown         the command lines of documents, with the output shown there
 edits         mutants of the crates
 bugs          mutants of the tools: small mistakes, made in the syntax tree
-planting      runs the tests of a function with a mistake planted in it
-looks         how a report looks in a browser
+planting      tests of a function with a mistake planted in it
+looks         checks of reports in a browser
 compiled      the tools, compiled once for many test calls
-pes           writes and reads Teletext packets and their PES packets
-stl           writes blocks of subtitle files
-multiplex     writes a transport stream
-trial         a run in which something fails, and what has to happen
+pes           Teletext packets and their PES packets
+stl           blocks of subtitle files
+multiplex     transport streams
+trial         runs with a failing call, and their requirements
 trial_inputs  the commands of such runs, and their input files
 trial_memory  runs with little memory
 every_place   the second implementation; on purpose it shares only codes, times and layouts

@@ -43,8 +43,7 @@ class Definition:
         return [line for line in self.text if not line.lstrip().startswith("--")]
 
     def parts(self) -> list[str]:
-        """Return its type and its equations, or a record as a whole: each is a scope of bound
-        names."""
+        """Return the scopes of bound names: the type and each equation, or an entire record."""
         chunks: list[str] = []
         for line in self.code():
             if chunks and not (self.is_function and re.match(r"[^\s})]", line)):
@@ -176,7 +175,7 @@ class Library:
         return self.resolve(*file.names[name]) if name in file.names else None
 
     def list_uses(self, file: File, text: str, bound: set[str]) -> list[Meaning]:
-        """Return the meanings of the names in a text of a file, in order, without bound names."""
+        """Return the meanings of the names in a text of a file, in order, except bound names."""
         found = (self.resolve(source, name) if source else self.resolve_in(file, name)
                  for source, name in list_names(file, file.definitions, text, bound))
         return [meaning for meaning in found if meaning]
@@ -264,7 +263,7 @@ class Library:
         return used
 
     def sort_highest_first(self, name: str) -> list[Definition]:
-        """Return the definitions that a name depends on, each before those that it names.
+        """Return the definitions that a name depends on, each before its own dependencies.
 
         The highest crate comes first.
         """
@@ -285,8 +284,7 @@ class Library:
         return sorted(reversed(last_first), key=lambda definition: ranks[definition.file.crate])
 
     def list_reading(self, name: str) -> tuple[list[Definition], list[ExternalName]]:
-        """Return the definitions that a name depends on, lowest first, and what is outside, sorted.
-        """
+        """Return the definitions that a name depends on, lowest first, and the external names."""
         used = self.find_dependencies(name)
         needs = {definition: {meaning for meaning in names if isinstance(meaning, Definition)}
                  for definition, names in used.items() if isinstance(definition, Definition)}
@@ -294,7 +292,7 @@ class Library:
         return self.lowest_first(needs), outside
 
     def lowest_first(self, needs: dict[Definition, set[Definition]]) -> list[Definition]:
-        """Sort definitions so that each comes after those that it needs.
+        """Sort definitions so that each comes after its dependencies.
 
         Crates are kept together, and files if possible.
         """

@@ -22,7 +22,7 @@ def make_head(pid: int, begins: int, control: int) -> bytes:
 
 
 def make_section(table: int, number: int, body: bytes) -> bytes:
-    """Return a pointer field and a section: current, version 0, the only one of its table."""
+    """Return a pointer field and the only section of a table: current, version 0."""
     start = (0xB000 | len(body) + 9).to_bytes(2, "big") + number.to_bytes(2, "big") + b"\xc1\0\0"
     data = bytes([table]) + start + body
     return b"\0" + data + compute_crc(data).to_bytes(4, "big")

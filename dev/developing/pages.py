@@ -194,7 +194,7 @@ def make_tool_parts(text: str, name: str = "qc") -> dict[str, str]:
 
 
 def make_air_parts(text: str, help_texts: dict[str, str]) -> dict[str, str]:
-    """Return the parts of air's page, from its help text and those of its commands.
+    """Return the parts of air's page, from its help text and its commands' help texts.
 
     The options that it shares with qc are in qc's page.
     """
@@ -290,7 +290,7 @@ def find_column(record: Record, member: Member) -> str:
 
 
 def describe_member(member: Member) -> str:
-    """Return the description of a member, after that of its shape if this has no list."""
+    """Return the descriptions of a member's shape, if it has no list, and of the member."""
     shape = next((shape for shape in (member.shape, *member.shape.inner()) if shape.name), None)
     inner = find_record(member)
     of_shape = "" if shape is None or inner and needs_table(inner) else shape.meaning

@@ -1,4 +1,4 @@
-"""Find the tests that call a function, and whether one of them fails with a bug.
+"""Find the tests that call a function, and whether a test fails with a bug.
 
 The tests are loaded once in a copy of the repository; each run is a process forked from that one.
 """
@@ -121,7 +121,7 @@ class LoadedCopy:
                       for unit in runner.group_tests(runner.find_tests([]))}
 
     def reload(self) -> None:
-        """Load the tests, and what they import, again."""
+        """Load the tests and their imports again."""
         for name in list(sys.modules):
             if name.split(".")[0] in ("subtitles", "developing"):
                 del sys.modules[name]

@@ -54,7 +54,7 @@ class Node:
 
 
 class Source(File):
-    """A file of specs/, proofs/ or src/, and what it defines."""
+    """A file of specs/, proofs/ or src/, and its definitions."""
 
     def __init__(self, top: str, crate: str, path: str, module: str) -> None:
         super().__init__(crate, path, module)

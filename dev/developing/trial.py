@@ -1,4 +1,4 @@
-"""Run the program for dev/faults, and judge runs in which something fails."""
+"""Run the program for dev/faults, and judge runs with failing calls."""
 from __future__ import annotations
 
 import os

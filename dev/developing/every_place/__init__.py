@@ -1,5 +1,6 @@
-"""A second implementation of what the program prints, from the definitions, for
-dev/check-every-place.
+"""A second implementation of the program's output, from the definitions.
+
+dev/check-every-place compares the program with it.
 
 For `check --all`:
 

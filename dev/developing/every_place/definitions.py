@@ -30,7 +30,7 @@ class Transmission:
         self.frames: list[int] = []  # frames of the readable PES packets
         self.packets: list[Packet] = []
         self.headers: list[int] = []  # frames with a header of the page
-        # PES packets of one frame: the last one, if the frame has not ended; how many Teletext
+        # PES packets of one frame: the last packet, if the frame has not ended; how many Teletext
         # packets they have; whether the frame is the first one.
         self.sending: int | None = None
         self.count, self.is_first = 0, True

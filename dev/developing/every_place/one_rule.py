@@ -35,7 +35,7 @@ def make_packet(head: str, byte: int = 0x20) -> bytes:
 
 def make_header(c4: str = "D0", c5_c6: str = "D0", c7_c10: str = "02",
                 c11_c14: str = "15") -> bytes:
-    """Return a header of page 888 with these bytes of control bits, by default those of a subtitle.
+    """Return a header of page 888 with these bytes of control bits, by default for a subtitle.
     """
     return make_packet(f"15 15 D0 D0 15 {c4} 15 {c5_c6} {c7_c10} {c11_c14}")
 
@@ -86,7 +86,7 @@ def make_case(name: str, number: int, packets: str, tested_packet: bytes = b"",
 
 
 def make_pair_at_day_bound(name: str, *ticks: int) -> OneRule:
-    """Return a page without rows at two times, one of them just outside the day."""
+    """Return a page without rows at two times. One time is just outside the day."""
     pes = b"".join(make_pes_packet(one % CLOCK, PAGE) for one in ticks)
     return OneRule(name, 61, NONE, pes, "--every 1")
 

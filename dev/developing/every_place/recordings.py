@@ -78,7 +78,7 @@ def find_packets(data: bytes, size: int) -> Iterator[TransportPacket | Skipped]:
 # Intact packets of a PID
 
 class GoodPacket(NamedTuple):
-    """An intact packet, and how it follows the intact packet before it.
+    """An intact packet, and its relation to the intact packet before it.
 
     After a break packets may be missing; at an announced jump of the counter no packet is missing.
     """
@@ -96,7 +96,7 @@ class Stretch:
         self.has_repeat = self.has_jump = self.is_hurt = False
 
     def is_repeat(self, packet: TransportPacket) -> bool:
-        """Return whether a packet is the first duplicate (2.4.3.3) of the one before.
+        """Return whether a packet is the first duplicate (2.4.3.3) of the packet before it.
 
         A packet that announces a new jump is no duplicate.
         """

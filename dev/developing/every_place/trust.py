@@ -120,7 +120,7 @@ class TrustedFrames:
         return frame in self.ends and self.ends[frame].incomplete_since is None
 
     def find_report_place(self, last: int) -> int:
-        """Return the index of the event before which trust up to a frame is reported.
+        """Return the index of the event that follows the line about trusted frames up to `last`.
 
         This is the first event that makes the next frame unclean or concerns a later frame.
         """
