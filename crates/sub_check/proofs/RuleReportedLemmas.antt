@@ -87,7 +87,7 @@ frame_events_are_rule_faults g = record {
   going_back_matches_nothing = λ first_unfinished. refl;
   ends = λ f has_beginning none. refl;
   of_end = end_events_are_rule_faults;
-  rule_fault_is_proved = packet_rule_is_rule_fault;
+  of_rule = packet_rule_is_rule_fault;
   order_events_match_nothing = order_events_are_rule_faults g;
   header_events_match_nothing = header_events_are_rule_faults g;
 }
@@ -97,7 +97,7 @@ unread_events_are_rule_faults : (pes : ℕ) (u : UnreadReason) → ((f : PesFaul
     → is_not_rule_event (Reported (unread_fault pes (Some u))) ≡ false
 unread_events_are_rule_faults pes (BadPacket f) own =
     let fine = own f refl in
-    let source = fine.is_no_read_failure in
+    let source = fine.no_source in
     let sink = fine.no_sink in
     grind (arith, nat_tests)
 unread_events_are_rule_faults pes NoFrame own = refl

@@ -2,7 +2,7 @@
 use Rattle.std.proofs.Common.{◌∙◌, sym}
 use Rattle.std.proofs.lemmas.Bool.{true≢false}
 use Rattle.sub_io.proofs.ReportingLemmas.{Reports-one}
-use Rattle.sub_listing.proofs.printer.PrinterAudienceEvent.report.Goals as goal
+use Rattle.sub_listing.proofs.printer.PrinterReportSinkEvent.report.Goals as goal
 
 pub returns-clause-reported : goal.returns-clause-reported
 returns-clause-reported g c =
