@@ -67,9 +67,9 @@ asked = make_request(make_parser("").parse_args([*pair, *given]))
 none = make_request(make_parser("").parse_args(pair))
 help = make_parser("").format_help()
 print(json.dumps({
-    "help": help, "man page": pages.tool_parts(help)["options"],
-    "chapter": pages.chapter_parts()["options"],
-    "completion": pages.completion_parts("  check STL PES  does\\n", "", [help])["values"],
+    "help": help, "man page": pages.make_tool_parts(help)["options"],
+    "chapter": pages.make_chapter_parts()["options"],
+    "completion": pages.make_completion_parts("  check STL PES  does\\n", "", [help])["values"],
     "asked": REQUEST.made(asked), "left out": REQUEST.made(none), "call": call_arguments(asked),
     "again": make_qc_command(asked, CommandPaths("tools/qc", program)),
     "check": asked.check_arguments(),
