@@ -48,9 +48,9 @@ SUBTITLE = Record(
     "subtitle", "",
     Member("position", COUNT, "The position in the subtitle file, or in the part, from 1. A "
            "comment or user data has the position of the previous subtitle."),
-    Member("number", Integer(0, 65535), "SN."),
-    Member("begin", CODE_TIME, "TCI."),
-    Member("end", CODE_TIME, "TCO."))
+    Member("number", Integer(0, 65535), "The SN."),
+    Member("begin", CODE_TIME, "The TCI."),
+    Member("end", CODE_TIME, "The TCO."))
 
 CAUSE_NAME = named("cause_name", OneOf(*CAUSE_NAMES))
 CAUSE_MEMBERS = (
@@ -196,8 +196,8 @@ WARNING = Record(
     Member("kind", OneOf(
         "pts_behind", "pts_early", "pts_changed", "page", "type", "language", "option",
         "character_set", "repeat", "clock_jump", "pause", "blocks", "subtitles", "cut", "hidden"),
-           "pts_behind, pts_early, pts_changed (against the PCR); page, type, language, option "
-           "(of the PMT); character_set (X/28, M/29); repeat (interval); clock_jump; pause "
+           "The kind: pts_behind, pts_early, pts_changed (against the PCR); page, type, language, "
+           "option (of the PMT); character_set (X/28, M/29); repeat (interval); clock_jump; pause "
            "(frames without a PES packet); blocks, subtitles (TNB, TNS); cut (within a PES "
            "packet); hidden (part of a row, by some receivers)."),
     Member("line", Text(), "The warning as printed."),
@@ -211,18 +211,18 @@ CUE = Record(
     "cue", "",
     Member("part", PART),
     Member("position", Integer(1, MOST_NUMBER), "The position in the subtitle file, from 1."),
-    Member("number", Integer(0, 65535), "SN."),
+    Member("number", Integer(0, 65535), "The SN."),
     Member("recording_offset", Maybe(Text(r"[0-9]+:[0-9]{2}:[0-9]{2}")), "The TCI, "
            "counted from the recording's beginning, as H:MM:SS."),
-    Member("expected_in", CODE_TIME, "TCI."),
-    Member("expected_out", CODE_TIME, "TCO."),
+    Member("expected_in", CODE_TIME, "The TCI."),
+    Member("expected_out", CODE_TIME, "The TCO."),
     Member("actual_in", Maybe(TIME), "The first frame at whose end a receiver has the page, or "
            "another page in its place; null if there is none."),
     Member("actual_out", Maybe(TIME), "The first frame at whose end a receiver no longer has "
            "the page."),
     Member("delay_in", DELAY, "The number of frames by which the in-cue is late; negative if it is "
            "early."),
-    Member("delay_out", DELAY, "The same for the out-cue."),
+    Member("delay_out", DELAY, "The same number for the out-cue."),
     Member("expected_text", Maybe(Text()), "The subtitle's text, with a slash between rows; null "
            "if the subtitle is refused."),
     Member("decoded_text", Maybe(Text()), "The received text."),
@@ -234,7 +234,7 @@ CUE = Record(
 
 CHOICE = Record(
     "choice", "",
-    Member("part", Maybe(PART), "The part, from 1; null for all parts."),
+    Member("part", Maybe(PART), "It is null for all parts."),
     Member("option", OneOf(*CHOICES), "The option that sets this value, without dashes.",
            lambda choice: choice.option),
     Member("value", Maybe(Text()), "The chosen value; null if there is none."),
@@ -242,7 +242,7 @@ CHOICE = Record(
            "the page; for origin, cues; for pes, PES packets in the time of the subtitles; for "
            "pace, positions where a loss would take longer.",
            lambda choice: choice.match_count),
-    Member("total", Maybe(COUNT), "The number that was compared.",
+    Member("total", Maybe(COUNT), "The number that could match.",
            lambda choice: choice.total_count),
     Member("line", Text(), "The evidence as printed."))
 
@@ -368,7 +368,7 @@ LISTS = (
     Member("subtitles", Listed(CUE, MOST_SUBTITLES), "All subtitles, including refused subtitles. "
            "A fault between two subtitles belongs to neither.",
            lambda known: list_subtitle_rows(known.verdict)))
-OMITTED = Record("omitted", "The number of items that were left out of each list.", *(
+OMITTED = Record("omitted", "The number of items omitted from each list.", *(
     Member(one.name, COUNT) for one in LISTS))
 
 VERDICT = Record(
