@@ -25,7 +25,7 @@ IN_ROWS = os.path.join("developing", "signs.py")  # a table with one row a line
 SHARED = {"subtitles." + name for name in (
     "common.command_line", "common.program.TOP", "common.program.built_program", "common.times",
     "formats.layout", *("formats.stl." + name for name in (
-        "GSI", "LAST", "TEXT", "TTI", "USER_DATA")),
+        "GSI", "LAST_BLOCK", "TEXT", "TTI", "USER_DATA")),
     *("formats.teletext." + name for name in ("CODE_WORDS", "NUMBER", "Page", "START", "is_odd")))}
 
 

@@ -234,7 +234,8 @@ class Sentences(ProgrammeCase):
                  f"another subtitle's text at its time, received: \"{text}\" of subtitle {number} "
                  f"(SN {number + 49})")] and
                 found.result["cause_counts"]["another subtitle's text"] == 1 and
-                "1 subtitle: 1 another subtitle's text" in found.lines("causes of faults in "), causes)
+                "1 subtitle: 1 another subtitle's text" in found.lines("causes of faults in "),
+            causes)
 
     def test_reports_where_reading_stops(self) -> None:
         early = [(pts - 3000 * TICKS, some) for pts, some in self.sent[-1:]]
