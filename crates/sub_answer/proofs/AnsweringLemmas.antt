@@ -133,7 +133,7 @@ answer_of_check_files
           let are = rw heard at (checked file reported) in
           done-exactly drawing options file bytes number answer _ are
           (exactly-is_accepted_within drawing options file bytes answer loading
-          (λ p described_files_load. are.answer_is_checked_within p described_files_load bytes refl))
+          (λ p files_load. are.answer_is_checked_within p files_load bytes refl))
           other)
           (answer-fails number answer)
           (λ block memory line. (
