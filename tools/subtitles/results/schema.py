@@ -27,7 +27,7 @@ FIRST_FAULT, LAST_FAULT = 10, 79  # fault numbers
 
 CODE_TIME = named("code_time", Text(r"[0-9]{2,3}(:[0-9]{2,3}){3}"))
 DATE = named("date", Text(r"[0-9]{4}-[0-9]{2}-[0-9]{2}T[0-9]{2}:[0-9]{2}:[0-9]{2}Z"))
-PART = named("part_number", Integer(1, MOST_NUMBER), "The part, from 1.")
+PART = named("part_number", Integer(1, MOST_NUMBER))
 STATUS = named("status", OneOf(*sorted({*STATUSES.values()})), "The exit status.")
 WORD = named("word", OneOf(*STATUSES))
 
@@ -145,7 +145,7 @@ class PartResult(NamedTuple):
 
 JUDGED_PART = Record(
     "part", "",
-    Member("part", PART, of=lambda of: of.part.number),
+    Member("part", PART, "The number of the part, from 1.", lambda of: of.part.number),
     Member("stl", Text(), "The subtitle file, as typed.", lambda of: of.part.request.stl),
     Member("origin", Maybe(PTS), "The PTS of 00:00:00:00.", lambda of: of.part.origin),
     Member("from", Maybe(TIME), "The first judged time.", lambda of: of.part.time_codes()[0]),
@@ -234,7 +234,7 @@ CUE = Record(
 
 CHOICE = Record(
     "choice", "",
-    Member("part", Maybe(PART), "It is null for all parts."),
+    Member("part", Maybe(PART), "The part; null for all parts."),
     Member("option", OneOf(*CHOICES), "The option that sets this value, without dashes.",
            lambda choice: choice.option),
     Member("value", Maybe(Text()), "The chosen value; null if there is none."),
