@@ -107,7 +107,7 @@ FAULT = Record(
     Member("decoded", Maybe(CELL), "For fault 72, the decoded code; null if the row was "
            "not sent."),
     Member("last_time", Maybe(TIME),
-           "For faults 72, 73, 77 and 78, the last frame with the fault."),
+           "For faults 72, 73, 77, 78 and 79, the last frame with the fault."),
     Member("last_pes", Maybe(COUNT),
            "For faults 33 to 40, 45 and 61, the last skipped PES packet."),
     Member("meaning", Text(), "The manual's text about what is wrong."),
