@@ -159,7 +159,7 @@ JUDGED_PART = Record(
            lambda of: of.part.check_output.frames),
     Member("transmissions", Maybe(COUNT), "The number of page transmissions.",
            lambda of: of.part.check_output.transmissions),
-    Member("fault_count", COUNT, "The number of its faults.",
+    Member("fault_count", COUNT, "The number of faults in the part.",
            lambda of: of.part.check_output.fault_count),
     Member("pid", Maybe(PID), "The judged PID; null for PES packets.",
            lambda of: (of.part.stream or (None, None))[0]),
