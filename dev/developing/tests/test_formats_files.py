@@ -52,9 +52,9 @@ class Blocks(unittest.TestCase):
             ([(1, last, 0), (2, 0xFD, 0)], [(1, b"1")],
              "block 2 has the reserved extension block number FD"),
             ([(1, 0, 0), (2, last, 0)], [],
-             "block 2 is of another subtitle, but the one before has no last block"),
+             "block 2 begins another subtitle, but the one before is incomplete"),
             ([(1, 0, 0), (257, last, 0)], [],
-             "block 2 is of another subtitle, but the one before has no last block"),
+             "block 2 begins another subtitle, but the one before is incomplete"),
             ([(1, last, 0), (2, 0, 0)], [(1, b"1")], "the subtitle of block 2 has no last block"),
             ([(1, 0, 0), (9, user, 0)], [], "the subtitle of block 2 has no last block")]
         for row, wanted, words in of_rows:
@@ -79,7 +79,7 @@ class Blocks(unittest.TestCase):
                                                     "file"), (b"", "not an EBU STL "
                                                                                   "file"),
                             (good[:3] + b"STL24" + good[8:], "not an EBU STL file"),
-                            (good[:3] + b"STL30" + good[8:], "30 frames a second"),
+                            (good[:3] + b"STL30" + good[8:], "it has 30 frames a second"),
                             (good[:3] + b"STL25.02" + good[11:], "")):
             message = refusal(lambda: list(stl.read_stored_subtitles(data)), Damaged)
             self.assertTrue(message.startswith(words) and bool(message) == bool(words), message)
