@@ -441,8 +441,8 @@ def schema() -> Schema:
         "type": "array", "items": {"oneOf": [VERDICT.reference(), NO_PAIR.reference()]}}
     return {
         "$schema": "http://json-schema.org/draft-07/schema#",
-        "$comment": "What tools/qc --json writes; dev/make-pages makes this file. All members are "
-                    "always there; null stands for what does not apply or is unknown. Times are "
+        "$comment": "tools/qc --json writes this format; dev/make-pages makes this file. All "
+                    "members are always present; null means unknown or not applicable. Times are "
                     "HH:MM:SS:FF at 25 frames a second, in the time of the subtitle file.",
         "title": "A verdict on a subtitle file and its recording, or on a batch of them",
         "oneOf": [one.reference() for one in (VERDICT, BATCH, NO_PAIR)],
