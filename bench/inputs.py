@@ -42,7 +42,7 @@ from developing.pes import (  # noqa: E402
     encode_pts)
 from developing.stl import (  # noqa: E402
     DOUBLE_HEIGHT, END_BOX, START_BOX, box_line, make_gsi_block, make_subtitle_blocks)
-from subtitles.common.program import built_program  # noqa: E402
+from subtitles.common.program import find_built_program  # noqa: E402
 from subtitles.common.times import FRAMES_A_SECOND, FRAMES_OF_A_DAY, TICKS  # noqa: E402
 from subtitles.formats.stl import NEW_LINE, TTI  # noqa: E402
 from subtitles.formats.teletext import CODE_WORDS, START  # noqa: E402
@@ -262,7 +262,7 @@ def main() -> None:
         sys.exit(__doc__)
     if not SHOWN < int(sys.argv[2]) <= FRAMES_OF_A_DAY:
         sys.exit(f"inputs.py: COUNT is {SHOWN + 1} to {FRAMES_OF_A_DAY}")
-    make(built_program(), sys.argv[1], int(sys.argv[2]), sys.argv[3], sys.argv[4])
+    make(find_built_program(), sys.argv[1], int(sys.argv[2]), sys.argv[3], sys.argv[4])
 
 
 if __name__ == "__main__":

@@ -9,14 +9,14 @@ sys.dont_write_bytecode = True
 sys.path.insert(0, os.path.dirname(os.path.realpath(__file__)))
 from developing.compiled import use_compiled_tools  # noqa: E402
 from developing.tests.bench import BENCH  # noqa: E402
-from subtitles.common.program import built_program  # noqa: E402
+from subtitles.common.program import find_built_program  # noqa: E402
 
 COMPILED = use_compiled_tools()
 
 
 def pytest_configure() -> None:
     """Prepare the tests in the same way as dev/check-tools."""
-    BENCH.chosen = os.path.realpath(os.environ.get("SUBTTX") or built_program(None))
+    BENCH.chosen = os.path.realpath(os.environ.get("SUBTTX") or find_built_program(None))
     COMPILED.__enter__()
     BENCH.make_top()
 

@@ -9,8 +9,8 @@ import shutil
 import subprocess
 
 from subtitles.common.command_line import Stop
-from subtitles.common.files import naming
-from subtitles.common.program import PAGES, copy, documents, install, link, write
+from subtitles.common.files import name_errors
+from subtitles.common.program import PAGES, copy, list_documents, install, link, write
 
 NAME = "subttx"
 MACHINE = "amd64"
@@ -68,7 +68,7 @@ def add_documents(root: str, version: str, proved: str, date: str) -> None:
     the files that Debian requires.
     """
     folder = os.path.join(root, "usr", "share", "doc", NAME)
-    for name in sorted({document.partition(os.sep)[0] for document in documents()}):
+    for name in sorted({document.partition(os.sep)[0] for document in list_documents()}):
         link(os.path.join("..", "..", "..", "lib", NAME, name), os.path.join(folder, name))
     copy(proved, os.path.join(folder, "PROVED"))
     write(os.path.join(folder, "copyright"), COPYRIGHT.format(summary=SUMMARY))
@@ -126,7 +126,7 @@ def make_package(program: str, proved: str, version: str, work: str, path: str, 
                           stderr=subprocess.PIPE, encoding="utf-8", errors="replace", check=False)
     if done.returncode:
         raise Stop(f"dpkg-deb failed: {done.stderr.strip().splitlines()[-1:]}")
-    with naming(path):
+    with name_errors(path):
         shutil.copyfile(made, path + ".new")
         os.replace(path + ".new", path)
 

@@ -1,7 +1,7 @@
 """Make a transport stream of one programme with Teletext (ISO/IEC 13818-1)."""
 from __future__ import annotations
 
-from subtitles.common.times import wrapped
+from subtitles.common.times import wrap_pts
 from subtitles.formats.teletext import Page
 
 SYNC, PACKET, BEGINS, PAYLOAD = 0x47, 188, 0x40, 0x10
@@ -73,12 +73,12 @@ class Multiplex:
 
     def add_clock(self, pts: int) -> None:
         """Add a PCR each tenth of a second, up to a tenth of a second before the PTS."""
-        end = wrapped(pts - TENTH)
-        if self.base is None or wrapped(end - self.base) > LONG:
-            self.base = wrapped(end - TENTH)
-        length = wrapped(end - self.base)
+        end = wrap_pts(pts - TENTH)
+        if self.base is None or wrap_pts(end - self.base) > LONG:
+            self.base = wrap_pts(end - TENTH)
+        length = wrap_pts(end - self.base)
         for at in [*range(TENTH, length, TENTH), *([length] if length else [])]:
-            bits = wrapped(self.base + at) << 15 | 0x3F << 9
+            bits = wrap_pts(self.base + at) << 15 | 0x3F << 9
             self.parts += [self.clock_head, bits.to_bytes(6, "big"), self.clock_rest]
             self.size += PACKET
         self.base = end

@@ -3,7 +3,7 @@ from __future__ import annotations
 
 from typing import Callable, NamedTuple
 
-from subtitles.common.times import ticks_between, wrapped
+from subtitles.common.times import ticks_between, wrap_pts
 from .packets import Packet
 
 SECOND, TENTH = 90_000, 9_000  # ticks
@@ -25,7 +25,7 @@ class Seconds:
         self.last: int | None = None
 
     def is_next(self, time: int) -> bool:
-        is_next = self.last is None or wrapped(time - self.last) >= SECOND
+        is_next = self.last is None or wrap_pts(time - self.last) >= SECOND
         self.last = time if is_next else self.last
         return is_next
 

@@ -12,7 +12,7 @@ from developing.every_place.streams import (
     make_packet_without_payload, make_random_bytes)
 from developing.pes import (
     encode_pts, encode_triplet, make_packet as teletext_packet, make_pes_packet)
-from subtitles.common.times import CLOCK, wrapped
+from subtitles.common.times import CLOCK, wrap_pts
 from subtitles.formats.teletext import START, Page, page_name
 from .tables import cached_crc
 
@@ -133,7 +133,7 @@ def enhancement(chance: Random, magazine: int, number: int) -> bytes:
 
 def teletext_pes(chance: Random, pts: int, packets: list[bytes]) -> bytes:
     """Return a PES packet, sometimes with a fault."""
-    data = make_pes_packet(wrapped(pts), packets) + bytes(chance.choice([0] * 60 + [20, 184]))
+    data = make_pes_packet(wrap_pts(pts), packets) + bytes(chance.choice([0] * 60 + [20, 184]))
     if chance.random() < 0.02:
         return data[:6] + b"\xff" * (len(data) - 6)  # a gap marker, if it is short
     if chance.random() < (0.03 if packets else 0.15):  # another PTS_DTS_flags
@@ -154,7 +154,7 @@ OF_PICTURE = {MPEG_1: [0], MPEG_2: [0], H264: [0x65], HEVC: [2 * unit for unit i
 
 def time_bytes(prefix: int, ticks: int) -> bytes:
     """Encode a PTS or DTS after its four bits."""
-    data = encode_pts(wrapped(ticks))
+    data = encode_pts(wrap_pts(ticks))
     return bytes([data[0] & 0x0F | prefix << 4]) + data[1:]
 
 
@@ -239,7 +239,7 @@ class Programme:
                                         if at <= time)
 
     def pcr_at(self, time: int) -> int:
-        return wrapped(self.ticks(time) - 9000)
+        return wrap_pts(self.ticks(time) - 9000)
 
     def add_video(self, pid: int) -> None:
         chance, mux = self.chance, self.mux

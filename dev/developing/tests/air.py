@@ -73,7 +73,7 @@ class Air(Case):
         super().setUp()
         for name in ("segments", "out"):
             os.mkdir(self.path(name))
-        for module, name in ((judge, "say"), (judge, "write_state"), (os, "fsync")):
+        for module, name in ((judge, "print_stdout"), (judge, "write_state"), (os, "fsync")):
             patch = mock.patch.object(module, name)  # a test waits for no disk, and prints nothing
             patch.start()
             self.addCleanup(patch.stop)

@@ -22,11 +22,11 @@ import unittest
 from typing import Any, Callable, Mapping, NamedTuple, NoReturn, Sequence, Tuple
 
 from developing import DEV, TOOLS
-from subtitles.common.program import TOP, built_program
+from subtitles.common.program import TOP, find_built_program
 from .failures import Mismatch, calling_frame, comparison, explained, lines_of, place_of, shortened
 
 EXAMPLES = os.path.join(TOP, "examples")
-MOST_OF_NAME = 160  # characters of a check's name in a failure
+MAX_OF_NAME = 160  # characters of a check's name in a failure
 SECONDS = 600  # time limit of a call or a wait, also on a busy machine
 
 
@@ -57,7 +57,7 @@ class Bench:
     def program(self) -> str:
         """Return the path of the program under test; the default is the one that ./subttx runs."""
         if self.chosen is None:
-            self.chosen = os.path.realpath(built_program(None))
+            self.chosen = os.path.realpath(find_built_program(None))
         return self.chosen
 
     def make_top(self) -> str:
@@ -96,7 +96,7 @@ class Case(unittest.TestCase):
         with self.subTest(name):
             if not is_right:
                 frame = calling_frame()
-                parts = [f"{name[:MOST_OF_NAME]}\n  {place_of(frame)}", explained(frame)]
+                parts = [f"{name[:MAX_OF_NAME]}\n  {place_of(frame)}", explained(frame)]
                 parts += [f"  found:    {shortened(lines_of(told))}"] * (told != "")
                 raise Mismatch("\n".join(filter(None, parts)))
         return bool(is_right)
@@ -105,7 +105,7 @@ class Case(unittest.TestCase):
         """Compare a value with its expected value, and continue."""
         with self.subTest(name):
             if found != expected:
-                raise Mismatch(f"{name[:MOST_OF_NAME]}\n  {place_of(calling_frame())}\n"
+                raise Mismatch(f"{name[:MAX_OF_NAME]}\n  {place_of(calling_frame())}\n"
                                f"{comparison(found, expected)}")
         return found == expected
 

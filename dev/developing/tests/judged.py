@@ -11,7 +11,7 @@ from subtitles.cli.main import make_parser
 from subtitles.cli.measure import SilentPrinter
 from subtitles.cli.single import (
     OutputFiles, PairOptions, claim_pair, judge_pair, new_verdict, report_pair, stamp_inputs)
-from subtitles.common.program import MadeWith
+from subtitles.common.program import ProgramInfo
 from subtitles.judging.pair import PairJudge
 from subtitles.judging.status import decide
 from subtitles.judging.verdict import Verdict
@@ -102,7 +102,7 @@ def judge_files_with(program: str, *words: str, recorder: LineRecorder | None = 
         pair = PairJudge(verdict, command_paths, names, listener, True)
         judge_pair(pair, files)
         report_pair(verdict, recorder, files)
-        result = json.loads("".join(write_result(verdict, MadeWith("1", "0" * 64, None))))
+        result = json.loads("".join(write_result(verdict, ProgramInfo("1", "0" * 64, None))))
         listed = [line for part in verdict.parts for line in part.check_output.read_lines()]
         # For a pipe, the stored copy is the recording.
         known_files = {request.stl, request.recording, os.devnull}

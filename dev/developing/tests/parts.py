@@ -9,8 +9,8 @@ from typing import Any, Sequence
 
 from subtitles.cli.main import main
 from subtitles.clock.start import Clock, GIVEN, TimedPart
-from subtitles.common.command_line import Words, ended
-from subtitles.common.markup import Value, joined
+from subtitles.common.command_line import ToolParser, run_main
+from subtitles.common.markup import Value, join_markup
 from subtitles.common.program import TOP
 from subtitles.formats.listing import FaultLine, Meaning, parse_fault_line
 from subtitles.formats.teletext import Page
@@ -86,7 +86,7 @@ def request_for(stl: str, recording: str | None, *words: str) -> Request:
 
 def default_options(*words: str) -> argparse.Namespace:
     """Return the parsed options of a command line."""
-    parser = Words("")
+    parser = ToolParser("")
     add_options(parser)
     return read_options(parser, words, {}, {})
 
@@ -99,7 +99,7 @@ def call_arguments(request: Request) -> list[str]:
 
 def run_qc(words: Sequence[str]) -> int:
     """Run tools/qc in this process; return its status."""
-    return ended(lambda line: main("", os.path.join(TOP, "tools", "qc"), line), words)
+    return run_main(lambda line: main("", os.path.join(TOP, "tools", "qc"), line), words)
 
 
 def survey_packets(case: Case, data: bytes, page: Page = PAGE) -> Packets:
@@ -114,7 +114,7 @@ def decode_packets(case: Case, data: bytes, origin: int = 0, within: int = 0) ->
 
 def markup_text(*values: Value) -> str:
     """Return values as the HTML text of a page."""
-    return joined(values).source
+    return join_markup(values).source
 
 
 def shell_script(lines: list[str], status: int) -> str:

@@ -5,7 +5,7 @@ from typing import Callable, Collection, Iterable, Iterator, Mapping, NamedTuple
 
 from developing.multiplex import ADAPTATION_ALONE, BEGINS, PACKET, PAYLOAD, make_head, make_section
 from developing.pes import encode_pts, decode_pts
-from subtitles.common.times import CLOCK, TICKS, ticks_between, wrapped
+from subtitles.common.times import CLOCK, TICKS, ticks_between, wrap_pts
 from subtitles.stream.gaps import SECOND
 from .transmissions import packets
 
@@ -203,7 +203,7 @@ def multiplex_programmes(programmes: Sequence[Programme], frames: int) -> Maker:
             maker.put_pcr(now - AHEAD)
             maker.put(one.video, video_packet(now + later, mpeg_2_picture()), frame in one.flagged)
             for pid, pes in rest.items():
-                while pes and ticks_between(decode_pts(pes[0]), wrapped(now)) >= 0:
+                while pes and ticks_between(decode_pts(pes[0]), wrap_pts(now)) >= 0:
                     maker.put(pid, pes.pop(0))
     return maker
 
@@ -224,7 +224,7 @@ def multiplex_frames(pes: list[bytes], begin: int, count: int, rounds: int = 66,
         if frame % 12 == 0:
             maker.put_tables()
         maker.put_pcr(now - AHEAD)
-        while at < len(pes) and ticks_between(decode_pts(pes[at]), wrapped(now)) >= 0:
+        while at < len(pes) and ticks_between(decode_pts(pes[at]), wrap_pts(now)) >= 0:
             maker.put(TELETEXT_PID, pes[at])
             at += 1
         yield b"".join([*maker.taken(), filler])
@@ -263,7 +263,7 @@ def stream_of(pes: list[bytes], begin: int, end: int, rate: int = 200, pid: int 
             clock += TICKS
             maker.put_pcr(now - AHEAD)
             made += maker.taken_of(VIDEO_PID)
-        while (pts := due[at]) is not None and ticks_between(pts, wrapped(now)) >= 0:
+        while (pts := due[at]) is not None and ticks_between(pts, wrap_pts(now)) >= 0:
             maker.put(pid, pes[at])
             made += maker.taken_of(pid)
             at += 1

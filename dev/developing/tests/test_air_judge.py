@@ -12,7 +12,7 @@ from subtitles.air import judge as judging
 from subtitles.air.check import Outcome
 from subtitles.air.segments import Segment, segment_name, segments_between
 from subtitles.air.state import Monitor
-from subtitles.common.files import result_file
+from subtitles.common.files import open_result
 from .air import Air, DAY, FakeChecker, MARGIN, Sent, outcome
 from .bench import example_bytes
 from .transmissions import write_subtitle_file
@@ -184,9 +184,9 @@ class Judged(Air):
             full[0] -= 1
             if full[0] >= 0:
                 raise OSError(28, "No space left on device")
-            return result_file(path, is_stored)
+            return open_result(path, is_stored)
 
-        with mock.patch.object(judging, "result_file", write):
+        with mock.patch.object(judging, "open_result", write):
             self.run_judge(FakeChecker({NAME: Sent(600, 660)}), 900)
         self.must("it was tried again", full[0] < 0, full)
         self.check("in the end", self.verdicts(), {NAME: "relative"})
@@ -275,9 +275,9 @@ class Judged(Air):
 
         def write(path: str, is_stored: bool) -> contextlib.AbstractContextManager[BinaryIO]:
             written.append(f"{os.path.splitext(path)[1]} {is_stored}")
-            return result_file(path, is_stored)
+            return open_result(path, is_stored)
 
-        with mock.patch.object(judging, "result_file", write):
+        with mock.patch.object(judging, "open_result", write):
             self.run_judge(checker, 700)
         self.check("written and stored", written, [".html True", ".txt True", ".json True"])
 

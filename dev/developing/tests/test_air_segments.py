@@ -197,7 +197,7 @@ class Recorded(Air):
 
     def test_keeps_the_order_when_the_clock_is_set(self) -> None:
         one = self.recorder(kept=10_000)
-        with mock.patch.object(recorder, "tell", lambda _: None):
+        with mock.patch.object(recorder, "print_stderr", lambda _: None):
             for number, at in enumerate((0, 5, -3600, -3595, -3590, 3600, 3605, 20)):
                 self.now = DAY + at
                 one.take(b"%d" % number)
@@ -234,7 +234,7 @@ class Recorded(Air):
 
         one = self.recorder()
         with mock.patch.object(os, "write", write), \
-                mock.patch.object(recorder, "tell", lambda _: None):
+                mock.patch.object(recorder, "print_stderr", lambda _: None):
             room[0] = 12
             one.take(b"abcd")
             self.check("the oldest made room", self.contents(), [(0.0, b"abcd")])

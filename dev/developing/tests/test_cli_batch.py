@@ -21,7 +21,7 @@ from subtitles.cli.collection import format_progress
 from subtitles.cli.single import PairOptions
 from subtitles.common import files
 from subtitles.common.command_line import Stop
-from subtitles.common.program import about_program
+from subtitles.common.program import describe_program
 from subtitles.judging.status import RELATIVE, STATUSES, WAIVED
 from subtitles.request.commands import CommandPaths
 from subtitles.request.lines import (
@@ -82,7 +82,7 @@ class Lists(Case):
             self.must(item.name, item.request is None and {"one.stl", self.path("one.ts")} <=
                       {*item.files} and ("two.stl" in item.files) == (item.name == "line 2"),
                       item.files)
-            with self.assertRaises(files.IsInput):
+            with self.assertRaises(files.OutputIsInput):
                 collect_inputs([item]).refuse(self.path("one.ts"), True)
 
     def test_reads_one_line_as_in_the_complete_list(self) -> None:
@@ -104,7 +104,8 @@ class Lists(Case):
             read_line_pair(path, 8, default_options())
         self.must("files of one pair", [call[0][0] for call in looked.call_args_list] == [
             "two.stl", "one.ts"], looked.call_args_list)
-        with mock.patch.object(files, "identities", side_effect=files.identities) as looked:
+        with mock.patch.object(files, "find_identities",
+                               side_effect=files.find_identities) as looked:
             inputs = files.Inputs(*words)
             inputs.refuse(self.path("none"), True)
             self.must("nothing is there", looked.call_count == 1, looked.call_args_list)
@@ -461,7 +462,7 @@ class ForkedPairs(Case):
         items = [self.item("accepted", name, "--origin", "0") for name in (
             "one", "two", "three", "four", "six", "seven", "eight")]
         items.append(BatchItem("five", None, "no pair"))
-        program = about_program(self.command_paths.program_path)
+        program = describe_program(self.command_paths.program_path)
         mores: list[dict[str, Any]] = [
             {}, {}, {"program": {**PROGRAM.made(program), "sha256": "1" * 64}}, {}, {"format": 2},
             {"files_at_start": None}, {"request": None}]

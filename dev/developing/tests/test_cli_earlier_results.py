@@ -17,12 +17,12 @@ from subtitles.cli import batch, collection
 from subtitles.cli.batch import FolderWatch, PairRunner, refuse_folders
 from subtitles.cli.single import claim_pair
 from subtitles.common.command_line import Lateness, Stop
-from subtitles.common.program import MadeWith, about_program
+from subtitles.common.program import ProgramInfo, describe_program
 from subtitles.judging.status import STATUSES
 from subtitles.request.lines import BatchItem
 from subtitles.request.request import Profile
 from subtitles.results.files import (
-    MOST_VALUES, Row, can_replace, describe_inputs, is_current, read_call_result, read_result,
+    MAX_VALUES, Row, can_replace, describe_inputs, is_current, read_call_result, read_result,
     read_results, make_row, make_unjudged)
 from subtitles.results import schema
 from subtitles.results.schema import FORMAT, REQUEST
@@ -30,7 +30,7 @@ from .bench import Case, example, example_bytes
 from .parts import request_for, default_options
 from .results import FAULT, make_result, row
 
-PROGRAM = MadeWith("1", "ab" * 32, None)
+PROGRAM = ProgramInfo("1", "ab" * 32, None)
 # For each option a value that differs from that of the earlier call.
 OTHERS: dict[str, object] = {
     "page": (0, 0x87), "every": 25, "option": "german", "origin": 5, "is_complete": False,
@@ -90,7 +90,7 @@ class CurrentResults(Case):
         sums = set()
         for data in (b"one", b"two"):  # same size and time
             os.utime(self.write("program", data), (0, 0))
-            sums.add(about_program(self.path("program")).sha256)
+            sums.add(describe_program(self.path("program")).sha256)
         self.must("written anew", len(sums) == 2)
 
     def test_a_result_is_current_only_for_unchanged_files(self) -> None:
@@ -112,12 +112,12 @@ class CurrentResults(Case):
 
 class StoredResults(Case):
     def test_refuses_a_result_with_too_many_values(self) -> None:
-        for data, arguments in ((b"0," * MOST_VALUES, "has more than 2,000,000 values"),
-                            (b"[]," * (MOST_VALUES // 2), "has more than 2,000,000 values"),
-                            (b"{}," * (MOST_VALUES // 2), "has more than 2,000,000 values"),
-                            (b'0],"b":0,' + b'"b":0,' * MOST_VALUES + b'"c":[',
-                             "has more than 2,000,000 values"),
-                            (b"0," * 1000, "")):
+        for data, arguments in ((b"0," * MAX_VALUES, "has more than 2,000,000 values"),
+                                (b"[]," * (MAX_VALUES // 2), "has more than 2,000,000 values"),
+                                (b"{}," * (MAX_VALUES // 2), "has more than 2,000,000 values"),
+                                (b'0],"b":0,' + b'"b":0,' * MAX_VALUES + b'"c":[',
+                                 "has more than 2,000,000 values"),
+                                (b"0," * 1000, "")):
             path = self.write("many.json", b'{"verdict":0,"format":%d,"a":[' % FORMAT +
                               data + b"0]}")
             with mock.patch("json.loads", side_effect=ValueError("loaded")):
@@ -279,7 +279,7 @@ class WatchedFolders(Case):
         results.write_page(is_last=True)
         results.next_page = 0.0
         with contextlib.redirect_stdout(out), contextlib.redirect_stderr(io.StringIO()) as errors, \
-                mock.patch.object(collection, "result_file", side_effect=OSError(28, "full")):
+                mock.patch.object(collection, "open_result", side_effect=OSError(28, "full")):
             # it continues if the page can't be written
             results.add(row("c", "accepted", "accepted 5"))
         self.must("told", "full" in errors.getvalue() and "c  accepted" in out.getvalue())
@@ -338,7 +338,7 @@ class WatchedFolders(Case):
     def test_judges_only_pairs_without_a_current_result(self) -> None:
         for name in ("in", "out"):
             os.mkdir(self.path(name))
-        program = about_program(self.bench.program)
+        program = describe_program(self.bench.program)
         for name in ("a", "b", "c"):
             request = request_for(self.write(f"in/{name}.stl", b"1"),
                                 self.write(f"in/{name}.ts", b"1"),
@@ -409,7 +409,7 @@ class WatchedFolders(Case):
             self.path("in/a.ts")
         self.write("out/a.json", json.dumps(make_result(
             request=REQUEST.made(request), files_at_start=describe_inputs(request),
-            program=schema.PROGRAM.made(about_program(self.bench.program)))).encode())
+            program=schema.PROGRAM.made(describe_program(self.bench.program)))).encode())
         before = os.stat(path).st_mtime_ns
 
         def change(look: int) -> None:

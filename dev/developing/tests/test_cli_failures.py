@@ -282,7 +282,7 @@ class Bugs(CallCase):
                       "judging.check.CheckOutput.read_line", "cli.main.make_parser",
                       "cli.single.make_request",
                       "cli.single.CommandPaths", "cli.single.describe_inputs",
-                      "results.files.write_list", "cli.single.about_program"):
+                      "results.files.write_list", "cli.single.describe_program"):
             with self.subTest(place):
                 self.check_failing(place, ValueError("odd"))
 

@@ -16,7 +16,8 @@ import xml.etree.ElementTree as tree
 from typing import Any
 from urllib.parse import unquote
 
-from subtitles.common.program import PAGES, TOP, chosen, documents, read, without_dead_links
+from subtitles.common.program import (
+    PAGES, TOP, find_program, list_documents, read, remove_dead_links)
 from ..compiled import make_plain_environment
 from ..proved import find_crates_without_line, parse_proved
 from .bench import Case, Done, SECONDS, example, example_bytes, tool_path
@@ -57,7 +58,7 @@ def check_installation(case: Case, prefix: str) -> None:
 
 def proof_file(case: Case) -> str:
     """Return the path of PROVED; skip the test if the gate has not proved the program."""
-    program, _ = chosen(TOP)
+    program, _ = find_program(TOP)
     proved = os.path.join(os.path.dirname(program), "PROVED")
     if not program or find_crates_without_line(parse_proved(read(proved))):
         case.skipTest("dev/dist, since the gate has not proved the program here")
@@ -133,7 +134,7 @@ class Installation(Case):
         self.tool("install", "-p", self.bench.program, "prefix")
         home = self.path("prefix/lib/subttx")
         paths = [path for path in glob.glob(os.path.join(home, "**", "*.md"), recursive=True)
-                 if os.path.relpath(path, home) in documents()]
+                 if os.path.relpath(path, home) in list_documents()]
         self.must("documents", len(paths) > 20, paths)
         count = 0
         for path in paths:
@@ -148,7 +149,7 @@ class Installation(Case):
                 os.path.exists(os.path.join(home, "tools", name)) for name in called
                 if name not in ("install", "dist")), called)
         self.must("links", count > 40, count)
-        text = without_dead_links("![a](x.png) [`b`](y.md#z) [c](http://d) [e](f.md)", self.folder)
+        text = remove_dead_links("![a](x.png) [`b`](y.md#z) [c](http://d) [e](f.md)", self.folder)
         self.must("their words", text == "a `b` [c](http://d) e", text)
 
     def test_completes_commands_and_options(self) -> None:

@@ -13,9 +13,9 @@ from collections import Counter
 
 from developing.pes import make_packet
 from subtitles.cli.measure import (
-    Delays, MOST_EXAMPLES, measure_delays, measure_recording, named_lines, propose_keeping,
+    Delays, MAX_EXAMPLES, measure_delays, measure_recording, named_lines, propose_keeping,
     propose_lateness, propose_option, remove_unusual)
-from subtitles.common.command_line import MOST_WITHIN
+from subtitles.common.command_line import MAX_WITHIN
 from subtitles.common.times import TICKS
 from subtitles.formats.stl import Subtitle
 from subtitles.formats.teletext import BY_WORD
@@ -102,7 +102,7 @@ class Cues(Case):
                                 word for word in words if " " not in word], found)
 
     def test_proposes_the_longest_delay_of_all_recordings(self) -> None:
-        most = MOST_WITHIN
+        most = MAX_WITHIN
         rows: list[tuple[list[int], list[int], str]] = [
             ([0, 0], [0], ""), ([0, 2], [1], "--within 2|--late 0:1,2:1/1:1"),
             ([0], [3], "--within 3|--late 0:1/3:1"), ([2], [], ""), ([], [2], ""),
@@ -130,12 +130,12 @@ class Cues(Case):
             found = [*propose_lateness(delays, [], off)]
             self.check(f"{delays}, {off} off", "|".join(filter(None, (
                 finding.text for finding in found))), wanted)
-        names = [f"n{at}" for at in range(MOST_EXAMPLES + 2)]
-        for count, end in ((0, None), (MOST_EXAMPLES, ""), (MOST_EXAMPLES + 1, ", and 1 more"),
-                           (MOST_EXAMPLES + 2, ", and 2 more")):
+        names = [f"n{at}" for at in range(MAX_EXAMPLES + 2)]
+        for count, end in ((0, None), (MAX_EXAMPLES, ""), (MAX_EXAMPLES + 1, ", and 1 more"),
+                           (MAX_EXAMPLES + 2, ", and 2 more")):
             self.must(f"{count} names", named_lines("what", names[:count]) == (
                 [] if end is None
-                else [f"what: {'; '.join(names[:min(count, MOST_EXAMPLES)])}{end}"]))
+                else [f"what: {'; '.join(names[:min(count, MAX_EXAMPLES)])}{end}"]))
         for headers, keeping, is_alone in itertools.product((9, 20, 21), (0, 1), (False, True)):
             found_words = propose_keeping(headers, keeping, is_alone).text
             self.must(f"{keeping} of {headers}, {is_alone}", bool(found_words) == (

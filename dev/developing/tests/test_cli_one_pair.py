@@ -18,7 +18,7 @@ from subtitles.cli.single import (
     pair_title, print_verdict, refuse_outputs, remove_results, report_pair)
 from subtitles.clock.start import (
     Clock, ESTIMATED_LATER_NOTE, ESTIMATED_NOTE, GIVEN, RECORDING, TimedPart)
-from subtitles.common.command_line import Stop, Unanswered
+from subtitles.common.command_line import Stop, ProgramInterrupted
 from subtitles.common.markup import HEAD
 from subtitles.formats.listing import NamedFault
 from subtitles.judging.check import CheckOutput
@@ -350,7 +350,7 @@ class OutputFilesOfPair(Case):
             files.write()
             self.must("before", json.loads(self.read("one.json"))["status"] == 1)
             with contextlib.redirect_stderr(io.StringIO()), mock.patch.object(
-                    single, "ignore_signals"), mock.patch.object(single, "silence"), \
+                    single, "ignore_signals"), mock.patch.object(single, "discard_output"), \
                     mock.patch.object(heard, "print_line", side_effect=[reason, *[None] * 9]):
                 report_pair(verdict, heard, files)
             self.must(f"{reason!r}", json.loads(self.read("one.json"))["status"] == 2 and
@@ -365,7 +365,7 @@ class OutputFilesOfPair(Case):
         rows: list[tuple[BaseException | None, bool]] = [
             (None, True), (Unclear("a", "b"), True), (IncompleteAnswer("a"), False),
             (Stop("a"), True),
-            (Unanswered("a"), False), (OSError(5, "a"), False), (MemoryError(), False),
+            (ProgramInterrupted("a"), False), (OSError(5, "a"), False), (MemoryError(), False),
             (KeyError("a"), True), (RecursionError(), True), (KeyboardInterrupt(), False)]
         for reason, is_final in rows:
             verdict = self.verdict()

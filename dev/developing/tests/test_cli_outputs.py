@@ -19,7 +19,7 @@ from xml.etree import ElementTree
 from subtitles.cli import collection
 from subtitles.cli.single import now
 from subtitles.clock.start import GIVEN
-from subtitles.common.command_line import shown
+from subtitles.common.command_line import escape_hidden
 from subtitles.common.files import SummedFile
 from subtitles.judging.verdict import Gap
 from subtitles.results.files import (
@@ -221,7 +221,7 @@ class Members(unittest.TestCase):
         for code, letter, words in (("41", "A", "41 A"), ("00", "", "00")):
             self.assertEqual(format_cell({"code": code, "character": letter}), words,
                              (code, letter))
-        self.assertEqual(table_value("a\nb\x07"), "a\n" + shown("b\x07"))
+        self.assertEqual(table_value("a\nb\x07"), "a\n" + escape_hidden("b\x07"))
         self.assertEqual((table_value(5), table_value(-5), table_value(None)), (5, -5, None))
         for text in ("=1+1", "+1", "-1", "@A1", "=a\nb"):
             self.assertEqual(table_value(text), f"'{text}", text)

@@ -11,7 +11,7 @@ from unittest import mock
 from subtitles.cli.single import claim_folder
 from subtitles.common.command_line import counted
 from subtitles.common.program import TOP
-from subtitles.formats.stl import MOST_STL
+from subtitles.formats.stl import MAX_STL
 from subtitles.recording import recording
 from .bench import Case, Done, SECONDS, example, example_bytes, tool_path
 from .programmes import wait_until
@@ -113,12 +113,12 @@ class Piped(Case):
                   "qc: /dev/zero is a device: give a file or a pipe", done)
         pes = example_bytes("story.pes")
         for most, word in ((len(pes), "accepted"), (len(pes) - 1, "not judged")):
-            with mock.patch.object(recording, "MOST_PIPED", most):
+            with mock.patch.object(recording, "MAX_PIPED", most):
                 found = judge_files(self, STORY, write_pipe(self, pes), "--origin", "0")
             self.must(f"{most}", found.word == word, found.said)
         self.must("what to type", found.told[-1].endswith(
             f" has not ended after {most:,} bytes: judge an endless feed with "
-            "tools/air") and recording.MOST_PIPED == 32_000_000_000, found.told)
+            "tools/air") and recording.MAX_PIPED == 32_000_000_000, found.told)
 
     def test_reports_a_full_disk_for_a_pipe(self) -> None:
         data = stream(self, "story", example_bytes("story.pes")) * 400
@@ -235,4 +235,4 @@ class SubtitlePipes(Case):
         done = self.call(["sh", "-c", 'mkfifo endless; (yes >endless &) ; exec "$@"', "sh",
                           tool_path("qc"), "endless", PES, "-p", self.bench.program])
         self.must("endless", done.status in (1, 2) and len(done.told) <= 3, done)
-        self.assertEqual(MOST_STL, 1024 + 128 * 99_999 + 1)
+        self.assertEqual(MAX_STL, 1024 + 128 * 99_999 + 1)

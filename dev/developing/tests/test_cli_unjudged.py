@@ -19,7 +19,7 @@ from subtitles.cli.batch import LEAST_SECONDS, PairRunner, judge_next
 from subtitles.cli.single import (
     Output, OutputFiles, PairOptions, SIGNALS, claim_folder, claim_pair, handle_signals,
     ignore_signals)
-from subtitles.common.command_line import Stop, ended
+from subtitles.common.command_line import Stop, run_main
 from subtitles.common.files import Inputs
 from subtitles.request.commands import CommandPaths, OutputNames, Printer
 from subtitles.request.lines import BatchItem
@@ -280,11 +280,12 @@ class OutputsAndSignals(CallCase):
         write_result_file(self.path("results/one.json"), make_result("accepted"))
         words = ["--collect", self.path("results"), "--json", self.path("one.json")]
         with mock.patch.object(sys, "stdout", Full()), contextlib.redirect_stderr(
-                io.StringIO()) as errors, mock.patch.object(collection, "silence") as silenced:
+                io.StringIO()) as errors, \
+                mock.patch.object(collection, "discard_output") as silenced:
             statuses = [run_qc(words)]
             self.must("not as for a reader that leaves", not silenced.called)
             with mock.patch("subtitles.cli.main.dispatch", return_value=0):
-                statuses += [ended(lambda _: 0, []), run_qc(["--json", self.path("two.json")])]
+                statuses += [run_main(lambda _: 0, []), run_qc(["--json", self.path("two.json")])]
         self.must("told", statuses == [2] * 3 and errors.getvalue().count(
             ": the output: No space left on device\n") == 3, errors.getvalue())
         self.must("its file", [self.object(name)["verdict"] for name in (

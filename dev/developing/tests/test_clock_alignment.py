@@ -11,13 +11,13 @@ from typing import Callable, Sequence
 
 from developing.multiplex import Multiplex, TENTH
 from subtitles.clock.alignment import (
-    Drift, EarlyCues, ExpectedCue, ExpectedSubtitle, FEW_TEXTS, MOST_ERASED, MatchedChange, RARE,
+    Drift, EarlyCues, ExpectedCue, ExpectedSubtitle, FEW_TEXTS, MAX_ERASED, MatchedChange, RARE,
     TimeBase, UNSEEN_SHARE, choose_clock, find_drift, find_expected_cues, find_repeat,
     find_time_bases, find_usual_delay)
 from subtitles.clock.origin import OriginEstimate
 from subtitles.clock.start import Clock, RECORDING, TimedPart
 from subtitles.clock.stretches import have_equal_steps, is_repeated_airing
-from subtitles.common.command_line import Lateness, late_word
+from subtitles.common.command_line import Lateness, parse_lateness
 from subtitles.common.times import CLOCK, FRAMES_OF_A_DAY, Span, TICKS, time_in
 from subtitles.judging.part import belongs_to_part, find_lost_spans, find_recorded_span
 
@@ -90,7 +90,7 @@ class RepeatedPages(Case):
                                               () if at % 2
                                               else TEXT) for at, frame in enumerate(frames)],
                             0, 1000 * TICKS, (0, 5), 0)
-            if away <= min(MOST_ERASED, due - 1):
+            if away <= min(MAX_ERASED, due - 1):
                 del frames[1:3]
             self.must(f"{due} {away}", [*base.changes] == frames, base.changes)
             self.must("some", [*base.copy_between(cues, 100, 160).changes] == frames[1:-1])
@@ -170,7 +170,7 @@ class EstimatedClocks(unittest.TestCase):
                 ([0, *[2] * 8], "0:1,2:8/0:1", 0), ([0, *[2] * 8], "1:1,2:8/0:1", 0),
                 ([0, *[1] * 19], "0:95,1:5/0:1", 1), ([0, *[1] * 19], "0:5,1:95/0:1", 0),
                 ([0, 0, 1, 2], "0:1,1:2,2:1/0:1", -0)):
-            by, early = self.clock_delay(delays, 2, late_word(text))
+            by, early = self.clock_delay(delays, 2, parse_lateness(text))
             self.assertEqual((by, early), (wanted, None), (delays, text))
         self.assertLess(UNSEEN_SHARE, 1 / 400)
 

@@ -6,7 +6,7 @@ import unittest
 from typing import Sequence
 
 from subtitles.clock.alignment import (
-    ExpectedCue, ExpectedSubtitle, MOST_ERASED, find_expected_cues, find_time_bases)
+    ExpectedCue, ExpectedSubtitle, MAX_ERASED, find_expected_cues, find_time_bases)
 from subtitles.clock.origin import (
     OriginEstimate, OriginSearch, find_airing_packets, store_first_part, store_parts)
 from subtitles.clock.stretches import find_airings, find_stretches, fit_parts, split_at_breaks
@@ -23,7 +23,7 @@ def random_programme(chance: random.Random, count: int | None = None) -> list[Ex
     """Return random subtitles, some of which adjoin or repeat a text."""
     frame, made = chance.randrange(FRAMES_OF_A_DAY // 2), []
     for number in range(count or chance.choice((6, 12, 30))):
-        frame += chance.choice((0, MOST_ERASED + 1, chance.randrange(MOST_ERASED + 1, 200)))
+        frame += chance.choice((0, MAX_ERASED + 1, chance.randrange(MAX_ERASED + 1, 200)))
         end = frame + chance.randrange(12, 150)
         text = b"text %d" % (number if chance.random() < 0.9 else 0)
         made.append(ExpectedSubtitle(frame, end, (number, text), text))

@@ -10,15 +10,15 @@ from typing import Any, Sequence
 from unittest import mock
 
 from subtitles.clock.alignment import (
-    CueOffset, Drift, EarlyCues, ExpectedCue, ExpectedSubtitle, MOST_BASES, MOST_CUE_OFFSET,
-    MOST_ERASED, MatchedChange, REPEATED, TimeBase, choose_clock, find_drift, find_expected_cues,
+    CueOffset, Drift, EarlyCues, ExpectedCue, ExpectedSubtitle, MAX_BASES, MAX_CUE_OFFSET,
+    MAX_ERASED, MatchedChange, REPEATED, TimeBase, choose_clock, find_drift, find_expected_cues,
     find_likeliest_clock, find_repeat, find_single_texts, find_time_bases, select_time_bases,
     skip_repeats)
 from subtitles.clock.stretches import (
     EstimatedPart, Stretch, Track, find_airings, find_border, find_changes_by_time, fit_parts,
     limit_bases)
 from subtitles.common.command_line import Lateness
-from subtitles.common.times import CLOCK, EARLY, TICKS
+from subtitles.common.times import CLOCK, EARLY_TICKS, TICKS
 from subtitles.stream.packets import PacketRun, Packets, PageChange
 from .test_clock_properties import packets_of
 
@@ -56,10 +56,10 @@ class TimeBases(unittest.TestCase):
             (1, [(9, b"a"), (TICKS + half, b"b"), (2 * TICKS + half, b"c"), (3 * TICKS + 7, b"d"),
                  (4 * TICKS + 8, b"e")], 8, {0: (b"a", 1), 1: (b"b", half - 8), 2: (b"c", half - 8),
                                              3: (b"d", -1), 4: (b"e", 0)}),
-            (1, [(-EARLY + 1, b"a"), (2 * TICKS - EARLY + 1, b"b")], -EARLY + 1,
+            (1, [(-EARLY_TICKS + 1, b"a"), (2 * TICKS - EARLY_TICKS + 1, b"b")], -EARLY_TICKS + 1,
              {0: (b"a", 0), 2: (b"b", 0)}),
-            (1, [(-EARLY, b"a"), (2 * TICKS - EARLY - 1, b"b"), (3 * TICKS, b"c")], 0,
-             {0: (b"a", -EARLY), 1: (b"b", TICKS - EARLY - 1), 3: (b"c", 0)})]
+            (1, [(-EARLY_TICKS, b"a"), (2 * TICKS - EARLY_TICKS - 1, b"b"), (3 * TICKS, b"c")], 0,
+             {0: (b"a", -EARLY_TICKS), 1: (b"b", TICKS - EARLY_TICKS - 1), 3: (b"c", 0)})]
         for shift, (within, several, first, wanted) in itertools.product(SHIFTS, rows):
             base = base_with([], several, 7, within, shift)
             self.assertEqual((base.first - shift) % CLOCK, first % CLOCK, several)
@@ -80,7 +80,7 @@ class TimeBases(unittest.TestCase):
         for some, wanted in rows:
             changes = [PageChange(TICKS * frame, b"x" * bool(shown), at, shown)
                        for at, (frame, shown) in enumerate(some)]
-            self.assertEqual([one.number for one in skip_repeats(changes, MOST_ERASED)], wanted,
+            self.assertEqual([one.number for one in skip_repeats(changes, MAX_ERASED)], wanted,
                              some)
         many = [PageChange(TICKS, b"x" * (at % 2), at, text if at == 25 else other * (at % 2))
                 for at in range(1, 40)]
@@ -110,9 +110,9 @@ class TimeBases(unittest.TestCase):
                 ((8, 11), []), ((8, 12), [(12, 13, 1)]), ((5, 17), [(5, 8, 3), (12, 16, 1),
                                                                    (16, 18, 2)])):
             self.assertEqual(bases([2, 4, 0, 1, 3], inside), wanted, inside)
-        found = bases([1, *[2] * (MOST_BASES - 1), 3, 1], (0, 999))
+        found = bases([1, *[2] * (MAX_BASES - 1), 3, 1], (0, 999))
         self.assertEqual([begin for begin, _, _ in found],
-                         [4 * at for at in range(1, MOST_BASES + 1)])
+                         [4 * at for at in range(1, MAX_BASES + 1)])
 
     def test_reaches_from_the_first_header_to_the_last(self) -> None:
         for kinds, wanted in (("hhh", (0, 2)), ("ohh", (1, 2)), ("hho", (0, 1)), ("oho", (1, 1)),
@@ -197,7 +197,7 @@ class Fits(unittest.TestCase):
             (self.SENT, 0, None), (two, 0, CueOffset(False, 2, 3, 3)),
             (two, 1, CueOffset(False, 2, 3, 3)), (two, 2, None), ([*two[:5], (50, b"")], 0, None),
             ([*two[:1], (12, b""), *two[2:3], (37, b""), two[4], (56, b"")], 0, None),
-            ([*self.SENT[:1], (MOST_CUE_OFFSET + 10, b"")], 0, None), (one[1:], 0, None)]
+            ([*self.SENT[:1], (MAX_CUE_OFFSET + 10, b"")], 0, None), (one[1:], 0, None)]
         for some, within, wanted in rows:
             base = base_with(self.cues, [(TICKS * frame, text) for frame, text in some], 60,
                              within)
@@ -211,7 +211,7 @@ class Fits(unittest.TestCase):
                 (False, -1, 0, 3), (True, 9, 0, 3), (False, -36, 0, 1), (True, 20, 0, 2)):
             self.assertEqual(base.count_delayed(base.compare(10), is_begin, late),
                              CueOffset(is_begin, late, matches, of), (is_begin, late, matches))
-        for at, is_told in ((MOST_CUE_OFFSET, True), (MOST_CUE_OFFSET + 1, False)):
+        for at, is_told in ((MAX_CUE_OFFSET, True), (MAX_CUE_OFFSET + 1, False)):
             base = base_with(self.cues[:2], [(0, b"a"), (TICKS * (10 + at), b"")])
             found = base.find_cue_offset(base.compare(10))
             self.assertEqual(found, CueOffset(False, at, 1, 1) if is_told else None, (at, is_told))

@@ -22,13 +22,14 @@ from unittest import mock
 from subtitles.common import command_line
 from subtitles.common.command_line import Stop
 from subtitles.common.files import (
-    BackgroundSum, File, Input, Inputs, ROOM, SummedFile, bounded_bytes, first_bytes, is_replaced,
-    is_utf_8, naming, plain_name, result_file, temporary_folder, whole_file)
-from subtitles.common.markup import joined, markup
-from subtitles.common.program import built_program, sources
+    BUFFER_SIZE, BackgroundSum, File, Input, Inputs, SummedFile, is_replaced, is_utf_8,
+    make_safe_name, make_temporary_folder, name_errors, open_output, open_result,
+    read_bounded_bytes, read_first_bytes)
+from subtitles.common.markup import join_markup, markup
+from subtitles.common.program import find_built_program, sources
 from subtitles.formats import listing
 from subtitles.request.lines import (
-    MOST_BYTES, MOST_LINES, MOST_LINE_CHARACTERS, MOST_WORDS, MOST_LINE_WORDS, split_lines,
+    MAX_BYTES, MAX_LINES, MAX_LINE_CHARACTERS, MAX_WORDS, MAX_LINE_WORDS, split_lines,
     read_list, split_words)
 from .bench import Case
 from .test_dev_layers import TOOLS, modules
@@ -40,30 +41,27 @@ class CommandLine(Case):
         none: Any = None
         many = "9" * 5000
         of_words: list[tuple[Callable[[str], object], dict[str, object]]] = [
-            (command_line.page_word, {"888": (0, 0x88), "8FF": none, "": none, "8GG": none,
-                                      "1aA": (1, 0xAA), "988": none, "8 8": none}),
-            (command_line.time_word, {"00:00:00:00": 0, "23:59:59:24": 2_159_999,
-                                      "24:00:00:00": none}),
-            (command_line.origin_word, {"0": 0, "8589934591": 8_589_934_591, "8589934592": none,
-                                        "-1": none, "000": 0, "0007": 7, "": none, "\u0661": none,
-                                        many: none,
-                                        "00000000000000": 0, "0x1": none}),
-            (command_line.range_word, {"0-0": (0, 0), "0-99": (0, 99), "1-0": none, "5": none,
-                                       "-": none,
-                                       "999999999999-999999999999": (999_999_999_999,) * 2,
-                                "1-1000000000000": none, "1-2-3": none, "\u0661-\u0662": none}),
-            (command_line.every_word, {"1": 1, "2160000": 2_160_000, "0": none, "2160001": none,
-                                       "0001": 1,
-                                "": none, "01500": 1500, "-5": none, many: none, "\u0661": none,
-                                       "00": none}),
-            (command_line.within_word, {"0": 0, "50": 50, "51": none, "00": 0, "050": 50, "": none,
-                                        "-1": none, many: none, "\u0661": none}),
-            (command_line.breaks_word, {"0": 0, "999": 999, "1000": none, "-1": none, "": none,
-                                        "\u0661": none}),
-            (command_line.start_word, {"tcp": "tcp", "10:00:00:00": "10:00:00:00", "TCP": none,
-                                       "24:00:00:00": none}),
-            (command_line.pid_word, {"0": 0, "8190": 8190, "0x1FFE": 8190, "8191": none, "-1": none,
-                                     "0x101": 257, "x": none, "": none})]
+            (command_line.parse_page, {"888": (0, 0x88), "8FF": none, "": none, "8GG": none,
+                "1aA": (1, 0xAA), "988": none, "8 8": none}),
+            (command_line.parse_time, {"00:00:00:00": 0, "23:59:59:24": 2_159_999,
+                "24:00:00:00": none}),
+            (command_line.parse_origin, {"0": 0, "8589934591": 8_589_934_591, "8589934592": none,
+                "-1": none, "000": 0, "0007": 7, "": none, "\u0661": none, many: none,
+                "00000000000000": 0, "0x1": none}),
+            (command_line.parse_packet_range, {"0-0": (0, 0), "0-99": (0, 99), "1-0": none,
+                "5": none, "-": none, "999999999999-999999999999": (999_999_999_999,) * 2,
+                "1-1000000000000": none, "1-2-3": none, "\u0661-\u0662": none}),
+            (command_line.parse_repeat_interval, {"1": 1, "2160000": 2_160_000, "0": none,
+                "2160001": none, "0001": 1, "": none, "01500": 1500, "-5": none, many: none,
+                "\u0661": none, "00": none}),
+            (command_line.parse_within, {"0": 0, "50": 50, "51": none, "00": 0, "050": 50,
+                "": none, "-1": none, many: none, "\u0661": none}),
+            (command_line.parse_break_count, {"0": 0, "999": 999, "1000": none, "-1": none,
+                "": none, "\u0661": none}),
+            (command_line.parse_start, {"tcp": "tcp", "10:00:00:00": "10:00:00:00", "TCP": none,
+                "24:00:00:00": none}),
+            (command_line.parse_pid, {"0": 0, "8190": 8190, "0x1FFE": 8190, "8191": none,
+                "-1": none, "0x101": 257, "x": none, "": none})]
         for call, texts in of_words:
             for text, wanted in texts.items():
                 try:
@@ -76,13 +74,13 @@ class CommandLine(Case):
         for pid, size, wanted in ((None, 188, []), (None, 204, []),
                                   (0x101, 188, ["--pid", "0x101"]),
                                   (0, 192, ["--pid", "0x0", "--packet-size", "192"])):
-            self.assertEqual(command_line.stream_words(pid, size), wanted, (pid, size))
+            self.assertEqual(command_line.stream_options(pid, size), wanted, (pid, size))
         self.assertEqual([command_line.counted(one, "fault") for one in (0, 1, 2)],
                          ["0 faults", "1 fault", "2 faults"])
-        self.assertEqual([command_line.range_words(*one)
+        self.assertEqual([command_line.format_frame_range(*one)
                           for one in ((0, 0), (1, 1), (0, 1), (0, 2))],
                          ["0 frames", "1 frame", "0 to 1 frame", "0 to 2 frames"])
-        parser = command_line.Words("")
+        parser = command_line.ToolParser("")
         command_line.add_page(parser)
         self.assertEqual(vars(parser.parse_args([])), {"page": (0, 0x88)})
 
@@ -94,12 +92,12 @@ class CommandLine(Case):
                              ("\u2065\u2066\u2069\u206a", "\u2065\\u2066\\u2069\u206a"),
                              ("\udc80\udcff", "\\x80\\xff"), ("\udc7f\ud800", "\\udc7f\\ud800"),
                              ("a\nb\0", "a\\x0ab\\x00")):
-            self.assertEqual(command_line.shown(text), wanted, text)
-            self.assertTrue(command_line.quoted(text).startswith("$'"), text)
+            self.assertEqual(command_line.escape_hidden(text), wanted, text)
+            self.assertTrue(command_line.quote_argument(text).startswith("$'"), text)
         for text in ("plain", "two words", "it's", "a\\b", ""):
-            self.assertEqual(shlex.split(command_line.quoted(text)), [text], text)
+            self.assertEqual(shlex.split(command_line.quote_argument(text)), [text], text)
         for text in ("it's\na\\n", "\x1b[1m"):
-            done = self.call(["bash", "-c", f"printf %s {command_line.quoted(text)}"])
+            done = self.call(["bash", "-c", f"printf %s {command_line.quote_argument(text)}"])
             self.assertEqual(done.out.decode(), text, text)
 
     def test_prints_one_line_for_each_error(self) -> None:
@@ -110,29 +108,30 @@ class CommandLine(Case):
                 (OSError(2, "No such file", ""), "an empty name: No such file"),
                 (OSError("a  word"), "the output: a word"),
                 (ValueError("x  y"), "internal error: ValueError in no line: x y")):
-            self.assertEqual(command_line.error_line(reason), wanted, reason)
+            self.assertEqual(command_line.format_error(reason), wanted, reason)
         for value, lines in (("0", 0), ("1", 1)):
             with mock.patch.dict(os.environ, {"SUBTTX_DEBUG": value}), \
                     mock.patch("traceback.print_exception") as traced:
-                command_line.error_line(ValueError("x"))
-                command_line.error_line(Stop("x"))
+                command_line.format_error(ValueError("x"))
+                command_line.format_error(Stop("x"))
             self.assertEqual(traced.call_count, lines, (value, lines))
         for name, wanted in (("a", "a"), ("-", "./-"), ("-a", "./-a"), ("=a", "./=a"),
                              ("+a", "./+a"), ("@a", "./@a"), ("a-", "a-"), ("/-a", "/-a")):
-            self.assertEqual(plain_name(name), wanted, name)
+            self.assertEqual(make_safe_name(name), wanted, name)
 
     def test_handles_a_missing_version_and_a_closed_output(self) -> None:
         with mock.patch.object(command_line, "HOME", self.folder):
             self.assertEqual(command_line.version(), "of an unknown version")
-        with mock.patch.object(sys, "stdout", None), mock.patch.object(command_line, "silence"), \
+        with mock.patch.object(sys, "stdout", None), \
+                mock.patch.object(command_line, "discard_output"), \
                 contextlib.redirect_stderr(io.StringIO()) as errors:
-            self.assertEqual(command_line.ended(lambda words: 0, []), 2)
+            self.assertEqual(command_line.run_main(lambda words: 0, []), 2)
         self.assertIn(": standard output is closed\n", errors.getvalue())
         self.assertEqual([is_utf_8(name) for name in ("", "a", "\u00e9", "\udce9")],
                          [True, True, True, False])
 
     def test_names_a_file_as_it_was_given(self) -> None:
-        with self.assertRaises(OSError) as reported, naming("typed"):
+        with self.assertRaises(OSError) as reported, name_errors("typed"):
             raise OSError(2, "No such file", "one", None, "two")
         self.assertEqual((reported.exception.filename, reported.exception.filename2),
                          ("typed", None))
@@ -144,9 +143,9 @@ class CommandLine(Case):
             self.assertEqual((source.read(5), waited.call_count), (b"some", 2))
         for code, status in ((3, 3), (None, 0), (0, 0)):
             with mock.patch("sys.argv", ["tool", "word"]):
-                self.assertEqual(command_line.answer(lambda line: sys.exit(code), []), status,
+                self.assertEqual(command_line.call_main(lambda line: sys.exit(code), []), status,
                                  (code, status))
-                self.assertEqual(command_line.answer(len, ["one"]), 1, (code, status))
+                self.assertEqual(command_line.call_main(len, ["one"]), 1, (code, status))
 
     def test_refuses_special_files_without_waiting(self) -> None:
         self.write("file", b"12345")
@@ -158,24 +157,25 @@ class CommandLine(Case):
         for name, kind in (("folder", "a folder"), ("pipe", "a pipe"), ("socket", "a socket"),
                            ("/dev/zero", "a device")):
             for may_be_pipe in (False, True)[:1 + (name != "pipe")]:
-                message = refusal(lambda: first_bytes(self.path(name), 5, may_be_pipe))
+                message = refusal(lambda: read_first_bytes(self.path(name), 5, may_be_pipe))
                 self.must(f"{name} {may_be_pipe}",
                           message.startswith(f"{self.path(name)} is {kind}"),
                           message)
-        self.must("followed", first_bytes(self.path("link"), 9) == b"12345")
-        self.must("a link", refusal(lambda: first_bytes(self.path("link"), 9, is_followed=False))
+        self.must("followed", read_first_bytes(self.path("link"), 9) == b"12345")
+        self.must("a link", refusal(lambda: read_first_bytes(self.path("link"), 9,
+                                                             is_followed=False))
                   == f"{self.path('link')} is a link")
         for most, wanted in ((4, b""), (5, b"12345"), (6, b"12345")):
-            message = refusal(lambda: bounded_bytes(self.path("file"), most))
+            message = refusal(lambda: read_bounded_bytes(self.path("file"), most))
             self.must(f"{most}", bool(message) == (not wanted) and (
-                message or bounded_bytes(self.path("file"), most)) == (
+                message or read_bounded_bytes(self.path("file"), most)) == (
                     wanted or f"{self.path('file')} has more than 4 bytes"), message)
         with File(self.path("file")) as file, mock.patch.object(
                 file, "file", mock.Mock(**{"read.return_value": None})):
             self.check("a file of the system that waits", refusal(lambda: file.read()),
                        f"{self.path('file')} has no end: give a file")
         with subprocess.Popen(["sh", "-c", "sleep 0.2; yes >\"$0\"", self.path("pipe")]):
-            self.must("a pipe", first_bytes(self.path("pipe"), 100_001, True) ==
+            self.must("a pipe", read_first_bytes(self.path("pipe"), 100_001, True) ==
                       (b"y\n" * 50_001)[:100_001])
 
     def test_splits_lines_as_shlex_does_within_bounds(self) -> None:
@@ -193,25 +193,25 @@ class CommandLine(Case):
             self.assertEqual(found, wanted, repr(line))
         began = time.process_time()
         for one in ("a", "'b'c", "\\d", '"\\e"'):
-            self.assertEqual(len(split_words(one * (MOST_LINE_CHARACTERS // len(one)))), 1, one)
+            self.assertEqual(len(split_words(one * (MAX_LINE_CHARACTERS // len(one)))), 1, one)
         self.assertLess(time.process_time() - began, 5)
-        lines = split_lines(f"a\n{'b' * (MOST_LINE_CHARACTERS + 1)}\nc\x0b\x85\u2028 'd e'\n'")
+        lines = split_lines(f"a\n{'b' * (MAX_LINE_CHARACTERS + 1)}\nc\x0b\x85\u2028 'd e'\n'")
         self.assertEqual([(one.number, one.arguments[-1][:9], bool(one.fault)) for one in lines], [
             (1, "a", False), (2, "b" * 9, True), (3, "d e", False), (4, "'", True)])
-        path = self.write("list", (b"#" * 63_999 + b"\n") * (MOST_BYTES // 64_000))
+        path = self.write("list", (b"#" * 63_999 + b"\n") * (MAX_BYTES // 64_000))
         self.assertEqual([*split_lines(read_list(path))], [])
         with open(path, "ab") as file:
             file.write(b"#")
         self.assertIn("more than 16,000,000 bytes", refusal(lambda: read_list(path)))
 
     def test_limits_lines_and_words_of_lists(self) -> None:
-        many = "a " * MOST_LINE_WORDS
-        whole = MOST_WORDS // MOST_LINE_WORDS
+        many = "a " * MAX_LINE_WORDS
+        whole = MAX_WORDS // MAX_LINE_WORDS
         rows = {
-            "the most lines": ("a\n" * MOST_LINES, ""),
-            "comments and empty lines": ("#\n\n" * MOST_LINES, ""),
-            "one line more": ("a\n" * MOST_LINES + "a", f"line {MOST_LINES + 1}"),
-            "quotes that do not end": ('"\n' * 2 * MOST_LINES, f"line {MOST_LINES + 1}"),
+            "the most lines": ("a\n" * MAX_LINES, ""),
+            "comments and empty lines": ("#\n\n" * MAX_LINES, ""),
+            "one line more": ("a\n" * MAX_LINES + "a", f"line {MAX_LINES + 1}"),
+            "quotes that do not end": ('"\n' * 2 * MAX_LINES, f"line {MAX_LINES + 1}"),
             "the most words": (f"{many}\n" * whole, ""),
             "more words": (f"{many}\n" * (whole + 1), f"line {whole + 1}")}
         for name, (text, place) in rows.items():
@@ -237,7 +237,7 @@ class CommandLine(Case):
                              f'<a b="{wanted}">{wanted}</a>', text)
         bold = markup("<b>{}</b>", 5)
         self.assertEqual((markup("{}{:,}{:.1f}", bold, 1000, 2.55).source, (bold + bold).source,
-                          joined([bold, "<"], markup("<br/>")).source, bool(bold),
+                          join_markup([bold, "<"], markup("<br/>")).source, bool(bold),
                           bool(markup(""))),
                          ("<b>5</b>1,0002.5", "<b>5</b><b>5</b>", "<b>5</b><br/>&lt;", True,
                           False))
@@ -277,16 +277,16 @@ class CommandLine(Case):
     def test_writes_a_file_completely_or_not_at_all(self) -> None:
         one = self.write("one", b"old")
         os.symlink(one, self.path("link"))
-        with whole_file(self.path("link")) as file:
+        with open_output(self.path("link")) as file:
             file.write(b"linked")
         self.assertEqual((self.read("one"), os.path.islink(self.path("link"))), (b"linked", True))
         mask = os.umask(0o027)
         for path in (one, self.path("new")):
-            with whole_file(path) as file:
+            with open_output(path) as file:
                 file.write(b"new")
             self.assertEqual(os.stat(path).st_mode & 0o777, 0o640, path)
         os.umask(mask)
-        with self.assertRaises(KeyError), whole_file(one) as file:
+        with self.assertRaises(KeyError), open_output(one) as file:
             file.write(b"half")
             raise KeyError
         self.assertEqual((self.read("one"), is_replaced(one), is_replaced("/dev/null"),
@@ -296,7 +296,7 @@ class CommandLine(Case):
     def test_replaces_a_link_in_a_folder_of_results(self) -> None:
         for target in (self.write("one", b"theirs"), self.path("none"), self.folder):
             os.symlink(target, self.path("link"))
-            with result_file(self.path("link")) as file:
+            with open_result(self.path("link")) as file:
                 file.write(b"own")
             self.must(target, not os.path.islink(self.path("link")) and
                       self.read("link") == b"own" and self.read("one") == b"theirs" and
@@ -304,7 +304,7 @@ class CommandLine(Case):
             os.unlink(self.path("link"))
 
     def test_hashes_all_bytes_of_a_file(self) -> None:
-        for size in (0, 1, ROOM - 1, ROOM, ROOM + 1, 2 * ROOM + 5):
+        for size in (0, 1, BUFFER_SIZE - 1, BUFFER_SIZE, BUFFER_SIZE + 1, 2 * BUFFER_SIZE + 5):
             name = self.write(f"{size}", bytes(range(251)) * (size // 251) + b"x" * (size % 251))
             wanted = SummedFile(name, size, hashlib.sha256(self.read(name)).hexdigest())
             self.check(f"{size} bytes", BackgroundSum(name).result(), wanted)
@@ -320,15 +320,15 @@ class CommandLine(Case):
         os.mkdir(self.path("folder"))
         for name in ("program", "text", "folder", "none"):
             path = self.path(name)
-            self.check(name, refusal(lambda: built_program(path)),
+            self.check(name, refusal(lambda: find_built_program(path)),
                        "" if name == "program" else f"{path} is not an executable program")
 
     def test_finds_the_program_of_the_sources(self) -> None:
         rows: list[tuple[tuple[str, str], str]] = [
             (("path", ""), ""), (("", "damaged"), "damaged"), (("", ""), "no program is built")]
         for chosen, why in rows:
-            with mock.patch("subtitles.common.program.chosen", return_value=chosen):
-                message = refusal(lambda: self.assertEqual(built_program(), "path"))
+            with mock.patch("subtitles.common.program.find_program", return_value=chosen):
+                message = refusal(lambda: self.assertEqual(find_built_program(), "path"))
             self.must(f"{chosen}", message.startswith(why) and bool(message) == bool(why), message)
         for status in (0, 1, -9):
             done = subprocess.CompletedProcess([], status, b"a sum\n")
@@ -379,7 +379,7 @@ class Signals(Case):
             reported: BaseException | None = None
             try:
                 with mock.patch("subtitles.common.files.os.replace", replaced), \
-                        whole_file(path) as file:
+                        open_output(path) as file:
                     file.write(b"new")
             except (KeyboardInterrupt, OSError) as reason:
                 reported = reason
@@ -405,7 +405,7 @@ class Signals(Case):
                 mock.patch(f"subtitles.common.files.{place}", interrupted) if place else \
                 contextlib.nullcontext()
             with mock.patch("tempfile.tempdir", self.folder), self.assertRaises(KeyboardInterrupt):
-                with patched, temporary_folder("one-") as folder:
+                with patched, make_temporary_folder("one-") as folder:
                     self.must("there", os.path.dirname(folder) == self.folder and os.stat(
                         folder).st_mode & 0o777 == 0o700)
                     for name in ("one", "two"):

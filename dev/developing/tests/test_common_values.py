@@ -127,7 +127,7 @@ class PrintedLines(unittest.TestCase):
         self.assertEqual((printer.last_line, out.getvalue()), (
             "line", "one\\x07\nsentence\nat end\nline\n"))
         with mock.patch.object(out, "write", side_effect=BrokenPipeError), mock.patch(
-                "subtitles.request.commands.silence") as silence:
+                "subtitles.request.commands.discard_output") as silence:
             printer.print_line("nobody reads it")
         self.assertEqual((silence.call_args.args, printer.last_line), ((out,), "nobody reads it"))
 

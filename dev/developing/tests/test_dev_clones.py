@@ -9,7 +9,7 @@ import subprocess
 import time
 from typing import Iterable
 
-from subtitles.common.program import TOP, behind_script, read
+from subtitles.common.program import TOP, resolve_script, read
 from ..compiled import share_compiled
 from ..proved import Proved, compute_digest, parse_proved, format_proved
 from ..trial import ANOTHER_USER, Trial
@@ -234,7 +234,7 @@ class Clones(Case):
                 ("the script", clone.path("subttx"), clone.path("dist", "subttx")),
                 ("a program beside it", clone.path("other"), clone.path("other")),
                 ("a script elsewhere", self.write("alone", b"#!/bin/sh\n"), self.path("alone"))):
-            found = behind_script(path)
+            found = resolve_script(path)
             self.must(name, os.path.realpath(found) == os.path.realpath(program), found)
 
     def test_prefers_a_program_that_was_built_here(self) -> None:

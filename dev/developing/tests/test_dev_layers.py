@@ -10,7 +10,7 @@ import subprocess
 from typing import Iterator
 
 from subtitles.common.program import TOP
-from subtitles.common.times import CLOCK, ticks_between, wrapped
+from subtitles.common.times import CLOCK, ticks_between, wrap_pts
 from .bench import Case, SECONDS
 
 
@@ -23,8 +23,8 @@ MAIN = "subtitles.cli.main"  # imports modules on demand
 IN_ROWS = os.path.join("developing", "signs.py")  # a table with one row a line
 # The second implementation shares codes, times, layouts and file blocks with the tools.
 SHARED = {"subtitles." + name for name in (
-    "common.command_line", "common.program.TOP", "common.program.built_program", "common.times",
-    "formats.layout", *("formats.stl." + name for name in (
+    "common.command_line", "common.program.TOP", "common.program.find_built_program",
+    "common.times", "formats.layout", *("formats.stl." + name for name in (
         "GSI", "LAST_BLOCK", "TEXT", "TTI", "USER_DATA")),
     *("formats.teletext." + name for name in ("CODE_WORDS", "NUMBER", "Page", "START", "is_odd")))}
 
@@ -192,7 +192,7 @@ class Imports(Case):
     def test_wraps_pts_and_differences(self) -> None:
         for ticks, wanted in ((0, 0), (CLOCK - 1, CLOCK - 1), (CLOCK, 0), (-1, CLOCK - 1),
                               (2 * CLOCK + 5, 5)):
-            self.must(f"wrapped {ticks}", wrapped(ticks) == wanted, wrapped(ticks))
+            self.must(f"wrapped {ticks}", wrap_pts(ticks) == wanted, wrap_pts(ticks))
         for first, second, wanted in ((0, 0, 0), (5, 8, 3), (8, 5, -3), (CLOCK - 1, 1, 2),
                                       (1, CLOCK - 1, -2), (0, CLOCK // 2 - 1, CLOCK // 2 - 1),
                                       (0, CLOCK // 2, -CLOCK // 2),

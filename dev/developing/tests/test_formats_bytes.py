@@ -6,7 +6,7 @@ import unittest
 
 from developing import pes, stl
 from subtitles.common import times
-from subtitles.common.command_line import page_in
+from subtitles.common.command_line import decode_page
 from subtitles.formats import teletext
 from .transmissions import CLOSING, HEADER, row_packet
 
@@ -51,7 +51,7 @@ class Times(unittest.TestCase):
                                      (half + 7, 7, -half), (CLOCK - 5, 20, 25)):
             self.assertEqual(times.ticks_between(first, second), later, (first, second, later))
         for ticks, wanted in ((-1, CLOCK - 1), (0, 0), (CLOCK - 1, CLOCK - 1), (CLOCK, 0)):
-            self.assertEqual(times.wrapped(ticks), wanted, ticks)
+            self.assertEqual(times.wrap_pts(ticks), wanted, ticks)
         for frame, origin, wanted in ((0, 5, 5), (1, 5, 3605), (1, CLOCK - 1, 3599),
                                       (DAY, 0, 7_776_000_000), (DAY, CLOCK - 1, 7_775_999_999)):
             self.assertEqual(times.pts_of(frame, origin), wanted, (frame, origin))
@@ -129,11 +129,11 @@ class Codes(unittest.TestCase):
     def test_reads_names_of_pages(self) -> None:
         for text, page in (("888", (0, 0x88)), ("100", (1, 0)), ("7fE", (7, 0xFE)),
                            ("8Ab", (0, 0xAB)), ("200", (2, 0)), ("899", (0, 0x99))):
-            self.assertEqual(page_in(text), page, (text, page))
+            self.assertEqual(decode_page(text), page, (text, page))
             self.assertEqual(teletext.page_name(*page), text.upper(), (text, page))
         for text in ("", "88", "8888", "000", "900", "8FF", "1ff", "8 1", "8+1", "8_1", "8g0",
                      "x88", "8\u0661\u0661"):
-            self.assertIsNone(page_in(text), text)
+            self.assertIsNone(decode_page(text), text)
 
 
 class Packets(unittest.TestCase):

@@ -91,7 +91,7 @@ class Blocks(unittest.TestCase):
                                      (good + b"x", -1, False), (b"", -1, False)):
             found: list[stl.StoredSubtitle] = []
             reported: list[str] = []
-            with mock.patch.object(stl, "tell", reported.append):
+            with mock.patch.object(stl, "print_stderr", reported.append):
                 stopped = refusal(lambda: found.extend(stl.read_until_damage("damaged.stl", data)))
             self.assertEqual((-1 if stopped else len(found), any(
                 line.startswith("damaged.stl: ") for line in reported)), (count, is_told),

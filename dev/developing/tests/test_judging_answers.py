@@ -11,7 +11,7 @@ from unittest import mock
 
 from developing.pes import make_pes_packet
 from developing.stl import make_gsi_block
-from subtitles.common.command_line import Stop, Words
+from subtitles.common.command_line import Stop, ToolParser
 from subtitles.common.times import FRAMES_OF_A_DAY, NO_FRAME, Span, TICKS
 from subtitles.formats.listing import parse_fault_line
 from subtitles.formats.stl import SubtitleFile
@@ -177,7 +177,7 @@ class Midnight(Case):
 
 class LineOptions(Case):
     def test_the_clock_of_a_line_overrides_that_of_the_call(self) -> None:
-        parser = Words("")
+        parser = ToolParser("")
         add_options(parser)
         for call, line, wanted in (
                 ("", "", (None, None, 250)), ("--origin 7 --every 50", "", (7, None, 50)),

@@ -9,7 +9,7 @@ from typing import Any
 from unittest import mock
 
 from developing.pes import make_packet, make_pes_packet
-from subtitles.common.program import proved_line
+from subtitles.common.program import find_proved_line
 from subtitles.common.times import CLOCK, Span, TICKS
 from subtitles.formats.listing import parse_fault_line
 from subtitles.judging.causes import (
@@ -279,7 +279,8 @@ class Versions(Case):
                 ("top/bin/PROVED", good.replace("proved 3", "open 3"), None),
                 ("top/bin/PROVED", "program 5\n", None)):
             path = self.write(name, text.encode())
-            self.must(f"{name} {text}", proved_line(self.path("top/bin/subttx"), "5") == wanted)
+            self.must(f"{name} {text}", find_proved_line(self.path("top/bin/subttx"), "5") ==
+                      wanted)
             os.unlink(path)
 
     def test_updates_the_progress_line_five_times_a_second(self) -> None:

@@ -12,7 +12,7 @@ from typing import Callable, NamedTuple
 
 from developing.pes import make_pes_packet
 from developing.stl import make_gsi_block, make_subtitle_blocks
-from subtitles.common.command_line import quoted
+from subtitles.common.command_line import quote_argument
 from subtitles.common.times import TICKS
 from subtitles.formats.layout import (
     Layout, PLAIN, TextFault, draw_text, find_layout_fault, make_page_rows, parse_layout)
@@ -296,7 +296,7 @@ def judge(case: Case, seed: int) -> tuple[Programme, JudgedPair]:
     layout = ["--layout", one.text] if one.text else []
     sent = with_empty_packets(with_fault(one, schedule_pages(case, other, *layout)), one.step)
     profile = case.write(f"{seed}.profile", (
-        f"--layout {quoted(one.text)}\n" * bool(one.text) + one.profile).encode())
+        f"--layout {quote_argument(one.text)}\n" * bool(one.text) + one.profile).encode())
     name = f"{seed}.ts" if one.is_stream else f"{seed}.pes"
     path = case.write(name, recording_of(one, sent))
     return one, judge_files(case, stl, path, "--profile", profile,

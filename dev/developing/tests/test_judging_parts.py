@@ -8,7 +8,7 @@ from unittest import mock
 from developing.pes import GAP_MARKER, make_pes_packet
 from subtitles.clock.start import ESTIMATED_LATER_NOTE, GIVEN, RECORDING
 from subtitles.common.command_line import counted
-from subtitles.common.times import CLOCK, EARLY, TICKS, pts_of, time_of
+from subtitles.common.times import CLOCK, EARLY_TICKS, TICKS, pts_of, time_of
 from subtitles.formats.listing import NamedFault, NOT_SHOWN, PICTURES_LEFT
 from subtitles.judging import pair
 from subtitles.judging.pages import HIDDEN, HiddenRows
@@ -228,7 +228,8 @@ def in_three_frames(sent: Sent) -> Sent:
 def with_jitter(sent: Sent) -> Sent:
     """Shift each PTS by a few milliseconds."""
     chance = random.Random(1)
-    return [(pts + chance.randrange(-EARLY // 2, EARLY // 2), some) for pts, some in sent]
+    return [(pts + chance.randrange(-EARLY_TICKS // 2, EARLY_TICKS // 2), some) for pts,
+            some in sent]
 
 
 def under_load(sent: Sent) -> Sent:
@@ -257,7 +258,7 @@ class Tolerances(ProgrammeCase):
                 self.must(f"{name}: {words}", found.word == "accepted" and
                           (spread["maximum"], spread["never_complete"]) == (most, 0), found.said)
                 self.must(f"{name}: the clock", abs(
-                    found.result["parts"][0]["origin"] - ORIGIN) < EARLY, found.said)
+                    found.result["parts"][0]["origin"] - ORIGIN) < EARLY_TICKS, found.said)
 
     def test_estimates_the_clock_with_a_tolerance(self) -> None:
         ways: list[tuple[str, Change, int, int | None]] = [
@@ -269,7 +270,7 @@ class Tolerances(ProgrammeCase):
                 origin = estimate_origin(OriginSearch(self.stl, "one.pes", within=within), packets)
                 found = origin.parts[0].origin - ORIGIN
                 self.must(f"{name} {within}", origin.status == 0 and
-                          (abs(found) < EARLY if off is None else found == off), origin)
+                          (abs(found) < EARLY_TICKS if off is None else found == off), origin)
                 reported = [line for line in origin.lines if " late" in line]
                 self.must(f"{name} {within}: how late", len(reported) == 1 and (
                     reported[0] == "no cue is late" or "cues are 0 to " in reported[0]),

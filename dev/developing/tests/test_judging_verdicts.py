@@ -10,7 +10,7 @@ from unittest import mock
 from developing.pes import make_pes_packet
 from subtitles.clock.start import Clock, GIVEN, RECORDING, TimedPart
 from subtitles.common.files import SummedFile
-from subtitles.common.program import MadeWith
+from subtitles.common.program import ProgramInfo
 from subtitles.common.times import CLOCK, Span, TICKS, time_of
 from subtitles.formats.listing import NamedFault, NEVER_SENT, PICTURES_LEFT
 from subtitles.judging.check import CheckOutput, NO_END
@@ -231,7 +231,7 @@ class Verdicts(Case):
             parts = [make_part(100, 199, 0, make_answer(printed), 1),
                      make_part(100, 199, 0, make_answer(printed), 2, places=places,
                                request=request_for("a.stl", "a.pes", *words))]
-            known = ResultSource(verdict_of(parts), MadeWith("1", "0" * 64, None))
+            known = ResultSource(verdict_of(parts), ProgramInfo("1", "0" * 64, None))
             found = [(one["part"], one["from"], one["to"]) for one in list_trusted_frames(known)]
             self.must(f"{places} {words}", found == [(1, time_of(100), time_of(199)), *(
                 (2, time_of(first), time_of(last)) for first, last in wanted)], found)

@@ -21,7 +21,7 @@ from subtitles.cli import batch, collection, main, measure, single
 from subtitles.cli.main import (
     OPTION_MODES, find_mode, make_parser, find_output_path, find_pair_name, read_jobs,
     read_line_number, read_seconds, refuse_options)
-from subtitles.common.command_line import Stop, ended
+from subtitles.common.command_line import Stop, run_main
 from subtitles.common.program import TOP, read
 from subtitles.request.commands import CommandPaths
 from subtitles.request.lines import make_line_request
@@ -255,7 +255,7 @@ def call_in_process(name: str, words: Sequence[str]) -> Done:
     module, out, errors = tool_module(name), io.StringIO(), io.StringIO()
     with mock.patch.object(sys, "argv", [tool_path(name), *words]), \
             contextlib.redirect_stdout(out), contextlib.redirect_stderr(errors):
-        status = ended(module.call_main if name == "qc" else module.main, words)
+        status = run_main(module.call_main if name == "qc" else module.main, words)
     return Done(status, out.getvalue().encode(), errors.getvalue().splitlines())
 
 

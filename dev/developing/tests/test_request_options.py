@@ -10,7 +10,8 @@ import sys
 import threading
 from typing import Any
 
-from subtitles.common.command_line import Lateness, Stop, Words, late_text, late_word
+from subtitles.common.command_line import (
+    Lateness, Stop, ToolParser, format_lateness, parse_lateness)
 from subtitles.common.shapes import Flag, Text
 from subtitles.common.times import FRAMES_OF_A_DAY
 from subtitles.request.commands import CommandPaths, make_qc_command, profile_line
@@ -132,7 +133,7 @@ class OptionRows(Case):
     def test_each_option_survives_all_conversions(self) -> None:
         names = [one.name for one in OPTIONS]
         self.must("all", {*names} == {*BACK, "--profile", *(name for name, _, _ in ROWS)})
-        parser = Words("")
+        parser = ToolParser("")
         add_options(parser)
         plain_words = parser.parse_args([])
         without = REQUEST.made(request_for("one.stl", "one.pes"))
@@ -287,15 +288,15 @@ class ProfileFiles(Case):
         for text, begins, ends in (
                 ("0:1/0:1", {0: 1}, {0: 1}),
                 ("1:31,50:1000000/0:7,2:1", {1: 31, 50: 1_000_000}, {0: 7, 2: 1})):
-            late = late_word(text)
-            self.assertEqual((late, late_text(late)), (Lateness(begins, ends), text),
+            late = parse_lateness(text)
+            self.assertEqual((late, format_lateness(late)), (Lateness(begins, ends), text),
                              (text, begins, ends))
             self.assertEqual(late.longest, max(*begins, *ends), (text, begins, ends))
         for text in ("", "/", "0:1", "0:1/", "/0:1", "0:1/0:1/0:1", "0:0/0:1", "51:1/0:1", "0/0:1",
                      "1:1,0:1/0:1", "0:1,0:1/0:1", "0:1000001/0:1", "-1:1/0:1", "0:1,/0:1",
                      "0:\u0661/0:1", "0 :1/0:1"):
             with self.subTest(text):
-                self.assertRaises(argparse.ArgumentTypeError, late_word, text)
+                self.assertRaises(argparse.ArgumentTypeError, parse_lateness, text)
 
 
 class Overrides(Case):

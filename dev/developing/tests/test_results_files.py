@@ -14,7 +14,7 @@ from unittest import mock
 from subtitles.cli import collection
 from subtitles.cli.batch import PairRunner, resumed_rows
 from subtitles.common.command_line import Stop
-from subtitles.common.program import MadeWith, TOP, read
+from subtitles.common.program import ProgramInfo, TOP, read
 from subtitles.common.shapes import Integer, Listed
 from subtitles.formats.listing import SILENT, UNDECIDED
 from subtitles.judging.verdict import Unjudged
@@ -121,14 +121,14 @@ class WrittenResults(Case):
                 known = self.judge()
             self.must(f"{most}", known["faults"] == whole["faults"][:most] and
                       known["omitted"] == {**whole["omitted"], "faults": 4 - most}, known)
-        with mock.patch.object(files, "MOST_BYTES", 0):
+        with mock.patch.object(files, "MAX_BYTES", 0):
             known = self.judge()
         counts = {one.name: len(whole[one.name]) for one in LISTS}
         self.must("none", known["omitted"] == counts and known["fault_count"] == 4, known)
         size = sum(len(json.dumps(one, ensure_ascii=False).encode()) for name in counts
                    for one in whole[name])
         for room, left in ((size, 0), (size - 1, 1)):
-            with mock.patch.object(files, "MOST_BYTES", room):
+            with mock.patch.object(files, "MAX_BYTES", room):
                 self.must(f"{room}", self.judge()["omitted"]["subtitles"] == left)
 
     def test_allows_no_accepted_result_without_a_clock(self) -> None:
@@ -149,7 +149,7 @@ class WrittenResults(Case):
         self.must("cut", len(make_unjudged("x", "y" * 70_000)["reason"]) == 65_536 and
                   find_misfit(make_unjudged("x", "y" * 70_000)) is None)
         found = judge_files(self, self.write("story.stl", example_bytes("story.stl")))
-        program = MadeWith("1", "0" * 64, None)
+        program = ProgramInfo("1", "0" * 64, None)
         found.verdict.unjudged = Unjudged("why")
         known = json.loads("".join(write_result(found.verdict, program)))
         self.must("not judged", known["verdict"] == "not judged" and find_misfit(known) is None)
@@ -231,7 +231,7 @@ class UntrustedResults(Case):
         self.all_read()
         size = os.path.getsize(self.path("out/whole.json"))
         for most, is_read in ((size, True), (size - 1, False)):
-            with mock.patch.object(files, "MOST_RESULT_BYTES", most):
+            with mock.patch.object(files, "MAX_RESULT_BYTES", most):
                 found = read_result(self.path("out/whole.json"))
             self.must(f"{most}", found is not None and (found["verdict"] == "accepted") == is_read,
                       found)
@@ -243,11 +243,11 @@ class UntrustedResults(Case):
         self.must("it fits", find_misfit(known) is None and known["format"] == FORMAT)
         self.must("all lists", {one.name for one in VERDICT.members
                                 if isinstance(one.shape, Listed)} == {one.name for one in LISTS})
-        self.must("room", files.MOST_RESULT_BYTES == 2 * files.MOST_BYTES)
+        self.must("room", files.MAX_RESULT_BYTES == 2 * files.MAX_BYTES)
         text = json.dumps({**FAULT, "cause": {"name": "late", "line": "a, b, c", "subtitle": 1}})
         values = 20_000 * 2 * sum(map(text.count, ",{[")) + 100_000 * 4
         self.must("values of full lists of faults, causes and subtitles",
-                  values < files.MOST_VALUES, values)
+                  values < files.MAX_VALUES, values)
 
 
 class CollectedResults(Case):
@@ -314,7 +314,7 @@ class CollectedResults(Case):
                 raise BrokenPipeError
 
         words = argparse.Namespace(csv=self.path("lines"), junit=None, json=None)
-        with mock.patch.object(collection, "silence") as silenced, \
+        with mock.patch.object(collection, "discard_output") as silenced, \
                 contextlib.redirect_stdout(Gone()) as out:
             status = collection.write_collection(words, self.ROWS[:2],
                                                  [self.path("a"), self.path("b")])

@@ -6,14 +6,14 @@ import unittest
 from types import SimpleNamespace
 from typing import Any, Sequence
 
-from subtitles.clock.alignment import CueOffset, EarlyCues, MOST_CUE_OFFSET, OriginFit
+from subtitles.clock.alignment import CueOffset, EarlyCues, MAX_CUE_OFFSET, OriginFit
 from subtitles.clock.origin import find_equal_origins, is_clear
 from subtitles.clock.start import Clock, StartClock, TCP, find_frame_offset, refuse_outside
-from subtitles.common.times import CLOCK, EARLY, FRAMES_A_SECOND, NO_FRAME, Span, TICKS
+from subtitles.common.times import CLOCK, EARLY_TICKS, FRAMES_A_SECOND, NO_FRAME, Span, TICKS
 from subtitles.recording.recording import Recording
 from subtitles.request.request import Unclear
 from subtitles.stream.gaps import (
-    LossPlace, MOST_LISTED, SECOND, first_lines, gap_marker_lines, is_within)
+    LossPlace, MAX_LISTED, SECOND, first_lines, gap_marker_lines, is_within)
 from subtitles.stream.pace import Pauses, Silence, USUAL_EVERY, select_idle_silences
 from subtitles.stream.repeats import NEAR, measure_repeats
 from subtitles.stream.packets import GapMarker, PCRStep, PacketRun, Packets, Texts
@@ -91,11 +91,11 @@ class Silences(unittest.TestCase):
             self.assertEqual(found and (*found[:4],), wanted, (origin, frames, last, cues))
 
     def test_prints_twenty_losses_and_counts_the_others(self) -> None:
-        for count in (0, 1, MOST_LISTED - 1, MOST_LISTED, MOST_LISTED + 1, MOST_LISTED + 2):
+        for count in (0, 1, MAX_LISTED - 1, MAX_LISTED, MAX_LISTED + 1, MAX_LISTED + 2):
             lines = [f"{number}" for number in range(count)]
-            more = count - MOST_LISTED
+            more = count - MAX_LISTED
             reported = [f"and at {more} more place{'s' * (more > 1)}"] * (more > 0)
-            self.assertEqual(first_lines(lines), lines[:MOST_LISTED] + reported, count)
+            self.assertEqual(first_lines(lines), lines[:MAX_LISTED] + reported, count)
             pts = [SECOND + at * TICKS for at in range(2 * count + 1)]
             packets = Packets(5, [PacketRun(at, 1, None if at % 2 else one, 0, "", "")
                                   for at, one in enumerate(pts)])
@@ -105,7 +105,7 @@ class Silences(unittest.TestCase):
             found = gap_marker_lines(packets)
             others = [line for line in found if line.startswith("and at")]
             self.assertEqual((len(found), others), (
-                min(count, MOST_LISTED), [f"and at {more + 1} more places"] * (more > 0)), count)
+                min(count, MAX_LISTED), [f"and at {more + 1} more places"] * (more > 0)), count)
             times = f"PTS {SECOND} and {SECOND + 2 * TICKS} (00:00:00:00 and 00:00:00:02 after " \
                 "the first)"
             self.assertEqual(found[:1], [f"between {times}: 1 TS packet lost"][:count], count)
@@ -123,9 +123,11 @@ class FirstPictures(unittest.TestCase):
 
     def test_computes_ticks_after_a_frame(self) -> None:
         for origin, (times, exact, near) in itertools.product(ORIGINS, (
-                ([0, 0, 5], 0, 0), ([5, 5, 0], 5, 5), ([EARLY, 1800, 1800], 1800, EARLY),
-                ([EARLY + 1, 1800, 1800], 1800, 1800), ([-EARLY, 1800, 1800], 1800, TICKS - EARLY),
-                ([-EARLY - 1, 1800, 1800], 1800, 1800))):
+                ([0, 0, 5], 0, 0), ([5, 5, 0], 5, 5), ([EARLY_TICKS, 1800, 1800], 1800,
+                                                       EARLY_TICKS),
+                ([EARLY_TICKS + 1, 1800, 1800], 1800, 1800), ([-EARLY_TICKS, 1800, 1800], 1800,
+                                                              TICKS - EARLY_TICKS),
+                ([-EARLY_TICKS - 1, 1800, 1800], 1800, 1800))):
             packets = Packets(5, [PacketRun(at, 1, (origin + TICKS * (at + 3) + one) % CLOCK, 0, "",
                                             "")
                                   for at, one in enumerate(times)])
@@ -277,7 +279,7 @@ class ReceivedFrames(unittest.TestCase):
             self.assertEqual([decoded.page_span(at) for at in (0, len(decoded.frames) - 1)], [
                 Span(decoded.frames[0], decoded.frames[0] + 9), Span(last, last)],
                              (every, inside, first))
-        decoded = decode_near(packets, (0, 0x88), EARLY, 1, Span(1000, 1200), 25)
+        decoded = decode_near(packets, (0, 0x88), EARLY_TICKS, 1, Span(1000, 1200), 25)
         self.assertEqual((decoded.first, decoded.last), (750, 1450))
         decoded = decode_near(packets, (0, 0x88), 0, 0, Span(9000, 9100), 25)
         self.assertEqual((decoded.count, decoded.first), (0, NO_FRAME))
@@ -315,10 +317,10 @@ class ClearOrigins(unittest.TestCase):
                 (five, self.fit(5, 4, 9), False, False), (five, self.fit(5, 5), False, True),
                 (five, self.fit(6, 4), False, True), (four, self.fit(4, 3, 1), False, False),
                 (four, self.fit(4, 3, 2), False, True), (four, self.fit(4, 4, 0), False, True),
-                (five, self.fit(5, 5, 2, start=MOST_CUE_OFFSET), True, False),
-                (five, self.fit(5, 5, 2, start=-MOST_CUE_OFFSET), True, False),
-                (five, self.fit(5, 5, 2, start=MOST_CUE_OFFSET + 1), True, True),
-                (five, self.fit(5, 5, 0, start=MOST_CUE_OFFSET + 1), True, False)):
+                (five, self.fit(5, 5, 2, start=MAX_CUE_OFFSET), True, False),
+                (five, self.fit(5, 5, 2, start=-MAX_CUE_OFFSET), True, False),
+                (five, self.fit(5, 5, 2, start=MAX_CUE_OFFSET + 1), True, True),
+                (five, self.fit(5, 5, 0, start=MAX_CUE_OFFSET + 1), True, False)):
             part = self.part(best, self.fit(1, 1), other, apart=apart if is_apart else None)
             self.assertEqual(find_equal_origins(part), [other] * wanted, (best, other))
             self.assertEqual([is_clear(part), is_clear(part, True)], [not wanted] * 2,

@@ -8,7 +8,7 @@ from subtitles.formats.layout import (
     Layout, PLAIN, TextFault, draw_text, parse_layout, format_layout, make_page_rows)
 from subtitles.formats.teletext import ENGLISH
 from subtitles.stream.layout import (
-    Evidence, ItemEvidence, LayoutChoice, MOST_ITEMS, SentSubtitle, add_items, choose_layouts,
+    Evidence, ItemEvidence, LayoutChoice, MAX_ITEMS, SentSubtitle, add_items, choose_layouts,
     draws_as_sent, find_questionable_items, is_found, list_items, pair_lines, remove_items)
 from .bench import Case
 from .test_stream_layouts import HOUSES, programme
@@ -249,10 +249,10 @@ class ProposedItems(Case):
     def test_tests_many_items_one_by_one(self) -> None:
         codes = bytes([0x00, 0x07, 0x09, 0x0A, 0x0C, *range(0x10, 0x1B)])
         layout = Layout(strip=codes)
-        self.must("many", len(list_items(layout)) > MOST_ITEMS)
+        self.must("many", len(list_items(layout)) > MAX_ITEMS)
         sent = sent_of([SentText(codes + b"Hi", b"Hi")] * 10)
         taken, missing = Evidence(sent, ENGLISH).remove_unsupported(layout)
-        self.must("few", len(list_items(taken)) <= MOST_ITEMS and len(missing) >= 4, taken)
+        self.must("few", len(list_items(taken)) <= MAX_ITEMS and len(missing) >= 4, taken)
 
     def test_finds_each_layout_although_some_differ(self) -> None:
         for number, (has_codes, leaves_room, text) in enumerate(HOUSES):

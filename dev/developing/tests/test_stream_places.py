@@ -11,14 +11,14 @@ from developing.pes import decode_pts
 from developing.stl import box_line
 from subtitles.cli.main import make_parser
 from subtitles.common.command_line import Stop
-from subtitles.common.program import MadeWith
+from subtitles.common.program import ProgramInfo
 from subtitles.common.times import CLOCK, TICKS
 from subtitles.request.lines import read_pairs
 from subtitles.request.request import make_request
 from subtitles.results.files import describe_inputs, is_current
 from subtitles.results.schema import PROGRAM, REQUEST
 from subtitles.stream.gaps import (
-    ClockJump, LossPlace, MOST_LATE, SECOND, describe_loss, find_clock_jumps, find_loss_places,
+    ClockJump, LossPlace, MAX_LATE, SECOND, describe_loss, find_clock_jumps, find_loss_places,
     find_pts_delay, find_recorded_range, gap_marker_lines, overlap)
 from subtitles.stream.packets import GapMarker, PCRStep, PacketRun, Packets
 from subtitles.stream.survey import ProgramMap, Survey, survey
@@ -100,9 +100,9 @@ class LatePts(Case):
     def test_measures_how_late_and_how_early_pts_are(self) -> None:
         rows: list[tuple[list[int], int, int]] = [
             ([], 0, 0), ([9], 0, 9), ([-9], 9, 0), ([-9, -30, 5, 7, 6], 30, 7),
-            ([-30, *[5] * MOST_LATE], 0, 5), ([*[5] * MOST_LATE, -30], 30, 5),
-            ([-30, *[5] * (MOST_LATE - 1)], 30, 5), ([*[5] * MOST_LATE, 7], 0, 5),
-            ([*[5] * (MOST_LATE - 1), 7], 0, 7)]
+            ([-30, *[5] * MAX_LATE], 0, 5), ([*[5] * MAX_LATE, -30], 30, 5),
+            ([-30, *[5] * (MAX_LATE - 1)], 30, 5), ([*[5] * MAX_LATE, 7], 0, 5),
+            ([*[5] * (MAX_LATE - 1), 7], 0, 7)]
         for samples, late, ahead in rows:
             packets = Packets(5, samples=[(at * SECOND, one) for at, one in enumerate(samples)])
             known = Survey()
@@ -239,7 +239,7 @@ class PaceOptions(Case):
                   items)
 
     def test_judges_again_with_another_pace(self) -> None:
-        program = MadeWith("1", "0" * 64, None)
+        program = ProgramInfo("1", "0" * 64, None)
         request = [request_for(self.path("one.stl"), self.path("one.ts"), *words)
                  for words in ((), ("--pace", "none"), ("--pace", "16"))]
         for one in request:

@@ -11,7 +11,7 @@ from typing import Callable, Iterable, NamedTuple, Sequence
 from developing.multiplex import (
     ADAPTATION_ALONE, BEGINS, PACKET, compute_crc, make_head, make_section)
 from developing.pes import make_packet, make_pes_packet, encode_pts
-from subtitles.common.command_line import Unanswered
+from subtitles.common.command_line import ProgramInterrupted
 from subtitles.common.times import CLOCK, TICKS
 from subtitles.stream.packets import GapMarker, PCRStep, PacketRun, Packets, PageChange, Texts
 from subtitles.stream.pictures import VideoLead
@@ -793,7 +793,7 @@ class SurveyAnswers(Case):
             if why is None:
                 received.refuse(status)
             else:
-                with self.subTest(why), self.assertRaisesRegex(Unanswered, f": {why}$"):
+                with self.subTest(why), self.assertRaisesRegex(ProgramInterrupted, f": {why}$"):
                     received.refuse(status)
 
 
@@ -908,7 +908,7 @@ class SurveyAnswers(Case):
                   and len(looks) == 4, found.head)
         found = survey(self.fake_survey([]), "one.ts", PAGE)
         self.must("no more", found.head == b"survey --page 888 -- one.ts", found.head)
-        with self.assertRaises(Unanswered):
+        with self.assertRaises(ProgramInterrupted):
             survey(self.fake_survey([], 3), "one.ts", PAGE)
 
     def test_returns_each_run_before_the_program_ends(self) -> None:
@@ -920,7 +920,7 @@ class SurveyAnswers(Case):
                                      PAGE)]
             self.must(f"{count}", [texts for _, texts in reported] == wanted, reported)
         reported = list[tuple[PacketRun, Texts | None]]()
-        with self.assertRaises(Unanswered):
+        with self.assertRaises(ProgramInterrupted):
             for one in survey_runs(self.fake_survey(lines, 3), "one.pes", PAGE):
                 reported.append(one)
         self.must("all", [(run.first, texts) for run, texts in reported] == [

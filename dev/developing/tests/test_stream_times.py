@@ -7,13 +7,13 @@ import unittest
 from types import SimpleNamespace
 from typing import Any, Iterator, Sequence
 
-from subtitles.clock.alignment import ExpectedSubtitle, MOST_BASES, find_time_bases
+from subtitles.clock.alignment import ExpectedSubtitle, MAX_BASES, find_time_bases
 from subtitles.clock.start import count_skipped, find_frame_offset, find_largest_offset
 from subtitles.clock.stretches import (
     LEAST_BREAK, LEAST_GAP, Stretch, find_stretches, split_at_breaks)
 from subtitles.common.times import (
-    CLOCK, EARLY, FRAMES_OF_A_DAY, NO_FRAME, Spans, TICKS, frame_at, frame_in, frames_at,
-    joined_spans, pts_of, ticks_after, ticks_between, ticks_within, wrapped)
+    CLOCK, EARLY_TICKS, FRAMES_OF_A_DAY, NO_FRAME, Spans, TICKS, frame_at, frame_in, frames_at,
+    join_spans, pts_of, ticks_after, ticks_between, ticks_within, wrap_pts)
 from subtitles.stream.gaps import (
     ClockJump, LossPlace, SECOND, describe_loss, find_clock_jumps, find_loss_places,
     find_pts_anomalies, loss_line)
@@ -53,7 +53,8 @@ def all_over_the_clock(chance: random.Random) -> Iterator[tuple[int, int]]:
                    *(chance.randrange(CLOCK) for _ in range(9))):
         for at in (0, TICKS, CLOCK // 2, DAY, CLOCK - BEFORE, CLOCK, *(
                 chance.randrange(CLOCK // TICKS) * TICKS for _ in range(30))):
-            for ticks in (at - EARLY - 1, at - EARLY, at - 1, at, at + 1, at + TICKS // 2):
+            for ticks in (at - EARLY_TICKS - 1, at - EARLY_TICKS, at - 1, at, at + 1,
+                          at + TICKS // 2):
                 yield origin, ticks % CLOCK
 
 
@@ -67,11 +68,11 @@ class ClockTables(unittest.TestCase):
         for origin, ticks in all_over_the_clock(random.Random(26)):
             pts = (origin + ticks) % CLOCK
             frame, rest = divmod(ticks, TICKS)
-            later = (ticks + EARLY) % CLOCK // TICKS
+            later = (ticks + EARLY_TICKS) % CLOCK // TICKS
             frames = [frame if not rest and frame < FRAMES_OF_A_DAY else None,
                       later if later < FRAMES_OF_A_DAY else None]
             after = ticks if ticks < CLOCK - BEFORE else ticks - CLOCK
-            found = (wrapped(origin + ticks), pts_of(frame, origin),
+            found = (wrap_pts(origin + ticks), pts_of(frame, origin),
                      frame_in(pts, origin), frame_in(pts, origin, 1),
                      [frame_at(pts, origin, within) for within in (0, 1)],
                      [[None if one == NO_FRAME else one for one in frames_at([pts], origin, within)]
@@ -107,10 +108,10 @@ class ClockTables(unittest.TestCase):
                 span for span in spans if span[1] >= begin and span[0] < end])
             self.assertEqual(list(spans.without([*several[1], *several[2]])),
                              find_airings(one - other - third))
-            self.assertEqual(list(joined_spans(several)), find_airings(one | other | third))
+            self.assertEqual(list(join_spans(several)), find_airings(one | other | third))
         falling = Spans([(7, 9), (1, 3), (4, 8)])
         self.assertEqual((list(falling), falling.is_rising()), ([(7, 9), (1, 8)], False))
-        self.assertEqual(list(joined_spans([falling])), [(1, 9)])
+        self.assertEqual(list(join_spans([falling])), [(1, 9)])
 
     def test_computes_a_distance_around_a_wrap(self) -> None:
         for length, first in itertools.product(
@@ -164,7 +165,7 @@ class ClockTables(unittest.TestCase):
 
     def test_selects_the_time_bases_with_the_most_changes(self) -> None:
         edges = [ExpectedSubtitle(100 * at, 100 * at + 50, at, b"%d" % at) for at in range(400)]
-        for count, wanted in ((MOST_BASES, MOST_BASES), (5000, MOST_BASES)):
+        for count, wanted in ((MAX_BASES, MAX_BASES), (5000, MAX_BASES)):
             packets = packets_with([10 ** 9 - TICKS * at for at in range(count + 2)])
             packets.changes = [PageChange(run.pts or 0, b"x", run.first) for run in packets.runs]
             bases = find_time_bases(edges, packets, 0)

@@ -12,8 +12,8 @@ from typing import Any, Callable, Mapping, NamedTuple
 
 from ..cli import single
 from ..cli.batch import ForkedProcess, hold_signals, wait_for_any
-from ..common.command_line import Stop, ended, error_line, tell
-from ..common.files import new_name
+from ..common.command_line import Stop, run_main, format_error, print_stderr
+from ..common.files import make_temporary_name
 from ..common.times import FRAMES_A_SECOND, TICKS, pts_of, ticks_between
 from ..judging.part import Part
 from ..judging.status import ACCEPTED, NOT_JUDGED, REFUSED, RELATIVE, WAIVED
@@ -136,7 +136,7 @@ class Checker:
     def check(self, request: Request, name: str, air_time: float, stretch: Unbroken) -> Outcome:
         """Judge a programme of a time of air from a stretch."""
         self.clear()
-        self.work = new_name(self.place, WORK)
+        self.work = make_temporary_name(self.place, WORK)
         first = max(stretch.begin, air_time - self.margin)
         size = stretch.size(first, math.inf)
         needed = size + stretch.size(first, air_time + self.margin) + SPARE
@@ -145,10 +145,10 @@ class Checker:
             if shutil.disk_usage(self.work).free < needed:
                 return Outcome(None, f"no room in {self.place} for {needed:,} bytes")
             status, lines = run_forked(
-                lambda: ended(lambda _: self.judge(request, name, air_time, stretch), ()),
+                lambda: run_main(lambda _: self.judge(request, name, air_time, stretch), ()),
                 LEAST_SECONDS + size / BYTES_PER_SECOND)
         except (OSError, Stop) as reason:
-            return Outcome(None, error_line(reason))
+            return Outcome(None, format_error(reason))
         finally:
             for file in (RECORDING, HEAD):
                 with contextlib.suppress(OSError):
@@ -180,7 +180,7 @@ class Checker:
             request = dataclasses.replace(request, recording=recording)
             return exit_status(single.judge_and_report(request, call, self.program_name))
         except (OSError, MemoryError) as reason:  # as if a segment was deleted just now
-            tell(error_line(reason))
+            print_stderr(format_error(reason))
             return FAILED
 
 

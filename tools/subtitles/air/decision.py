@@ -11,7 +11,7 @@ from .segments import Unbroken
 
 SOON = 10.0  # seconds after its end, and its window, at which it is tried: the recorder may lag
 SLACK = 1.0  # seconds by which a stretch may seem shorter than the programme in it
-MOST_GAPS = 3  # that a result names
+MAX_GAPS = 3  # that a result names
 
 
 class Window(NamedTuple):
@@ -56,8 +56,8 @@ def decide(name: str, outcomes: Sequence[Outcome], gaps: Sequence[str], has_pass
         return final
     if outcomes and not gaps:  # of the only stretch, which has all of the window
         return outcomes[0]
-    shown = ", ".join(gaps[:MOST_GAPS]) or "some seconds"
-    more = f" and {len(gaps) - MOST_GAPS} more" if len(gaps) > MOST_GAPS else ""
+    shown = ", ".join(gaps[:MAX_GAPS]) or "some seconds"
+    more = f" and {len(gaps) - MAX_GAPS} more" if len(gaps) > MAX_GAPS else ""
     rest = f"; of the rest: {outcomes[0].reason}" if outcomes else ""
     before = f"; before that: {failure}" if failure else ""
     reason = f"not recorded: {shown}{more}{rest}{before}"

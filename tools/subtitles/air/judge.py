@@ -11,8 +11,8 @@ import sys
 import time
 
 from ..cli.single import handle_signals, hold_lock, now as date
-from ..common.command_line import Stop, error_line, say
-from ..common.files import BEGIN, result_file
+from ..common.command_line import Stop, format_error, print_stdout
+from ..common.files import TEMPORARY_PREFIX, open_result
 from ..request.commands import CommandPaths
 from ..results.files import ENDING, result_bytes, make_unjudged
 from .check import Checker, Outcome
@@ -21,7 +21,7 @@ from .schedule import Programme, Schedule, length_of, read_schedule
 from .segments import segments_between, stretches_in
 from .state import Monitor, write_state
 
-RETRY, MOST_RETRY = 2.0, 60.0  # seconds until the next try after a system error
+RETRY, MAX_RETRY = 2.0, 60.0  # seconds until the next try after a system error
 SHARE = 10  # failing programmes get at most one part in ten of the judge's time
 HOOK_SECONDS = 10  # time limit of the site's command
 
@@ -65,7 +65,7 @@ class Judge:
             self.schedule = read_schedule(self.args.schedule, self.args, self.schedule)
             self.monitor.schedule_faults = [*self.schedule.faults]
         except (OSError, Stop) as reason:
-            self.monitor.schedule_faults = [error_line(reason)]
+            self.monitor.schedule_faults = [format_error(reason)]
 
     def waiting(self) -> list[Programme]:
         """Return the programmes that have no result, earliest first."""
@@ -98,7 +98,7 @@ class Judge:
             else:
                 self.publish(programme.name, outcome)
         except Exception as reason:  # other programmes must still be judged
-            self.retry(programme, now, started, error_line(reason))
+            self.retry(programme, now, started, format_error(reason))
         return True
 
     def window(self, programme: Programme) -> Window:
@@ -131,8 +131,8 @@ class Judge:
         tries, spent = self.tries[programme.name], time.monotonic() - started
         if reason != tries.reason:
             line, *_ = reason.split("\n")
-            say(f"{date()}  {programme.name}: will be tried again: {line}")
-        delay = min(RETRY * 2 ** min(tries.failures, 10), MOST_RETRY)
+            print_stdout(f"{date()}  {programme.name}: will be tried again: {line}")
+        delay = min(RETRY * 2 ** min(tries.failures, 10), MAX_RETRY)
         tries.next, tries.reason = now + max(delay, SHARE * spent), reason
         tries.failures += 1
         self.monitor.last_error = f"{programme.name}: {reason}"
@@ -144,7 +144,7 @@ class Judge:
         files = sorted(os.listdir(work)) if "request" in outcome.result else []
         others = [file for file in files if file.startswith(f"{name}.") and file != main]
         for file in [*others, main]:
-            with result_file(os.path.join(self.out, file), is_stored=True) as target:
+            with open_result(os.path.join(self.out, file), is_stored=True) as target:
                 if file in files:
                     with open(os.path.join(work, file), "rb") as source:
                         shutil.copyfileobj(source, target)
@@ -154,7 +154,7 @@ class Judge:
         self.tries.pop(name, None)
         self.monitor.last_result = f"{name}: {outcome.reason}"
         line, *_ = outcome.reason.split("\n")
-        say(f"{date()}  {name}  {outcome.verdict}: {line}")
+        print_stdout(f"{date()}  {name}  {outcome.verdict}: {line}")
         self.call_hook(os.path.join(self.out, main), outcome.result["verdict"])
 
     def call_hook(self, *words: str) -> None:
@@ -170,7 +170,7 @@ def judge_schedule(args: argparse.Namespace, program_name: str) -> int:
     os.makedirs(args.work or args.out, exist_ok=True)
     with hold_lock(args.out, "air", "another run of air is judging into "):
         for name in os.listdir(args.out):
-            if name.startswith(BEGIN):  # an earlier run was killed while writing this file
+            if name.startswith(TEMPORARY_PREFIX):  # an earlier run was killed while writing it
                 os.unlink(os.path.join(args.out, name))
         judge = Judge(args, program_name)
         judge.checker.clear()

@@ -4,8 +4,8 @@ from __future__ import annotations
 import os
 
 from ..cli.main import make_number_parser, read_seconds
-from ..common.command_line import Stop, Words, add_program
-from ..common.files import plain_name
+from ..common.command_line import Stop, ToolParser, add_program
+from ..common.files import make_safe_name
 from ..common.program import TOP
 from ..request.lines import read_options
 from ..request.request import add_options
@@ -16,9 +16,9 @@ hours_word = make_number_parser("hours", 1, 99_999)
 megabytes_word = make_number_parser("megabytes", 0, 999_999_999)
 
 
-def record_parser() -> Words:
+def record_parser() -> ToolParser:
     """Return the parser of `record`."""
-    parser = Words("Record a feed in segments that are named by time, and delete the oldest.")
+    parser = ToolParser("Record a feed in segments that are named by time, and delete the oldest.")
     parser.add_argument("segments", metavar="SEGMENTS", help="write segments to this folder")
     parser.add_argument("--length", metavar="S", type=read_seconds, default=10,
                         help="begin a segment every S seconds (default: 10)")
@@ -29,10 +29,10 @@ def record_parser() -> Words:
     return parser
 
 
-def judge_parser() -> Words:
+def judge_parser() -> ToolParser:
     """Return the parser of `judge`."""
-    parser = Words("Judge the programmes of a schedule from segments of a feed, each once it is "
-                   "over.")
+    parser = ToolParser("Judge the programmes of a schedule from segments of a feed, each once it "
+                        "is over.")
     parser.add_argument("schedule", metavar="SCHEDULE", help="read the times of air from this file")
     parser.add_argument("segments", metavar="SEGMENTS", help="read segments from this folder")
     parser.add_argument("-o", dest="out", metavar="OUT", required=True,
@@ -66,10 +66,10 @@ def main(text: str, words: list[str]) -> int:
         record(0, args.segments, Limits(args.length, 3600 * args.keep, 1_000_000 * args.free))
         return 0
     if mode != "judge":
-        Words(text).parse_known_args(words)  # --help, --version
+        ToolParser(text).parse_known_args(words)  # --help, --version
         raise Stop("the first argument must be record or judge")
     args = read_options(judge_parser(), line, {}, {}, is_typed=True)
-    args.out = plain_name(args.out)
+    args.out = make_safe_name(args.out)
     if not os.path.isdir(args.segments):
         raise Stop(f"{args.segments} is not a folder: start `record` first, or give its folder")
     return judge_schedule(args, os.path.join(TOP, "tools", "qc"))

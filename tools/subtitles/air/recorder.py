@@ -11,14 +11,14 @@ import time
 from typing import NamedTuple
 
 from ..cli.single import hold_lock
-from ..common.command_line import tell
+from ..common.command_line import print_stderr
 from .segments import names_in, segment_name
 
-MOST_READ = 1 << 18  # bytes at a time
+MAX_READ = 1 << 18  # bytes at a time
 PIPE_SIZE = 1 << 20  # bytes that a pipe holds: a quarter of a second of 40 Mbit/s
 # Seconds between tries to write to a full disk, and until bytes that can't be written are lost.
 WRITE_RETRY, WRITE_PATIENCE = 0.1, 5.0
-MOST_DELETED = 50  # segments at a time, so that a full folder does not hold up the feed
+MAX_DELETED = 50  # segments at a time, so that a full folder does not hold up the feed
 
 
 class Limits(NamedTuple):
@@ -50,7 +50,7 @@ class Recorder:
                     raise
                 if not self.delete_oldest(1):
                     if time.monotonic() > until:
-                        tell(f"{self.folder} has no room: {len(left)} bytes are lost")
+                        print_stderr(f"{self.folder} has no room: {len(left)} bytes are lost")
                         self.close()
                         self.is_new = True
                         return
@@ -72,7 +72,8 @@ class Recorder:
         last = names_in(self.folder)[-1:]
         self.latest = max(now, self.latest + 0.001, *(begin + 0.001 for begin, _ in last))
         if self.latest > now + 1:
-            tell(f"the system's clock is {self.latest - now:.0f} seconds behind the last segment")
+            print_stderr(f"the system's clock is {self.latest - now:.0f} seconds behind the last "
+                         "segment")
         file = os.open(os.path.join(self.folder, segment_name(self.latest, self.is_new)),
                        os.O_WRONLY | os.O_CREAT | os.O_APPEND | os.O_CLOEXEC)
         self.is_new = False
@@ -86,9 +87,9 @@ class Recorder:
 
     def make_room(self, now: float) -> None:
         """Delete segments that are too old, and more until enough bytes are free."""
-        while self.delete_oldest(MOST_DELETED, now - self.limits.kept):
+        while self.delete_oldest(MAX_DELETED, now - self.limits.kept):
             pass
-        for _ in range(MOST_DELETED):
+        for _ in range(MAX_DELETED):
             about = os.statvfs(self.folder)
             if about.f_bavail * about.f_frsize >= self.limits.free or not self.delete_oldest(1):
                 break
@@ -117,6 +118,6 @@ def record(source: int, folder: str, limits: Limits) -> None:
         fcntl.fcntl(source, getattr(fcntl, "F_SETPIPE_SZ", 1031), PIPE_SIZE)
     with hold_lock(folder, "recorder", "another feed is being recorded in "):
         recorder = Recorder(folder, limits)
-        while data := os.read(source, MOST_READ):
+        while data := os.read(source, MAX_READ):
             recorder.take(data)
         recorder.close()

@@ -9,7 +9,7 @@ import os
 import re
 from typing import NamedTuple, Sequence
 
-from ..common.command_line import Stop, error_line
+from ..common.command_line import Stop, format_error
 from ..common.files import Damaged
 from ..common.times import Between, FRAMES_A_SECOND, FRAMES_OF_A_DAY
 from ..formats.stl import read_stl, subtitle_times, read_stored_subtitles
@@ -84,7 +84,7 @@ def parse_schedule(text: str, folder: str, options: argparse.Namespace) -> Sched
         try:
             programme = parse_line(line, folder, options)
         except (Stop, OSError, ValueError) as reason:
-            faults.append(f"line {line.number}: {error_line(reason)}")
+            faults.append(f"line {line.number}: {format_error(reason)}")
             continue
         if programme.name in programmes:
             faults.append(f"line {line.number} is not judged: its result would be named "

@@ -8,7 +8,7 @@ from typing import Any, Collection
 
 from ..cli.single import now as date
 from ..common.command_line import Stop
-from ..common.files import result_file
+from ..common.files import open_result
 from ..formats.teletext import Page, page_name
 from ..stream.survey import survey
 from .segments import names_in, segment_at
@@ -96,5 +96,5 @@ def free_bytes(folder: str) -> int:
 
 def write_state(folder: str, state: dict[str, Any]) -> None:
     """Write the file. If that fails, monitoring sees its old date."""
-    with contextlib.suppress(OSError), result_file(os.path.join(folder, NAME)) as file:
+    with contextlib.suppress(OSError), open_result(os.path.join(folder, NAME)) as file:
         file.write(json.dumps(state, indent=1).encode() + b"\n")

@@ -14,9 +14,9 @@ from typing import (
     Any, Callable, Collection, Iterable, Iterator, Mapping, NamedTuple, NoReturn, Sequence)
 
 from ..cli import collection
-from ..common.command_line import Stop, counted, ended, error_line, tell
-from ..common.files import IsInput, NOTHING, temporary_folder
-from ..common.program import MadeWith, TOP, about_program
+from ..common.command_line import Stop, counted, run_main, format_error, print_stderr
+from ..common.files import OutputIsInput, NO_INPUTS, make_temporary_folder
+from ..common.program import ProgramInfo, TOP, describe_program
 from ..judging.status import NOT_JUDGED
 from ..report import page
 from ..request.commands import CommandPaths, PartFiles, Progress
@@ -51,11 +51,11 @@ def judge_forked_pair(request: Request, call: PairOptions) -> int:
                 raise Stop(reason)
             return judge_and_report(request, call, os.path.join(TOP, "tools", "qc")).status
         except (Exception, KeyboardInterrupt) as reason:
-            if not isinstance(reason, IsInput):
-                write_unjudged(call.name or "", {"--json": call.json}, error_line(reason))
+            if not isinstance(reason, OutputIsInput):
+                write_unjudged(call.name or "", {"--json": call.json}, format_error(reason))
             raise
 
-    return ended(judge, ())
+    return run_main(judge, ())
 
 
 class ForkedProcess:
@@ -208,11 +208,11 @@ class PairRunner:
         self.parts = PartFiles(out) if out is not None else None
         self.running: dict[ForkedProcess, RunningPair] = {}
         self.over_limit: set[ForkedProcess] = set()
-        self.inputs = NOTHING  # of all pairs
+        self.inputs = NO_INPUTS  # of all pairs
         self.unwritten_results: dict[str, dict[str, Any]] = {}  # results that are in no file
         self.in_use: set[str] = set()  # pairs whose files another run of qc was writing
         self.is_stopped = False
-        about_program(command_paths.program_path)  # so that forked processes have its checksum
+        describe_program(command_paths.program_path)  # so that forked processes have its checksum
 
     def result_path(self, item: BatchItem) -> str:
         """Return the path of a pair's JSON result."""
@@ -232,7 +232,7 @@ class PairRunner:
         except (Stop, OSError) as reason:
             if isinstance(reason, FilesInUse):
                 self.in_use.add(item.name)
-            result = make_unjudged(item.name, error_line(reason))
+            result = make_unjudged(item.name, format_error(reason))
             self.unwritten_results[item.name] = result
             return make_row(result, item.name)
         finally:
@@ -292,7 +292,7 @@ class PairRunner:
             if not self.is_stopped:
                 write_result_file(self.result_path(item), result)
         except OSError as error:
-            result = make_unjudged(item.name, f"{reason}; {error_line(error)}")
+            result = make_unjudged(item.name, f"{reason}; {format_error(error)}")
             self.unwritten_results[item.name] = result
         return make_row(result, item.name)
 
@@ -320,7 +320,7 @@ def judge_batch(args: argparse.Namespace, program_name: str) -> int:
         items, folder_of_all = [item], None
     inputs = collect_inputs(items, args.batch, *more)
     collection.refuse_output_names(args, inputs, folder_of_all)
-    with temporary_folder("subttx-qc-") as folder, \
+    with make_temporary_folder("subttx-qc-") as folder, \
             claim_folder(folder_of_all):
         calls = PairRunner(command_paths, folder, args.out, args.is_kept, args.limit)
         calls.inputs = inputs
@@ -332,14 +332,14 @@ def judge_batch(args: argparse.Namespace, program_name: str) -> int:
             calls.unwritten_results.get(item.name) or calls.result_path(item) for item in done],
             calls.is_stopped, folder_of_all)
         if calls.is_stopped:
-            tell(f"stopped when {len(done)} of {counted(len(items), 'pair')} were judged"
-                 + ("; --resume judges the others" if args.out is not None else ""))
+            print_stderr(f"stopped when {len(done)} of {counted(len(items), 'pair')} were judged"
+                         + ("; --resume judges the others" if args.out is not None else ""))
         return status
 
 
 def resumed_rows(calls: PairRunner, items: list[BatchItem]) -> dict[str, Row]:
     """Return the rows of pairs whose earlier results are up to date."""
-    program, rows = about_program(calls.command_paths.program_path), {}
+    program, rows = describe_program(calls.command_paths.program_path), {}
     for item in items:
         path = calls.result_path(item)
         result = read_result(path) if item.request and os.path.exists(path) else None
@@ -348,7 +348,7 @@ def resumed_rows(calls: PairRunner, items: list[BatchItem]) -> dict[str, Row]:
     return rows
 
 
-def is_reusable(result: dict[str, Any] | None, item: BatchItem, program: MadeWith) -> bool:
+def is_reusable(result: dict[str, Any] | None, item: BatchItem, program: ProgramInfo) -> bool:
     """Return whether an earlier result of a pair is up to date."""
     return result is not None and item.request is not None and result["verdict"] != NOT_JUDGED \
         and is_current(result, item.request, program)
@@ -425,7 +425,7 @@ class FolderWatch:
             if item.request:
                 ready.append(item)
             else:
-                tell(item.reason or item.name)
+                print_stderr(item.reason or item.name)
         return ready
 
     def is_complete(self, name: str, file_state: object, now: float) -> bool:
@@ -449,7 +449,7 @@ def refuse_folders(args: argparse.Namespace) -> None:
     os.makedirs(args.out, exist_ok=True)
     if os.path.samefile(args.watch, args.out):
         raise Stop(f"{args.out} is the watched folder: give another folder with -o")
-    refuse_folder_files(args.out, NOTHING)
+    refuse_folder_files(args.out, NO_INPUTS)
 
 
 def watch(args: argparse.Namespace, program_name: str) -> int:
@@ -458,7 +458,7 @@ def watch(args: argparse.Namespace, program_name: str) -> int:
     refuse_folders(args)
     command_paths = CommandPaths(program_name, args.program)
     calls = PairRunner(command_paths, args.out, args.out, args.is_kept, args.limit)
-    program = about_program(command_paths.program_path)
+    program = describe_program(command_paths.program_path)
     watching = FolderWatch(args.watch, args.settled)
     results = collection.FolderRows(args.out)
 

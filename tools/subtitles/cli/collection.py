@@ -10,9 +10,10 @@ import time
 from typing import Any, Callable, Iterator, Sequence, Union
 from urllib.parse import quote
 
-from ..common.command_line import Stop, counted, error_line, say, shown, silence, tell
-from ..common.files import Inputs, NOTHING, OWN_OUTPUT, refuse_name, result_file
-from ..common.markup import BREAK, HEAD, Markup, NO_MARKUP, Value, joined, markup
+from ..common.command_line import (
+    Stop, counted, discard_output, escape_hidden, format_error, print_stderr, print_stdout)
+from ..common.files import Inputs, NO_INPUTS, STANDARD_OUTPUTS, refuse_output_name, open_result
+from ..common.markup import BREAK, HEAD, Markup, NO_MARKUP, Value, join_markup, markup
 from ..judging.status import (
     ACCEPTED, LOST, NOT_JUDGED, REFUSED, RELATIVE, WAIVED, WARNED, combine_statuses)
 from ..request.commands import index_path
@@ -61,7 +62,7 @@ VERDICT_SIGNS = {ACCEPTED: "\u2713", WAIVED: "\u2212", REFUSED: "\u2715", LOST: 
                  WARNED: "!",
           NOT_JUDGED: "?", RELATIVE: "\u223c"}
 PAGE_HEADS = ("Verdict", "Pair", "What is wrong", "Faults", "Files")
-MOST_CAUSES = 6
+MAX_CAUSES = 6
 
 
 def make_index_page(folder: str, rows: Sequence[Row], date: str) -> bytes:
@@ -69,12 +70,12 @@ def make_index_page(folder: str, rows: Sequence[Row], date: str) -> bytes:
     verdicts = collections.Counter(row.verdict for row in rows)
     counts = ", ".join(f"{verdicts[one]} {one}" for one in sorted(verdicts))
     title = f"{counted(len(rows), 'pair')}: {counts}"
-    headers = joined(markup('<th scope="col">{}</th>', text) for text in PAGE_HEADS)
-    lines = joined((make_pair_row(folder, row) for row in sorted(rows, key=sort_key)), "\n")
-    filter_rules = joined(markup('main:has([value="{}"]:checked) .pairs tbody tr:not(.{}) '
-                           "{{ display: none; }}\n", *[one.replace(" ", "-")] * 2)
-                    for one in sorted(verdicts))
-    radios = joined(
+    headers = join_markup(markup('<th scope="col">{}</th>', text) for text in PAGE_HEADS)
+    lines = join_markup((make_pair_row(folder, row) for row in sorted(rows, key=sort_key)), "\n")
+    filter_rules = join_markup(markup('main:has([value="{}"]:checked) .pairs tbody tr:not(.{}) '
+                                      "{{ display: none; }}\n", *[one.replace(" ", "-")] * 2)
+                               for one in sorted(verdicts))
+    radios = join_markup(
         markup('<label><input type="radio" name="verdict" value="{}"{}/> {} ({})</label>',
                one.replace(" ", "-"), markup(' checked="checked"') * (one == "all"), one, count)
         for one, count in [("all", len(rows)), *sorted(verdicts.items())])
@@ -97,8 +98,8 @@ def make_cause_totals(rows: Sequence[Row]) -> Markup:
     for row in rows:
         causes.update(row.causes)
         pairs.update(row.causes.keys())
-    words = joined((markup("<b>{:,}</b> {} in {}", count, cause, counted(pairs[cause], "pair"))
-                    for cause, count in causes.most_common()), "; ")
+    words = join_markup((markup("<b>{:,}</b> {} in {}", count, cause, counted(pairs[cause], "pair"))
+                         for cause, count in causes.most_common()), "; ")
     return markup("<p>Subtitles or faults by cause: {}.</p>", words) if causes else NO_MARKUP
 
 
@@ -114,8 +115,8 @@ def make_pair_row(folder: str, row: Row) -> Markup:
     causes = list(row.causes.items())
     fault_lines = [markup("<b>{}</b>", counted(row.faults, "fault"))] if row.faults else []
     fault_lines += [markup("<small>{} &times; {}</small>", count, cause)
-             for cause, count in causes[:MOST_CAUSES]]
-    fault_lines += [markup("&hellip;")] if len(causes) > MOST_CAUSES else []
+             for cause, count in causes[:MAX_CAUSES]]
+    fault_lines += [markup("&hellip;")] if len(causes) > MAX_CAUSES else []
     reasons = [row.sentence or row.line, *([row.counts] if row.counts else [])]
     verdict = markup("{} {}", VERDICT_SIGNS.get(row.verdict, ""), row.verdict)
     if row.clock:
@@ -126,8 +127,8 @@ def make_pair_row(folder: str, row: Row) -> Markup:
     return markup(
         '<tr class="{}"><td class="verdict">{}</td><td>{}<br/><small>{}</small></td><td>{}<br/>'
         "<small>{}</small></td><td>{}</td><td>{}</td></tr>", row.verdict.replace(" ", "-"), verdict,
-        name, row.title, joined(reasons, BREAK), row.line if row.sentence and row.is_judged else "",
-        joined(fault_lines, BREAK), make_file_links(folder, row.name))
+        name, row.title, join_markup(reasons, BREAK), row.line if row.sentence and row.is_judged
+        else "", join_markup(fault_lines, BREAK), make_file_links(folder, row.name))
 
 
 def make_file_links(folder: str, name: str) -> Markup:
@@ -136,7 +137,7 @@ def make_file_links(folder: str, name: str) -> Markup:
     for ending, word in ((".txt", "list"), (ENDING, "JSON")):
         if os.path.isfile(os.path.join(folder, name + ending)):
             links.append(markup('<a href="./{}">{}</a>', quote(os.fsencode(name + ending)), word))
-    return joined(links, " ")
+    return join_markup(links, " ")
 
 
 # The table, and the JSON, CSV and JUnit files.
@@ -154,7 +155,7 @@ def collect(args: argparse.Namespace) -> int:
     rows, paths = [], []
     for path, result in read_results(folder):
         if result is None:
-            tell(f"{path} is not the JSON result of a pair and is skipped")
+            print_stderr(f"{path} is not the JSON result of a pair and is skipped")
             continue
         name = os.path.basename(path).removesuffix(ENDING)
         rows.append(make_row(result, name))
@@ -184,18 +185,18 @@ def write_collection(args: argparse.Namespace, rows: Sequence[Row], sources: Seq
         try:
             write()
         except (Stop, OSError) as reason:
-            failed.append(error_line(reason))
-            tell(failed[-1])
+            failed.append(format_error(reason))
+            print_stderr(failed[-1])
     note = "stopped before the others" if is_stopped else "an output was not written" if failed \
         else ""
-    is_output_taken = any(path in OWN_OUTPUT for path in (args.json, args.csv, args.junit))
+    is_output_taken = any(path in STANDARD_OUTPUTS for path in (args.json, args.csv, args.junit))
     out = sys.stderr if is_output_taken else sys.stdout
     try:
         for line in format_summary(rows, note) if rows else ():
-            print(shown(line), file=out)
+            print(escape_hidden(line), file=out)
         out.flush()
     except BrokenPipeError:  # the reader has closed the pipe
-        silence(out)
+        discard_output(out)
     return status()
 
 
@@ -224,7 +225,7 @@ class FolderRows:
         self.rows[row.name], self.is_page_old = row, True
         line = worst_fault(row)
         when = time.strftime("%Y-%m-%d %H:%M:%S")
-        say(f"{when}  {row.name}  {row.verdict}{': ' if line else ''}{line}")
+        print_stdout(f"{when}  {row.name}  {row.verdict}{': ' if line else ''}{line}")
         self.write_page()
 
     def write_page(self, is_last: bool = False) -> None:
@@ -235,17 +236,17 @@ class FolderRows:
         try:
             write_index(self.folder, sort_rows(self.rows))
         except OSError as reason:
-            tell(error_line(reason))
+            print_stderr(format_error(reason))
         self.is_page_old = False
         self.next_page = time.monotonic() + len(self.rows) / PAIRS_PER_SECOND
 
 
-def refuse_output_names(args: argparse.Namespace, inputs: Inputs = NOTHING,
-                 folder: str | None = None) -> None:
+def refuse_output_names(args: argparse.Namespace, inputs: Inputs = NO_INPUTS,
+                        folder: str | None = None) -> None:
     """Raise `Stop` if an output file, or the page of a folder, can't be written or is an input."""
     for path in (args.json, args.csv, args.junit):
         if path is not None:
-            refuse_name(path)
+            refuse_output_name(path)
             inputs.refuse(path, True)
     if folder is not None:
         refuse_folder_files(folder, inputs)
@@ -255,7 +256,7 @@ def write_index(folder: str | None, rows: Sequence[Row]) -> None:
     """Write the page with all pairs of a folder, unless the folder is `None`."""
     if folder is None:
         return
-    with result_file(index_path(folder)) as file:
+    with open_result(index_path(folder)) as file:
         file.write(make_index_page(folder, rows, now()))
 
 
@@ -326,7 +327,7 @@ def load_for_csv(source: ResultSource) -> dict[str, Any]:
     result = load_result(source)
     omitted_count = result["omitted"]["faults"] if "request" in result else 0
     if omitted_count:
-        tell(f"{source} omits {counted(omitted_count, 'fault')}, so the CSV file does too")
+        print_stderr(f"{source} omits {counted(omitted_count, 'fault')}, so the CSV file does too")
     return result
 
 

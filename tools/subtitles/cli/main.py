@@ -8,8 +8,8 @@ import sys
 from typing import Any, Callable, Iterable, Sequence
 
 from ..cli import single
-from ..common.command_line import Stop, Words, error_line
-from ..common.files import IsInput, plain_name
+from ..common.command_line import Stop, ToolParser, format_error
+from ..common.files import OutputIsInput, make_safe_name
 from ..request.lines import describe_mode_conflict, read_options
 from ..request.request import (
     ALONE, BATCH, COLLECT, MEASURE, Mode, OPTIONS, Option, PAIR, WATCH, add_options)
@@ -87,7 +87,7 @@ def find_mode(args: argparse.Namespace) -> Mode:
     return given[0] if given else ALONE if args.recording is None else PAIR
 
 
-def list_given_options(parser: Words, line: Sequence[str]) -> list[str]:
+def list_given_options(parser: ToolParser, line: Sequence[str]) -> list[str]:
     """Return the options on a command line, named and ordered as in `OPTION_MODES`."""
     names, missing = parser.fields, object()
     values = parser.parse_args([*line], argparse.Namespace(**dict.fromkeys(
@@ -99,7 +99,7 @@ def list_given_options(parser: Words, line: Sequence[str]) -> list[str]:
         name in words or not words & {other for other in names if names[other] == names[name]})]
 
 
-def refuse_options(parser: Words, line: Sequence[str], mode: Mode) -> None:
+def refuse_options(parser: ToolParser, line: Sequence[str], mode: Mode) -> None:
     """Raise `Stop` with the first option that the mode does not take."""
     for name in list_given_options(parser, line):
         if mode not in OPTION_MODES[name]:
@@ -107,9 +107,9 @@ def refuse_options(parser: Words, line: Sequence[str], mode: Mode) -> None:
 
 
 # The command line.
-def make_parser(text: str) -> Words:
+def make_parser(text: str) -> ToolParser:
     """Return the parser of tools/qc with the help `text`."""
-    parser = Words(text)
+    parser = ToolParser(text)
     parser.add_argument("stl", metavar="STL", nargs="?", help="the subtitle file")
     parser.add_argument("recording", metavar="RECORDING", nargs="?",
                         help="the recording, - for standard input")
@@ -126,9 +126,9 @@ def main(text: str, program_name: str, line: list[str]) -> int:
         sys.stdout.flush()
         return status
     except (Exception, KeyboardInterrupt) as reason:
-        if not isinstance(reason, IsInput):
+        if not isinstance(reason, OutputIsInput):
             paths = {option: find_output_path(line, option) for option in MAKE_CONTENTS}
-            write_unjudged(find_pair_name(line), paths, error_line(reason))
+            write_unjudged(find_pair_name(line), paths, format_error(reason))
         raise
 
 
@@ -158,7 +158,7 @@ FIRST_BYTES = {"--json": b"{", "--csv": b"stl,recording,", "--junit": b"<?xml ve
 
 def find_output_path(line: Sequence[str], option: str) -> str | None:
     """Return the value of an output option, even if other arguments are wrong."""
-    parser = Words(None)
+    parser = ToolParser(None)
     parser.add_argument(option, dest="file")
     try:
         return parser.parse_known_args([*line])[0].file or None
@@ -179,7 +179,7 @@ def dispatch(text: str, program_name: str, line: list[str]) -> int:
     args = read_options(make_parser(text), line, {}, {}, is_typed=True)
     if args.is_kept and args.out is None:
         raise Stop("--keep needs a folder for the recording: give -o DIR")
-    args.out = args.out and plain_name(args.out)
+    args.out = args.out and make_safe_name(args.out)
     if args.collect is not None:
         from . import collection  # not loaded for one pair
         return collection.collect(args)

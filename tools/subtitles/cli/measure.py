@@ -10,8 +10,8 @@ from typing import Callable, Iterable, Iterator, NamedTuple, Sequence
 
 from ..clock.start import TCP
 from ..common.command_line import (
-    Lateness, MOST_WITHIN, Stop, counted, late_text, quoted, say, version)
-from ..common.files import first_bytes, temporary_folder
+    Lateness, MAX_WITHIN, Stop, counted, format_lateness, quote_argument, print_stdout, version)
+from ..common.files import read_first_bytes, make_temporary_folder
 from ..common.times import FRAMES_OF_A_DAY, Span, TICKS, ticks_after, time_of
 from ..formats.layout import (
     PLAIN, TextFault, draw_text, parse_layout, format_layout, find_text_letters, find_page_letters,
@@ -33,15 +33,15 @@ from ..request.request import PID_CHOICE, Request, Unclear, make_file_request
 from ..stream.pace import BY_EVERY, IRREGULAR, Pace, PAUSED, TOO_FEW
 from ..stream.repeats import RARE, Repeats, measure_repeats
 from ..stream.layout import (
-    FEWEST, FLASH, LayoutChoice, MOST_MOVED, SentSubtitle, TENTHS, choose_layouts, draws_as_sent,
+    FEWEST, FLASH, LayoutChoice, MAX_MOVED, SentSubtitle, TENTHS, choose_layouts, draws_as_sent,
     find_questionable_items, find_sent_subtitles)
 from ..stream.packets import HEADER
 from ..stream.receiver import Timeline, decode_near
 from .single import now
 
 
-MOST_EXAMPLES = 5  # counterexamples to list
-MOST_EARLY = 25  # frames before a TCI in which its page is searched
+MAX_EXAMPLES = 5  # counterexamples to list
+MAX_EARLY = 25  # frames before a TCI in which its page is searched
 GOOD_STATUSES = {0, 3}  # statuses: accepted, and relative
 
 
@@ -143,8 +143,8 @@ def measure_delays(stl: str, subtitles: Sequence[Subtitle], held: Timeline,
         before, after = (rows[at][0] if 0 <= at < len(rows) else None
                          for at in (place - 1, place + 1))
         is_new = before is None or rows[place - 1][1] != letters \
-            or before.end + MOST_EARLY < subtitle.begin
-        first = find_text_begin(held, subtitle, letters, MOST_EARLY if is_new else 0)
+            or before.end + MAX_EARLY < subtitle.begin
+        first = find_text_begin(held, subtitle, letters, MAX_EARLY if is_new else 0)
         if first is None:
             delays.unseen.append(name)
             continue
@@ -191,7 +191,7 @@ def find_text_begin(held: Timeline, subtitle: Subtitle, letters: bytes, earlier:
 def find_text_end(held: Timeline, subtitle: Subtitle, letters: bytes, first: int,
                   limit: int) -> int:
     """Return the last frame with the text of a subtitle, up to some frames after its TCO."""
-    end = min(subtitle.end + MOST_WITHIN + 1, limit)
+    end = min(subtitle.end + MAX_WITHIN + 1, limit)
     numbers = held.page_numbers(first, max(end, subtitle.end))
     return max(held.page_span(number).last for number in numbers
                if find_page_letters(held.pages[number]) == letters)
@@ -224,16 +224,16 @@ def propose_lateness(several: Sequence[Delays], without: Sequence[str],
     longest = max([*begins, *ends, least])
     lines += named_lines("later than usual, which --within then refuses", [
         words for one in several for delay, words in one.late if delay > longest])
-    if longest > MOST_WITHIN:
-        lines.append(f"within is {MOST_WITHIN} frames at most")
-    if not longest or longest > MOST_WITHIN or not (least or begins and ends):
+    if longest > MAX_WITHIN:
+        lines.append(f"within is {MAX_WITHIN} frames at most")
+    if not longest or longest > MAX_WITHIN or not (least or begins and ends):
         yield Finding("", lines)
         return
     yield Finding(f"--within {longest}", lines)
     if not begins or not ends:
         return
     shares = Lateness(*(dict(sorted(counts.items())) for counts in (begins, ends)))
-    yield Finding(f"--late {late_text(shares)}", [])
+    yield Finding(f"--late {format_lateness(shares)}", [])
 
 
 def format_delays(counts: collections.Counter[int]) -> str:
@@ -245,8 +245,8 @@ def named_lines(what: str, names: Sequence[str]) -> list[str]:
     """Return a line with the first names of a list, and how many more there are."""
     if not names:
         return []
-    more = f", and {len(names) - MOST_EXAMPLES} more" if len(names) > MOST_EXAMPLES else ""
-    return [f"{what}: {'; '.join(names[:MOST_EXAMPLES])}{more}"]
+    more = f", and {len(names) - MAX_EXAMPLES} more" if len(names) > MAX_EXAMPLES else ""
+    return [f"{what}: {'; '.join(names[:MAX_EXAMPLES])}{more}"]
 
 
 # C4 (erase page) and the national option in page headers.
@@ -293,7 +293,7 @@ def propose_layout(sendings: Sequence[ReceivedSubtitle], option: NationalOption)
     rests = [f"{rest.text} is based on {rest.redrawn}, of which {rest.as_sent} were sent so"
              for rest in choice.items]
     lines = ["; ".join([f"layout: {format_counts(choice)}", *rests])]
-    return Finding(f"--layout {quoted(text)}" if text else "", [
+    return Finding(f"--layout {quote_argument(text)}" if text else "", [
         *lines, *list_counterexamples(choice, sendings, option), *list_omitted_items(choice)])
 
 
@@ -308,11 +308,11 @@ def list_counterexamples(choice: LayoutChoice, sendings: Sequence[ReceivedSubtit
         -> Iterator[str]:
     """Yield the subtitles that a layout draws differently than they were sent."""
     others = [one for one in sendings if not draws_as_sent(choice.layout, one.sent, option)]
-    for sending in others[:MOST_EXAMPLES]:
+    for sending in others[:MAX_EXAMPLES]:
         yield f"against it: {sending.name}: sent {format_cells(sending.sent.rows)}; drawn " \
             f"{page_text(choice, sending.sent, option)}"
-    if len(others) > MOST_EXAMPLES:
-        yield f"against it: {len(others) - MOST_EXAMPLES} more"
+    if len(others) > MAX_EXAMPLES:
+        yield f"against it: {len(others) - MAX_EXAMPLES} more"
 
 
 def page_text(choice: LayoutChoice, sent: SentSubtitle, option: NationalOption) -> str:
@@ -374,7 +374,7 @@ def explain_omission(text: str) -> str:
     if ("before", 0) in taken:
         return "receivers show a line only after two start boxes"
     if ("row", 0) in taken:
-        return f"no site moves all by more than {MOST_MOVED} rows"
+        return f"no site moves all by more than {MAX_MOVED} rows"
     return "it removes something that viewers see" if taken else \
         f"{FEWEST} subtitles have to show it, {TENTHS} in 10 of them as they were sent"
 
@@ -423,7 +423,7 @@ class Measured(NamedTuple):
 def measure(args: argparse.Namespace, program_name: str) -> int:
     """Print the profile of the pairs of a call; return the exit status."""
     command_paths, requests = CommandPaths(program_name, args.program), read_requests(args)
-    with temporary_folder("subttx-qc-") as folder:
+    with make_temporary_folder("subttx-qc-") as folder:
         recordings = [measure_recording(request, command_paths, os.path.join(folder, str(number)))
                       for number, request in enumerate(requests)]
         lines = [*profile_lines(requests, recordings)]
@@ -436,7 +436,7 @@ def measure(args: argparse.Namespace, program_name: str) -> int:
                               command_paths,
             folder)
     for line in lines:
-        say(line)
+        print_stdout(line)
     return 0
 
 
@@ -457,7 +457,7 @@ def read_requests(args: argparse.Namespace) -> list[Request]:
 
 def is_stl(path: str) -> bool:
     """Return whether a file is a subtitle file, by its name or its first bytes."""
-    return path.lower().endswith(".stl") or first_bytes(path, 6)[3:6] == b"STL"
+    return path.lower().endswith(".stl") or read_first_bytes(path, 6)[3:6] == b"STL"
 
 
 def requests_in(path: str, args: argparse.Namespace) -> list[Request]:
@@ -582,7 +582,7 @@ def find_pid(pair: PairJudge) -> tuple[str | None, list[str]]:
 def profile_lines(requests: Sequence[Request], recordings: Sequence[Measured]) -> Iterator[str]:
     """Yield the lines of the profile, which `--profile` reads."""
     first = requests[0]
-    files = " ".join(quoted(name) for request in requests
+    files = " ".join(quote_argument(name) for request in requests
                      for name in (request.stl, request.recording or ""))
     yield f"# qc {version()} --measure {files}"
     yield (f"# What is usual in {counted(len(requests), 'recording')}. Read each line, and keep "

@@ -12,12 +12,13 @@ import stat
 import time
 from typing import Callable, Iterator, Mapping, NamedTuple
 
-from ..common.command_line import Stop, Unanswered, counted, error_line, escaped, silence, tell
+from ..common.command_line import (
+    ProgramInterrupted, Stop, counted, discard_output, escape_character, format_error, print_stderr)
 from ..common.files import (
-    Inputs, OWN_OUTPUT, Stamp, first_bytes, is_replaced, kind_of, naming, refuse_name, result_file,
-    stamp_of, temporary_folder, whole_file)
+    Inputs, STANDARD_OUTPUTS, Stamp, describe_kind, is_replaced, make_temporary_folder, name_errors,
+    open_output, open_result, read_first_bytes, read_stamp, refuse_output_name)
 from ..common.markup import HEAD
-from ..common.program import about_program
+from ..common.program import describe_program
 from ..formats.listing import parse_count_line, is_check_line
 from ..judging.causes import format_cause_counts
 from ..judging.faults import list_hints
@@ -66,7 +67,7 @@ def is_own_file(path: str) -> bool:
     stem, ending = os.path.splitext(path)
     if ending in (".pes", ".ts"):
         return is_kept_recording(path, f"{os.path.splitext(stem)[0]}.json")
-    data = first_bytes(path, PREFIX_BYTES, is_followed=False)
+    data = read_first_bytes(path, PREFIX_BYTES, is_followed=False)
     if not data or ending == f".{LOCK}":
         return not data
     if ending == ".txt":
@@ -88,7 +89,8 @@ def refuse_file(path: str, inputs: Inputs) -> None:
     inputs.refuse(path, False)
     with contextlib.suppress(FileNotFoundError, NotADirectoryError):
         about = os.lstat(path)
-        if not stat.S_ISLNK(about.st_mode) and (kind_of(about.st_mode) or not is_own_file(path)):
+        if not stat.S_ISLNK(about.st_mode) and (describe_kind(about.st_mode)
+                                                or not is_own_file(path)):
             raise Stop(f"{path} exists and is not a result of these tools: move it away, or give "
                        "another folder")
 
@@ -118,7 +120,7 @@ def hold_lock(folder: str | None, name: str, refusal: str) -> Iterator[None]:
         yield
         return
     path = lock_path(folder, name)
-    with naming(folder):
+    with name_errors(folder):
         os.makedirs(folder, exist_ok=True)
         handle = open_locked(path)
     if handle is None:
@@ -203,7 +205,7 @@ def judge_command(args: argparse.Namespace, program_name: str) -> int:
 def judge_and_report(request: Request, call: PairOptions, program_name: str) -> Verdict:
     """Judge a pair, print the verdict and write its files; return the verdict."""
     out, staging_folder = call.out, call.staging_folder or call.out
-    is_output_taken = any(path in OWN_OUTPUT for path in (call.json, call.csv, call.junit))
+    is_output_taken = any(path in STANDARD_OUTPUTS for path in (call.json, call.csv, call.junit))
     printer = Printer(Progress(), is_output_taken)
     printer.before_last_line = ignore_signals  # so that the last line agrees with the exit status
     printer.is_quiet = call.is_quiet
@@ -216,7 +218,7 @@ def judge_and_report(request: Request, call: PairOptions, program_name: str) -> 
     verdict.is_kept = call.is_kept
     name = call.name or pair_name(request.stl)
     refuse_outputs(call, request, staging_folder, name)
-    with temporary_folder("subttx-qc-") as folder, claim_pair(
+    with make_temporary_folder("subttx-qc-") as folder, claim_pair(
             None if call.is_claimed else staging_folder, name):
         if staging_folder is not None and not call.is_claimed:
             remove_results(staging_folder, name)
@@ -234,7 +236,7 @@ def judge_and_report(request: Request, call: PairOptions, program_name: str) -> 
 def stamp_inputs(request: Request) -> dict[str, Stamp | None]:
     """Return the stamps of the files of a pair that are read more than once."""
     names = request.stl, request.recording, request.severity
-    return {name: stamp_of(name) for name in names if name}
+    return {name: read_stamp(name) for name in names if name}
 
 
 def new_verdict(request: Request, listener: Listener) -> Verdict:
@@ -249,7 +251,7 @@ def refuse_outputs(call: PairOptions, request: Request, out: str | None, name: s
     for path in (call.json, call.csv, call.junit):
         if path:
             inputs.refuse(path, True)
-            refuse_name(path)
+            refuse_output_name(path)
     if out is not None and not call.is_claimed:
         refuse_pair_files(out, name, inputs)
 
@@ -265,8 +267,8 @@ def judge_pair(pair: PairJudge, files: OutputFiles) -> None:
         verdict.unjudged = Unjudged(unclear.reason, unclear.commands,
                                     isinstance(unclear, IncompleteAnswer))
     except Exception as reason:  # any error makes the pair not judged
-        verdict.unjudged = Unjudged(error_line(reason), is_temporary=isinstance(
-            reason, (Unanswered, OSError, MemoryError)))
+        verdict.unjudged = Unjudged(format_error(reason), is_temporary=isinstance(
+            reason, (ProgramInterrupted, OSError, MemoryError)))
     except KeyboardInterrupt:
         ignore_signals()  # so that the known faults can be written
         verdict.unjudged = Unjudged(f"stopped at {pair.stop(now())}", is_stopped=True)
@@ -275,7 +277,7 @@ def judge_pair(pair: PairJudge, files: OutputFiles) -> None:
         files.write(pair.recording)
     except KeyboardInterrupt as reason:
         ignore_signals()
-        verdict.failed_outputs.append(error_line(reason))
+        verdict.failed_outputs.append(format_error(reason))
         files.write(pair.recording)
 
 
@@ -285,14 +287,14 @@ def report_pair(verdict: Verdict, printer: Printer, files: OutputFiles) -> None:
         print_verdict(verdict, printer, files.page)
     except KeyboardInterrupt as reason:
         ignore_signals()
-        verdict.failed_outputs.append(error_line(reason))
+        verdict.failed_outputs.append(format_error(reason))
         files.write_again()
         print_verdict(verdict, printer, files.page)
     except Exception as reason:
-        verdict.failed_outputs.append(error_line(reason))
+        verdict.failed_outputs.append(format_error(reason))
         files.write_again()
-        tell(verdict.failed_outputs[-1])
-        silence(printer.out)
+        print_stderr(verdict.failed_outputs[-1])
+        discard_output(printer.out)
 
 
 def handle_signals() -> None:
@@ -407,7 +409,7 @@ class OutputFiles:
     def find_changes(self) -> None:
         """Withdraw the verdict if a file has changed: it was read several times, so it is unknown
         which bytes were judged."""
-        changed = [name for name, stamp in self.stamps.items() if stamp_of(name) != stamp]
+        changed = [name for name, stamp in self.stamps.items() if read_stamp(name) != stamp]
         if changed:
             self.stamps = {}  # it is reported once
             self.verdict.failed_outputs += [
@@ -426,7 +428,7 @@ class OutputFiles:
         try:
             self.write_output(output)
         except Exception as reason:
-            self.verdict.failed_outputs.append(error_line(reason))
+            self.verdict.failed_outputs.append(format_error(reason))
             if output.is_json and not isinstance(reason, (Stop, OSError)):
                 known = make_unjudged(self.names.name, self.verdict.unjudged_reason or "")
                 self.write_output(output._replace(make_chunks=lambda: iter([result_bytes(known)])))
@@ -441,7 +443,7 @@ class OutputFiles:
         outputs += self.list_raw_outputs(recording) if names.out else []
         if not call.json and not names.json_path:
             return outputs
-        program = about_program(self.command_paths.program_path)
+        program = describe_program(self.command_paths.program_path)
 
         def page() -> Iterator[bytes]:
             from ..report.page import make_report_page  # not loaded by most calls
@@ -484,14 +486,14 @@ class OutputFiles:
     @staticmethod
     def write_output(output: Output) -> None:
         """Write a file completely or not at all."""
-        with result_file(output.path) if output.is_result else whole_file(output.path) as file:
+        with open_result(output.path) if output.is_result else open_output(output.path) as file:
             for chunk in output.make_chunks():
                 file.write(chunk)
 
 
 def encode_text(text: str) -> bytes:
     """Encode the text of a JSON result, escaping bytes of file names that are not UTF-8."""
-    return ESCAPED.sub(lambda found: "\\" + escaped(found[0]), text).encode()
+    return ESCAPED.sub(lambda found: "\\" + escape_character(found[0]), text).encode()
 
 
 def pair_title(request: Request) -> str:

@@ -13,7 +13,7 @@ import statistics
 from typing import Hashable, Iterable, Iterator, Mapping, NamedTuple, Sequence
 
 from ..common.command_line import Lateness
-from ..common.times import EARLY, TICKS, wrapped
+from ..common.times import EARLY_TICKS, TICKS, wrap_pts
 from ..stream.packets import HEADER, Packets, PageChange, Range, Texts
 
 
@@ -24,9 +24,9 @@ from ..stream.packets import HEADER, Packets, PageChange, Range, Texts
 VOTES = 1_000_000  # most pairs of cues and page changes to compare
 REPEATED = 20  # most cues with the same text to compare by their text
 TRIED = 64  # most origins to compare with all cues
-MOST_CUE_OFFSET = 50  # most frames of delay between in-cues and out-cues
-MOST_BASES = 32  # most time bases to search
-MOST_ERASED = 5  # most frames between erasing a page and repeating its text
+MAX_CUE_OFFSET = 50  # most frames of delay between in-cues and out-cues
+MAX_BASES = 32  # most time bases to search
+MAX_ERASED = 5  # most frames between erasing a page and repeating its text
 
 
 class ExpectedSubtitle(NamedTuple):
@@ -115,12 +115,12 @@ class TimeBase:
         self.frames = [cue.frame for cue in cues]
         self.first, self.sent = first, (first, last)
         if within:
-            offsets = [(wrapped(change.pts - first) + TICKS // 2) % TICKS - TICKS // 2
+            offsets = [(wrap_pts(change.pts - first) + TICKS // 2) % TICKS - TICKS // 2
                        for change in changes]
-            near = sorted(ticks for ticks in offsets if abs(ticks) < EARLY)
-            self.first = wrapped(first + (near[len(near) // 2] if near else 0))
+            near = sorted(ticks for ticks in offsets if abs(ticks) < EARLY_TICKS)
+            self.first = wrap_pts(first + (near[len(near) // 2] if near else 0))
             changes = list(self.changes_by_frame(changes))
-        erased_frames = min([MOST_ERASED] + [
+        erased_frames = min([MAX_ERASED] + [
             third.frame - second.frame - 1 for cue, second, third in zip(cues, cues[1:], cues[2:])
             if cue.letters == third.letters and not second.letters])
         self.changes: dict[int, MatchedChange] = {}
@@ -139,8 +139,8 @@ class TimeBase:
 
     def split_distance(self, pts: int) -> tuple[int, int]:
         """Return the whole frames from the first PTS to another, and the remaining ticks."""
-        early = EARLY if self.within else TICKS // 2
-        frames, ticks = divmod(wrapped(pts - self.first + early), TICKS)
+        early = EARLY_TICKS if self.within else TICKS // 2
+        frames, ticks = divmod(wrap_pts(pts - self.first + early), TICKS)
         return frames, ticks - early
 
     def copy_between(self, cues: Sequence[ExpectedCue], low: int, high: int) -> TimeBase:
@@ -227,7 +227,7 @@ class TimeBase:
         rest = ticks[len(ticks) // 2] if ticks and not self.within else 0
         matches = {cue.frame for cue, _ in pairs}
         unmatched = (cue.frame for cue in inside if cue.frame not in matches)
-        return OriginFit(wrapped(self.first + rest - TICKS * start), len(pairs), len(equal),
+        return OriginFit(wrap_pts(self.first + rest - TICKS * start), len(pairs), len(equal),
                          sum(cue.letters != b"" for cue in equal),
                          len(ticks) if self.within else ticks.count(rest), len(inside),
                          next((cue.frame for cue in equal if cue.letters), None),
@@ -240,7 +240,7 @@ class TimeBase:
             if before_offset.total and before_offset.matches * 2 >= before_offset.total:
                 continue
             best = max((self.count_delayed(fit, is_begin, late)
-                        for late in range(-MOST_CUE_OFFSET, MOST_CUE_OFFSET + 1)),
+                        for late in range(-MAX_CUE_OFFSET, MAX_CUE_OFFSET + 1)),
                        key=lambda cue_offset: (cue_offset.matches, -abs(cue_offset.late)))
             least = 1 if is_begin or fit.text_matches else 2  # any page may be erased
             if abs(best.late) > self.within and best.matches >= least and \
@@ -280,7 +280,7 @@ def find_repeat(changes: Sequence[PageChange], at: int, most: int) -> int | None
     if not text.letters or not after or after[0].letters:
         return None
     near = itertools.takewhile(
-        lambda change: wrapped(change.pts - after[0].pts) <= TICKS * most, after)
+        lambda change: wrap_pts(change.pts - after[0].pts) <= TICKS * most, after)
     return next((at + away for away, change in enumerate(near, 1) if change.rows == text.rows),
                 None)
 
@@ -310,7 +310,7 @@ def select_time_bases(packets: Packets, inside: Range) -> list[tuple[range, Sequ
         first, end = (bisect.bisect_left(numbers, at) for at in (base.start, base.stop))
         if first < end:
             candidates.append((base, packets.changes[first:end]))
-    most = heapq.nlargest(MOST_BASES, candidates, key=lambda candidate: len(candidate[1]))
+    most = heapq.nlargest(MAX_BASES, candidates, key=lambda candidate: len(candidate[1]))
     selected = {base for base, _ in most}
     return [candidate for candidate in candidates if candidate[0] in selected]
 
@@ -407,8 +407,8 @@ def find_likeliest_clock(base: TimeBase, fit: OriginFit, late: Lateness) -> Orig
 FEW_TEXTS = 6  # least number of texts that are expected once and sent once
 LEAST_DRIFT = 2  # frames
 NEAR_LINE = 1.5  # most frames between a delay and the line
-MOST_OFF = 10  # at most 1/10 of the delays may be farther from the line
-MOST_LEFT = 5  # most variance around the line: 1/5 of all; a single step would leave 1/4
+MAX_OFF = 10  # at most 1/10 of the delays may be farther from the line
+MAX_LEFT = 5  # most variance around the line: 1/5 of all; a single step would leave 1/4
 
 
 class Drift(NamedTuple):
@@ -429,7 +429,7 @@ def find_drift(cues: Sequence[ExpectedCue], changes: Mapping[int, MatchedChange]
         return None
     at = {frame: sent[letters] - frame for letters, frame in due.items() if letters in sent}
     near = select_near_line([(frame, at[frame]) for frame in frames])
-    if (len(frames) - len(near)) * MOST_OFF > len(frames):
+    if (len(frames) - len(near)) * MAX_OFF > len(frames):
         return None
     times, delays = [frame for frame, _ in near], [delay for _, delay in near]
     middle, usual = statistics.fmean(times), statistics.fmean(delays)
@@ -437,7 +437,7 @@ def find_drift(cues: Sequence[ExpectedCue], changes: Mapping[int, MatchedChange]
         (frame - middle) ** 2 for frame in times)
     drift = slope * (times[-1] - times[0])
     left = sum((delay - usual - slope * (frame - middle)) ** 2 for frame, delay in near)
-    if abs(drift) < LEAST_DRIFT or left * MOST_LEFT > sum((delay - usual) ** 2 for delay in delays):
+    if abs(drift) < LEAST_DRIFT or left * MAX_LEFT > sum((delay - usual) ** 2 for delay in delays):
         return None
     return Drift(times[0], times[-1], round(drift))
 

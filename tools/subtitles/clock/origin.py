@@ -4,7 +4,7 @@ from __future__ import annotations
 import dataclasses
 from typing import Collection, Iterator, NamedTuple, Sequence
 
-from ..common.command_line import Lateness, Stop, counted, range_words
+from ..common.command_line import Lateness, Stop, counted, format_frame_range
 from ..common.times import (
     ALL_DAY, Between, FRAMES_A_SECOND, TICKS, ticks_after, ticks_between, ticks_within, time_in,
     time_of)
@@ -12,7 +12,7 @@ from ..formats.stl import page_letter_codes, read_until_damage, read_stl, subtit
 from ..formats.teletext import Page, page_name
 from ..stream.packets import Packets, Range, STRAY, alternating_subcodes, subpage_text
 from .alignment import (
-    Drift, EarlyCues, ExpectedSubtitle, MOST_BASES, MOST_CUE_OFFSET, OriginFit, TimeBase,
+    Drift, EarlyCues, ExpectedSubtitle, MAX_BASES, MAX_CUE_OFFSET, OriginFit, TimeBase,
     find_drift, find_time_bases)
 from .stretches import (
     Airing, EstimatedPart, LEAST_ROW, Stretch, find_airings, find_stretches, fit_parts,
@@ -107,8 +107,8 @@ def estimate_origin(search: OriginSearch, packets: Packets) -> OriginEstimate:
     if not bases:
         origin.lines += [*explain_mismatch(packets, search.page), "no cue matches at any origin"]
         return origin
-    if (count := len(packets.time_bases())) > MOST_BASES:
-        origin.lines.append(f"PTS go back at {count - 1} places: only the {MOST_BASES} stretches "
+    if (count := len(packets.time_bases())) > MAX_BASES:
+        origin.lines.append(f"PTS go back at {count - 1} places: only the {MAX_BASES} stretches "
                             "between them with the most page changes are searched")
     airings = find_airings(bases, search.origin is not None)
     if len(airings) > 1:
@@ -270,7 +270,7 @@ def find_equal_origins(part: EstimatedPart) -> list[OriginFit]:
     best, cue_offset = part.best, part.sent.find_cue_offset(part.best)
     ways = (True,) if best.matches >= LEAST_ROW else (True, False)
     return [fit for fit in part.others if any(fit.score(one) >= best.score(one) for one in ways)
-            and not (cue_offset and (abs(fit.start - best.start) <= MOST_CUE_OFFSET
+            and not (cue_offset and (abs(fit.start - best.start) <= MAX_CUE_OFFSET
                                      or not fit.text_matches))]
 
 
@@ -299,7 +299,7 @@ def part_lines(part: EstimatedPart, count: int, has_picture: bool = False) -> It
     if part.sent.within:
         late = sorted(best.delays)
         yield "no cue is late" if not late[-1] else f"cues are " \
-            f"{range_words(late[0], late[-1])} late (median {late[len(late) // 2]})"
+            f"{format_frame_range(late[0], late[-1])} late (median {late[len(late) // 2]})"
     equal, cue_offset = find_equal_origins(part), part.sent.find_cue_offset(best)
     if equal:
         names = ", ".join(f"--origin {fit.origin}" for fit in equal[:NAMED])

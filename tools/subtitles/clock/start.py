@@ -4,11 +4,11 @@ from __future__ import annotations
 import collections
 from typing import NamedTuple, Sequence
 
-from ..common.command_line import counted, pid_name, shown
-from ..common.files import first_bytes
+from ..common.command_line import counted, format_pid, escape_hidden
+from ..common.files import read_first_bytes
 from ..common.times import (
-    ALL_DAY, Between, EARLY, TICKS, frame_in, frame_of, frame_of_code, ticks_after, ticks_between,
-    time_of, wrapped)
+    ALL_DAY, Between, EARLY_TICKS, TICKS, frame_in, frame_of, frame_of_code, ticks_after,
+    ticks_between, time_of, wrap_pts)
 from ..formats.stl import GSI
 from ..request.request import ORIGIN_CHOICE, Request, Selection, Unclear
 from ..stream.packets import Packets, Range
@@ -91,7 +91,7 @@ OTHERS = {0x10: "MPEG-4 part 2", 0x1E: "MPEG-C", 0x1F: "SVC", 0x20: "MVC", 0x21:
           0xD1: "Dirac", 0xD2: "AVS2", 0xD4: "AVS3", 0xEA: "VC-1"}
 TCP_PLACE = slice(256, 264)  # in the GSI block
 FRAMES_NEAR = 25  # most frames from the last PCR to the last picture
-MOST_SAMPLES = 1000  # most PTS of Teletext to compare with the first picture
+MAX_SAMPLES = 1000  # most PTS of Teletext to compare with the first picture
 REORDERED = 16  # most pictures that are sent before a picture that is shown earlier
 LONGEST = 10 * 90_000  # most ticks of pictures to compare
 CLOSED = "closed"  # a closed group of pictures
@@ -125,7 +125,7 @@ class FirstPicture(NamedTuple):
             f"; pictures of its group before it, from PTS {self.other} on ({frames}), can't be " \
             "decoded"
         return (f"the first picture has PTS {self.pts}, {NAMES[self.kind]} of "
-                f"{pid_name(self.pid)}; {counted(self.skipped, 'PES packet')} of video before it "
+                f"{format_pid(self.pid)}; {counted(self.skipped, 'PES packet')} of video before it "
                 f"skipped{more}")
 
 
@@ -142,14 +142,14 @@ def find_video(survey: Survey, teletext: int) -> tuple[int, int]:
     there is none or more than one."""
     programmes = survey.programmes_of(teletext)
     if not programmes:
-        raise NoFirstPicture(f"no PMT names {pid_name(teletext)}")
+        raise NoFirstPicture(f"no PMT names {format_pid(teletext)}")
     kinds = {pid: kind for program_map in programmes for pid, kind in program_map.kinds.items()}
     known = NAMES | OTHERS
-    there = ", ".join(f"{pid_name(pid)} {known.get(kind, f'stream_type {kind:02X}')}"
+    there = ", ".join(f"{format_pid(pid)} {known.get(kind, f'stream_type {kind:02X}')}"
                       for pid, kind in sorted(kinds.items()))
     videos = {pid: kind for pid, kind in kinds.items() if kind in known}
     if len(videos) != 1:
-        raise NoFirstPicture(f"the PMT that names {pid_name(teletext)} has "
+        raise NoFirstPicture(f"the PMT that names {format_pid(teletext)} has "
                              f"{'several video PIDs' if videos else 'no video'}: {there}")
     pid, kind = videos.popitem()
     if kind not in NAMES:
@@ -164,11 +164,11 @@ def find_first_picture(survey: Survey, teletext: int) -> FirstPicture:
     its group if pictures that are shown before it can be decoded.
     """
     pid, kind = find_video(survey, teletext)
-    name, video = f"{NAMES[kind]} of {pid_name(pid)}", survey.videos.get(pid)
+    name, video = f"{NAMES[kind]} of {format_pid(pid)}", survey.videos.get(pid)
     if video is None and not survey.is_complete:
         raise NoFirstPicture(f"no PES packet of {name} had the random_access_indicator so far")
     if video is None:
-        raise NoFirstPicture(f"{pid_name(pid)}, which the PMT names as {NAMES[kind]}, has no PES "
+        raise NoFirstPicture(f"{format_pid(pid)}, which the PMT names as {NAMES[kind]}, has no PES "
                              "packets of video that can be read")
     if not video.pictures:
         raise NoFirstPicture(f"none of {counted(video.skipped, 'PES packet')} of {name} has the "
@@ -198,7 +198,7 @@ def count_skipped(pts: list[int], is_cut: bool) -> int:
     if is_cut or shown_at[-1] - shown_at[0] > LONGEST:
         del shown_at[-REORDERED:]
     steps = [second - first for first, second in zip(shown_at, shown_at[1:])]
-    return sum(round(step / TICKS) - 1 for step in steps if step > TICKS + EARLY)
+    return sum(round(step / TICKS) - 1 for step in steps if step > TICKS + EARLY_TICKS)
 
 
 def has_first_picture(survey: Survey, teletext: int) -> bool:
@@ -221,10 +221,10 @@ def find_frame_offset(packets: Packets, pts: int, within: int) -> int:
     """Return the commonest distance, 0 to 3599 ticks, from the frames of a picture's PTS to the PTS
     of Teletext. With `within`, prefer distances near 0: fields have two PTS."""
     ticks: collections.Counter[int] = collections.Counter()
-    for _, (sent, _) in zip(range(MOST_SAMPLES), ((sent, 0) for sent in packets.pts())):
+    for _, (sent, _) in zip(range(MAX_SAMPLES), ((sent, 0) for sent in packets.pts())):
         ticks[ticks_after(pts, sent) % TICKS] += 1
     known = [rest for rest, _ in ticks.most_common()]
-    near = [rest for rest in known if rest <= EARLY or rest >= TICKS - EARLY]
+    near = [rest for rest in known if rest <= EARLY_TICKS or rest >= TICKS - EARLY_TICKS]
     return (near if within and near else known)[0]
 
 
@@ -234,11 +234,12 @@ def read_start_frame(request: Request) -> int:
         frame = frame_of(request.start or "")
         assert frame is not None  # the command line was checked
         return frame
-    code = first_bytes(request.stl_path, GSI)[TCP_PLACE].decode("latin-1")
+    code = read_first_bytes(request.stl_path, GSI)[TCP_PLACE].decode("latin-1")
     is_code = code.isascii() and code.isdecimal() and len(code) == 8
     first = frame_of_code(int(code[at:at + 2]) for at in range(0, 8, 2)) if is_code else None
     if first is None:
-        raise Unclear(f"the TCP in the GSI block of {request.stl} is not a time: {shown(code)!r}")
+        raise Unclear(f"the TCP in the GSI block of {request.stl} is not a time: "
+                      f"{escape_hidden(code)!r}")
     return first
 
 
@@ -250,7 +251,7 @@ def compute_start_clock(request: Request, survey: Survey, packets: Packets) -> S
         raise Unclear(f"{first.line()}. The PTS of the Teletext are half a frame later, so it is "
                       "not clear to which frame they belong")
     ticks = after if after * 2 < TICKS else after - TICKS
-    moved = wrapped(first.pts - TICKS * frame + ticks)
+    moved = wrap_pts(first.pts - TICKS * frame + ticks)
     source = TCP if request.start == TCP else START
     name = f"the TCP {time_of(frame)}" if source == TCP else f"--start {time_of(frame)}"
     said = "which matches the PTS of the Teletext" if not ticks else \
@@ -276,12 +277,12 @@ def refuse_outside(request: Request, began: StartClock, begin: int, end: int,
 # PTS that are not whole frames from the origin (61)
 
 MILLISECOND = 90  # ticks
-MOST_PTS = 100_000  # most PTS to compare
+MAX_PTS = 100_000  # most PTS to compare
 
 
 def find_largest_offset(several: Sequence[int], origin: int) -> int:
     """Return the largest distance in ticks from a PTS to its nearest frame."""
-    rests = (ticks_after(origin, pts) % TICKS for pts in several[:MOST_PTS])
+    rests = (ticks_after(origin, pts) % TICKS for pts in several[:MAX_PTS])
     return max((min(rest, TICKS - rest) for rest in rests), default=0)
 
 

@@ -19,7 +19,7 @@ NEW_TRACK = LEAST_ROW - 1  # cost of a change of track, in points
 LEAST_BREAK = 5 * FRAMES_A_SECOND  # shortest break; anything shorter is a delay
 LEAST_GAP = 60 * FRAMES_A_SECOND  # shortest jump of the file's time codes at a break
 TEXT_POINTS = 3  # points of a cue whose expected text comes
-MOST_COMPARED = 500  # most cues to compare with each other
+MAX_COMPARED = 500  # most cues to compare with each other
 TRIED_TIMES = 8  # most origins to compare by the times of cues alone
 LEAST_CUES = 10  # fewest cues of an airing by times alone; twice as many with --within N
 Place = tuple[int, int]  # number of a time base, and frames after its first PTS
@@ -323,7 +323,7 @@ def is_repeated_airing(bases: Sequence[TimeBase], first: dict[int, Place],
 
 def have_equal_steps(frames: Sequence[int]) -> bool:
     """Return whether half of the first frames have another frame at the same distance."""
-    frames = frames[:MOST_COMPARED]
+    frames = frames[:MAX_COMPARED]
     counts = collections.Counter(second - first for first, second in itertools.combinations(
         frames, 2))
     return max(counts.values(), default=0) * 2 >= len(frames)

@@ -18,9 +18,9 @@ from .times import CLOCK, frame_of
 HIDDEN = re.compile("[\x00-\x1f\x7f-\x9f\u061c\u200e\u200f\u2028-\u202e\u2066-\u2069"
                     "\ud800-\udfff\ufffe\uffff]")
 INSTALLED = "subttx-"  # prefix of installed tools
-MOST_EVERY = 2_160_000  # frames of --every and --pace: a day
-MOST_WITHIN = 50  # frames
-MOST_DIGITS = 3  # of --breaks
+MAX_EVERY = 2_160_000  # frames of --every and --pace: a day
+MAX_WITHIN = 50  # frames
+MAX_DIGITS = 3  # of --breaks
 TCP_WORD = "tcp"  # --start by the GSI block
 NO_PID = 0x1FFF  # of null packets
 PACKET_SIZE, PACKET_SIZES = 188, (188, 192, 204)  # bytes from one TS packet to the next
@@ -31,7 +31,7 @@ class Stop(Exception):
     """The tool can't go on: the text is printed on standard error, the status is 2."""
 
 
-class Unanswered(Stop):
+class ProgramInterrupted(Stop):
     """The program ended before its answer was complete, as when it is killed: try again."""
 
 
@@ -44,7 +44,7 @@ def version() -> str:
         return "of an unknown version"
 
 
-class Words(argparse.ArgumentParser):
+class ToolParser(argparse.ArgumentParser):
     """A parser with the tool's own text as its help; wrong arguments raise `Stop`. Without a text
     it has no --help, as for a line of a list."""
 
@@ -89,7 +89,7 @@ class Words(argparse.ArgumentParser):
         raise Stop(message)
 
 
-def page_in(text: str) -> tuple[int, int] | None:
+def decode_page(text: str) -> tuple[int, int] | None:
     """Return the magazine and the number of a page as 888; `None` if the text names none."""
     if len(text) != 3 or text[0] not in "12345678":
         return None
@@ -100,16 +100,16 @@ def page_in(text: str) -> tuple[int, int] | None:
     return None if page == 0xFF else (int(text[0]) % 8, page)
 
 
-def page_word(text: str) -> tuple[int, int]:
+def parse_page(text: str) -> tuple[int, int]:
     """Parse a page as 888: its magazine (0 is 8) and its number."""
-    page = page_in(text)
+    page = decode_page(text)
     if page is None:
         raise argparse.ArgumentTypeError(f"{text} is not a page: give a digit 1 to 8 and two "
                                          "hexadecimal digits other than FF, as 888")
     return page
 
 
-def time_word(text: str) -> int:
+def parse_time(text: str) -> int:
     """Parse a time of the day to its frame."""
     frame = frame_of(text)
     if frame is None:
@@ -118,7 +118,7 @@ def time_word(text: str) -> int:
     return frame
 
 
-def number_word(text: str, least: int, most: int, refusal: str) -> int:
+def parse_number(text: str, least: int, most: int, refusal: str) -> int:
     """Return a decimal number within bounds; leading zeros change nothing."""
     digits = text.lstrip("0") or "0"
     is_number = text.isascii() and text.isdecimal() and len(digits) <= len(str(most))
@@ -127,12 +127,12 @@ def number_word(text: str, least: int, most: int, refusal: str) -> int:
     return int(digits)
 
 
-def origin_word(text: str) -> int:
+def parse_origin(text: str) -> int:
     """Parse a PTS."""
-    return number_word(text, 0, CLOCK - 1, f"PTS: give 0 to {CLOCK - 1}")
+    return parse_number(text, 0, CLOCK - 1, f"PTS: give 0 to {CLOCK - 1}")
 
 
-def range_word(text: str) -> tuple[int, int]:
+def parse_packet_range(text: str) -> tuple[int, int]:
     """Parse the numbers of the first and the last PES packet."""
     found = re.fullmatch(r"(\d{1,12})-(\d{1,12})", text, re.ASCII)
     if not found or int(found[1]) > int(found[2]):
@@ -140,30 +140,30 @@ def range_word(text: str) -> tuple[int, int]:
     return int(found[1]), int(found[2])
 
 
-def every_word(text: str) -> int:
+def parse_repeat_interval(text: str) -> int:
     """Parse the maximum repeat interval, in frames."""
-    return number_word(text, 1, MOST_EVERY, f"repeat interval: give 1 to {MOST_EVERY} frames")
+    return parse_number(text, 1, MAX_EVERY, f"repeat interval: give 1 to {MAX_EVERY} frames")
 
 
-def pace_word(text: str) -> int:
+def parse_pes_interval(text: str) -> int:
     """Parse the maximum PES interval, in frames."""
-    return number_word(text, 1, MOST_EVERY, f"PES interval: give 1 to {MOST_EVERY} frames")
+    return parse_number(text, 1, MAX_EVERY, f"PES interval: give 1 to {MAX_EVERY} frames")
 
 
-def within_word(text: str) -> int:
+def parse_within(text: str) -> int:
     """Parse the frames after which a page has to be complete."""
-    return number_word(text, 0, MOST_WITHIN, f"number of frames: give 0 to {MOST_WITHIN}")
+    return parse_number(text, 0, MAX_WITHIN, f"number of frames: give 0 to {MAX_WITHIN}")
 
 
-def breaks_word(text: str) -> int:
+def parse_break_count(text: str) -> int:
     """Parse a number of breaks."""
-    if not (text.isascii() and text.isdecimal() and len(text) <= MOST_DIGITS):
+    if not (text.isascii() and text.isdecimal() and len(text) <= MAX_DIGITS):
         raise argparse.ArgumentTypeError(f"{text} is not a number of breaks: give 0 to "
-                                         f"{10 ** MOST_DIGITS - 1}")
+                                         f"{10 ** MAX_DIGITS - 1}")
     return int(text)
 
 
-def start_word(text: str) -> str:
+def parse_start(text: str) -> str:
     """Check the time code of the first picture, or `tcp`."""
     if text != TCP_WORD and frame_of(text) is None:
         raise argparse.ArgumentTypeError(
@@ -171,7 +171,7 @@ def start_word(text: str) -> str:
     return text
 
 
-def pid_word(text: str) -> int:
+def parse_pid(text: str) -> int:
     """Parse a PID, decimal or as 0x101."""
     try:
         pid = int(text, 0)
@@ -182,12 +182,12 @@ def pid_word(text: str) -> int:
     return pid
 
 
-def pid_name(pid: int) -> str:
+def format_pid(pid: int) -> str:
     """Return a PID as all tools print it."""
     return f"PID 0x{pid:X}"
 
 
-def stream_words(pid: int | None, packet_size: int = PACKET_SIZE) -> list[str]:
+def stream_options(pid: int | None, packet_size: int = PACKET_SIZE) -> list[str]:
     """Return the program's options for a PID of a transport stream; none for PES packets."""
     if pid is None:
         return []
@@ -197,7 +197,7 @@ def stream_words(pid: int | None, packet_size: int = PACKET_SIZE) -> list[str]:
 
 # The usual delays of an inserter.
 
-MOST_SHARE = 1_000_000  # a share may be a count, or a percentage
+MAX_SHARE = 1_000_000  # a share may be a count, or a percentage
 SHARE = re.compile(r"([0-9]{1,2}):([0-9]{1,7})", re.ASCII)
 
 
@@ -214,32 +214,32 @@ class Lateness(NamedTuple):
         return max(*self.begins, *self.ends)
 
 
-def late_word(text: str) -> Lateness:
+def parse_lateness(text: str) -> Lateness:
     """Parse `0:31,1:40,2:29/0:100`: the shares of in-cues, after the slash of out-cues."""
     kinds = text.split("/")
     if len(kinds) != 2:
         raise argparse.ArgumentTypeError(
             f"{text} has no shares of delays: give in-cues, a slash and out-cues, as "
             "0:31,1:40,2:29/0:100")
-    return Lateness(*(shares_in(kind) for kind in kinds))
+    return Lateness(*(parse_shares(kind) for kind in kinds))
 
 
-def shares_in(text: str) -> dict[int, int]:
+def parse_shares(text: str) -> dict[int, int]:
     """Parse `0:31,1:40`: the share of each delay, delays rising."""
     shares: dict[int, int] = {}
     for piece in text.split(","):
         found = SHARE.fullmatch(piece)
         delay, share = map(int, found.groups()) if found else (-1, 0)
-        if not 0 <= delay <= MOST_WITHIN or not 1 <= share <= MOST_SHARE or \
+        if not 0 <= delay <= MAX_WITHIN or not 1 <= share <= MAX_SHARE or \
                 delay <= max(shares, default=-1):
             raise argparse.ArgumentTypeError(
-                f"{piece!r} is not a delay and its share: give 0 to {MOST_WITHIN} frames and 1 to "
-                f"{MOST_SHARE}, as 1:40, the delays rising")
+                f"{piece!r} is not a delay and its share: give 0 to {MAX_WITHIN} frames and 1 to "
+                f"{MAX_SHARE}, as 1:40, the delays rising")
         shares[delay] = share
     return shares
 
 
-def late_text(late: Lateness) -> str:
+def format_lateness(late: Lateness) -> str:
     """Format shares of delays as they are typed."""
     return "/".join(",".join(f"{delay}:{share}" for delay, share in kind.items())
                     for kind in late)
@@ -247,19 +247,19 @@ def late_text(late: Lateness) -> str:
 
 # Options that several tools have.
 
-def add_page(parser: Words) -> None:
+def add_page(parser: ToolParser) -> None:
     """Add the option --page, 888 by default."""
-    parser.add_argument("--page", type=page_word, default=(0, 0x88), metavar="P",
+    parser.add_argument("--page", type=parse_page, default=(0, 0x88), metavar="P",
                         help="judge page P (default: 888)")
 
 
-def add_program(parser: Words) -> None:
+def add_program(parser: ToolParser) -> None:
     """Add the option -p, the program to run."""
     parser.add_argument("-p", dest="program", metavar="PROGRAM",
                         help="run this program (default: the one of ./subttx)")
 
 
-def add_verbose(parser: Words) -> None:
+def add_verbose(parser: ToolParser) -> None:
     """Add the option -v."""
     parser.add_argument("-v", dest="is_verbose", action="store_true",
                         help="print a line for each, also if it passed")
@@ -270,76 +270,76 @@ def counted(count: int, thing: str) -> str:
     return f"{count} {thing}" if count == 1 else f"{count} {thing}s"
 
 
-def range_words(least: int, most: int) -> str:
+def format_frame_range(least: int, most: int) -> str:
     """Return a range of frames: `1 frame`, `0 to 2 frames`."""
     return counted(most, "frame") if least == most else f"{least} to {counted(most, 'frame')}"
 
 
-def shown(text: str) -> str:
+def escape_hidden(text: str) -> str:
     """Return a text for terminals and text files: control characters, characters that change the
     writing direction, and bytes that are not UTF-8 become as \\x1b."""
-    return HIDDEN.sub(lambda found: escaped(found[0]), text)
+    return HIDDEN.sub(lambda found: escape_character(found[0]), text)
 
 
-def shown_lines(text: str) -> str:
-    """Return a text of several lines like `shown`, for pages and tables."""
-    return "\n".join(map(shown, text.split("\n")))
+def escape_hidden_lines(text: str) -> str:
+    """Return a text of several lines like `escape_hidden`, for pages and tables."""
+    return "\n".join(map(escape_hidden, text.split("\n")))
 
 
-def escaped(letter: str) -> str:
+def escape_character(letter: str) -> str:
     """Return a character as its number, or as its byte if it is not UTF-8."""
     code = ord(letter)
     is_byte = 0xDC80 <= code <= 0xDCFF
     return f"\\x{code & 0xFF:02x}" if is_byte or code < 0x80 else f"\\u{code:04x}"
 
 
-def quoted(word: str) -> str:
+def quote_argument(word: str) -> str:
     """Quote a word for a shell; like bash, if it has hidden characters."""
     if not HIDDEN.search(word):
         return shlex.quote(word)
-    return "$'" + shown(word.replace("\\", "\\\\").replace("'", "\\'")) + "'"
+    return "$'" + escape_hidden(word.replace("\\", "\\\\").replace("'", "\\'")) + "'"
 
 
-def say(line: str) -> None:
+def print_stdout(line: str) -> None:
     """Print a line on standard output at once."""
-    print(shown(line), flush=True)
+    print(escape_hidden(line), flush=True)
 
 
-def tell(line: str) -> None:
+def print_stderr(line: str) -> None:
     """Print a line on standard error, after earlier output. No status depends on standard error: it
     may be closed, or on a full disk."""
     with contextlib.suppress(OSError, AttributeError):  # it is closed
         sys.stdout.flush()  # `run` reports an error
     try:
-        sys.stderr.write(f"{os.path.basename(sys.argv[0])}: {shown(line)}\n")
+        sys.stderr.write(f"{os.path.basename(sys.argv[0])}: {escape_hidden(line)}\n")
         sys.stderr.flush()
     except (OSError, AttributeError):
-        silence(sys.stderr)
+        discard_output(sys.stderr)
 
 
 def run(main: Callable[[list[str]], int]) -> NoReturn:
     """Call `main` with the arguments of this call and exit with its status."""
-    sys.exit(ended(main, sys.argv[1:]))
+    sys.exit(run_main(main, sys.argv[1:]))
 
 
-def ended(main: Callable[[list[str]], int], words: Sequence[str]) -> int:
+def run_main(main: Callable[[list[str]], int], words: Sequence[str]) -> int:
     """Return the status of `main`, 0 after --help and --version; 2, with one line, if it ends
     early."""
     try:
         if sys.stdout is None:
             raise Stop("standard output is closed")
-        status = answer(main, words)
+        status = call_main(main, words)
         sys.stdout.flush()
     except (Exception, KeyboardInterrupt) as reason:
         status = 2
         with contextlib.suppress(KeyboardInterrupt):  # of a second signal
-            tell(error_line(reason))
+            print_stderr(format_error(reason))
         with contextlib.suppress(KeyboardInterrupt):
-            silence(sys.stdout)
+            discard_output(sys.stdout)
     return status
 
 
-def answer(main: Callable[[list[str]], int], words: Sequence[str]) -> int:
+def call_main(main: Callable[[list[str]], int], words: Sequence[str]) -> int:
     """Return the status of `main`; 0 after --help and --version."""
     try:
         return main([*words])
@@ -347,7 +347,7 @@ def answer(main: Callable[[list[str]], int], words: Sequence[str]) -> int:
         return int(end.code or 0)
 
 
-def error_line(reason: BaseException) -> str:
+def format_error(reason: BaseException) -> str:
     """Return the line for an error that ended a tool. With SUBTTX_DEBUG=1 print the traceback of an
     internal error."""
     if isinstance(reason, KeyboardInterrupt):
@@ -362,10 +362,10 @@ def error_line(reason: BaseException) -> str:
         return text
     if os.environ.get("SUBTTX_DEBUG") == "1":
         traceback.print_exception(reason)
-    return f"internal error: {type(reason).__name__} in {error_place(reason)}: {text}"
+    return f"internal error: {type(reason).__name__} in {locate_error(reason)}: {text}"
 
 
-def error_place(reason: BaseException) -> str:
+def locate_error(reason: BaseException) -> str:
     """Return the file and the line of an error."""
     trace = reason.__traceback__
     while trace and trace.tb_next:
@@ -374,7 +374,7 @@ def error_place(reason: BaseException) -> str:
         if trace else "no line"
 
 
-def silence(out: TextIO | None) -> None:
+def discard_output(out: TextIO | None) -> None:
     """Redirect a stream that failed to /dev/null: Python writes to it once more at exit."""
     with contextlib.suppress(OSError):
         if out is not None:  # None if it was closed from the start

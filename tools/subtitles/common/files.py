@@ -20,19 +20,19 @@ from .command_line import Stop
 # Files that are read: opened without waiting, checked once they are open, read with a limit.
 
 STANDARD = "-"  # standard input or output, as the name of a file
-PIECE = 1 << 20  # bytes of one read, at most
+READ_SIZE = 1 << 20  # bytes of one read, at most
 SPECIAL = ("-", "=", "+", "@")  # the beginning of an option or a formula
-KINDS = ((stat.S_ISDIR, "a folder"), (stat.S_ISFIFO, "a pipe"), (stat.S_ISCHR, "a device"),
-         (stat.S_ISBLK, "a device"), (stat.S_ISLNK, "a link"), (stat.S_ISSOCK, "a socket"))
+FILE_KINDS = ((stat.S_ISDIR, "a folder"), (stat.S_ISFIFO, "a pipe"), (stat.S_ISCHR, "a device"),
+              (stat.S_ISBLK, "a device"), (stat.S_ISLNK, "a link"), (stat.S_ISSOCK, "a socket"))
 
-OF_ERRORS = {errno.ENXIO: "a socket", errno.ELOOP: "a link", errno.EISDIR: "a folder"}
+KINDS_BY_ERROR = {errno.ENXIO: "a socket", errno.ELOOP: "a link", errno.EISDIR: "a folder"}
 
 
 class Damaged(Exception):
     """Bytes that can't be read further; the text says where and why."""
 
 
-Own = TypeVar("Own", bound="Input")
+InputType = TypeVar("InputType", bound="Input")
 
 
 class Input:
@@ -47,20 +47,20 @@ class Input:
     def open(self) -> BinaryIO:
         """Open it."""
         is_standard = self.name == STANDARD
-        with naming(self.name):
+        with name_errors(self.name):
             return open(0 if is_standard else self.name, "rb", buffering=0,
                         closefd=not is_standard)
 
-    def __enter__(self: Own) -> Own:
+    def __enter__(self: InputType) -> InputType:
         return self
 
     def __exit__(self, *_: object) -> None:
         self.file.close()
 
-    def read(self, size: int = PIECE, /) -> bytes:
+    def read(self, size: int = READ_SIZE, /) -> bytes:
         """Return the bytes that are available, at least one before the end: do not wait for a full
         buffer."""
-        with naming(self.name):
+        with name_errors(self.name):
             data: bytes | None = self.file.read(size)
             while data is None:  # nothing has arrived yet
                 if not self.is_stream:
@@ -71,7 +71,7 @@ class Input:
 
 
 @contextlib.contextmanager
-def naming(name: str) -> Iterator[None]:
+def name_errors(name: str) -> Iterator[None]:
     """Give a system's error the name that was typed."""
     try:
         yield
@@ -80,9 +80,9 @@ def naming(name: str) -> Iterator[None]:
         raise
 
 
-def kind_of(mode: int) -> str | None:
+def describe_kind(mode: int) -> str | None:
     """Return what kind of thing has a mode; `None` for a file."""
-    return next((words for is_one, words in KINDS if is_one(mode)), None)
+    return next((words for is_one, words in FILE_KINDS if is_one(mode)), None)
 
 
 class File(Input):
@@ -105,18 +105,18 @@ class File(Input):
         if self.name == STANDARD:
             return super().open()
         try:
-            with naming(self.name):
+            with name_errors(self.name):
                 return open(self.name, "rb", buffering=0, opener=lambda name, _: os.open(
                     name, self.flags))
         except OSError as error:
-            kind = OF_ERRORS.get(error.errno or 0)
+            kind = KINDS_BY_ERROR.get(error.errno or 0)
             if kind is None:
                 raise
             raise Stop(f"{self.name} is {kind}") from None
 
     def look(self, may_be_pipe: bool) -> None:
         """Check that it is a file, or an allowed pipe."""
-        kind = kind_of(os.fstat(self.file.fileno()).st_mode)
+        kind = describe_kind(os.fstat(self.file.fileno()).st_mode)
         self.is_stream = kind is not None
         is_endless = kind not in ("a pipe", "a socket") and not self.file.isatty()
         if kind and (is_endless or not may_be_pipe):
@@ -127,26 +127,27 @@ class File(Input):
             ready.poll()  # until somebody writes to it
 
 
-def first_bytes(name: str, most: int, may_be_pipe: bool = False, is_followed: bool = True) -> bytes:
+def read_first_bytes(name: str, most: int, may_be_pipe: bool = False,
+                     is_followed: bool = True) -> bytes:
     """Return the first bytes of a file."""
     data, left = [], most
     with File(name, may_be_pipe, is_followed) as file:
-        while left and (piece := file.read(min(left, PIECE))):
+        while left and (piece := file.read(min(left, READ_SIZE))):
             data.append(piece)
             left -= len(piece)
     return b"".join(data)
 
 
-def bounded_bytes(name: str, most: int, may_be_pipe: bool = False, is_followed: bool = True) \
+def read_bounded_bytes(name: str, most: int, may_be_pipe: bool = False, is_followed: bool = True) \
         -> bytes:
     """Return all bytes of a file; `Stop` if it has more."""
-    data = first_bytes(name, most + 1, may_be_pipe, is_followed)
+    data = read_first_bytes(name, most + 1, may_be_pipe, is_followed)
     if len(data) > most:
         raise Stop(f"{name} has more than {most:,} bytes")
     return data
 
 
-def pieces_of(name: str, may_be_pipe: bool = False) -> Iterator[bytes]:
+def read_chunks(name: str, may_be_pipe: bool = False) -> Iterator[bytes]:
     """Yield all bytes of a file."""
     with File(name, may_be_pipe) as file:
         yield from iter(file.read, b"")
@@ -155,21 +156,21 @@ def pieces_of(name: str, may_be_pipe: bool = False) -> Iterator[bytes]:
 Stamp = Tuple[int, ...]
 
 
-def stamp_in(about: os.stat_result) -> Stamp:
+def make_stamp(about: os.stat_result) -> Stamp:
     """Return what differs if a name leads to another file, or its file was written to."""
     return about.st_dev, about.st_ino, about.st_size, about.st_mtime_ns, about.st_ctime_ns
 
 
-def stamp_of(path: str) -> Stamp | None:
+def read_stamp(path: str) -> Stamp | None:
     """Return the stamps of a file and of the link to it, if any; `None` for a pipe or no file."""
     with contextlib.suppress(OSError, ValueError):
         link, about = os.lstat(path), os.stat(path)
         if path != STANDARD and stat.S_ISREG(about.st_mode):
-            return stamp_in(link) + stamp_in(about)
+            return make_stamp(link) + make_stamp(about)
     return None
 
 
-def plain_name(name: str) -> str:
+def make_safe_name(name: str) -> str:
     """Return a name that is no option for a tool, no command for a shell, no formula for a table.
     """
     return os.path.join(".", name) if name.startswith(SPECIAL) else name
@@ -187,11 +188,11 @@ def is_utf_8(name: str) -> bool:
 # Files that are written: completely or not at all, never over an input, and in a folder of results
 # never through a link.
 
-OWN_OUTPUT = {STANDARD, "/dev/stdout", "/dev/fd/1", "/proc/self/fd/1"}
-BEGIN = ".subttx-"  # of the name of a file while it is written
+STANDARD_OUTPUTS = {STANDARD, "/dev/stdout", "/dev/fd/1", "/proc/self/fd/1"}
+TEMPORARY_PREFIX = ".subttx-"  # of the name of a file while it is written
 
 
-class IsInput(Stop):
+class OutputIsInput(Stop):
     """An output is an input, too; it stays as it is."""
 
 
@@ -206,17 +207,17 @@ class Inputs:
     @functools.cached_property
     def known(self) -> dict[tuple[int, int], str]:
         """Return their names by device and inode."""
-        return {one: name for name in self.names for one in identities(name, True)}
+        return {one: name for name in self.names for one in find_identities(name, True)}
 
     def refuse(self, path: str, is_followed: bool) -> None:
         """Refuse to write to an input or to remove its name. If an input is gone, another file may
         have its inode."""
-        for one in identities(path, is_followed):
-            if one in self.known and one in identities(self.known[one], True):
-                raise IsInput(f"{path} is also an input: give another name")
+        for one in find_identities(path, is_followed):
+            if one in self.known and one in find_identities(self.known[one], True):
+                raise OutputIsInput(f"{path} is also an input: give another name")
 
 
-def identities(name: str, is_followed: bool) -> set[tuple[int, int]]:
+def find_identities(name: str, is_followed: bool) -> set[tuple[int, int]]:
     """Return device and inode of a name, and of the target if it is a link that is followed."""
     found = set()
     for follow in (False, True)[:1 + is_followed]:
@@ -227,10 +228,10 @@ def identities(name: str, is_followed: bool) -> set[tuple[int, int]]:
     return found
 
 
-NOTHING = Inputs()
+NO_INPUTS = Inputs()
 
 
-def refuse_name(name: str) -> None:
+def refuse_output_name(name: str) -> None:
     """Refuse a name under which nothing can be written, before any work."""
     target = os.path.realpath(name)
     if name != STANDARD and not os.path.isdir(os.path.dirname(target)):
@@ -240,67 +241,67 @@ def refuse_name(name: str) -> None:
 
 
 @contextlib.contextmanager
-def whole_file(path: str) -> Iterator[BinaryIO]:
+def open_output(path: str) -> Iterator[BinaryIO]:
     """Open an output of the operator, following links. It takes its name only if all goes well;
     else that stays as it was.
 
     A device and standard output, `-`, are written directly.
     """
-    if path in OWN_OUTPUT:
-        with own_output() as file:
+    if path in STANDARD_OUTPUTS:
+        with open_standard_output() as file:
             yield file
     elif not is_replaced(path):
-        with naming(path):
+        with name_errors(path):
             device = open(path, "wb")
-        with written(device, path):
+        with close_after_writing(device, path):
             yield device
     else:
-        yield from replaced(path, os.path.realpath(path))
+        yield from open_replacement(path, os.path.realpath(path))
 
 
 @contextlib.contextmanager
-def result_file(path: str, is_stored: bool = False) -> Iterator[BinaryIO]:
+def open_result(path: str, is_stored: bool = False) -> Iterator[BinaryIO]:
     """Open an output in a folder of results, which others may use: a link is replaced, not
     followed. A stored one survives a stop of the machine."""
-    yield from replaced(path, path, is_stored)
+    yield from open_replacement(path, path, is_stored)
 
 
 def is_replaced(path: str) -> bool:
-    """Return whether `whole_file` replaces an earlier output; pipes, devices and standard output
+    """Return whether `open_output` replaces an earlier output; pipes, devices and standard output
     keep it."""
-    return path not in OWN_OUTPUT and (
+    return path not in STANDARD_OUTPUTS and (
         not os.path.exists(path) or stat.S_ISREG(os.stat(path).st_mode))
 
 
 @contextlib.contextmanager
-def own_output() -> Iterator[BinaryIO]:
+def open_standard_output() -> Iterator[BinaryIO]:
     """Open standard output for bytes, without Python's buffer."""
     sys.stdout.flush()
     with open(sys.stdout.fileno(), "wb", closefd=False) as file:
         yield file
 
 
-def replaced(path: str, target: str, is_stored: bool = False) -> Iterator[BinaryIO]:
+def open_replacement(path: str, target: str, is_stored: bool = False) -> Iterator[BinaryIO]:
     """Open a file that takes the name `target` at the end; errors have `path`."""
-    name = new_name(os.path.dirname(target), BEGIN)
+    name = make_temporary_name(os.path.dirname(target), TEMPORARY_PREFIX)
     try:
-        with naming(path):
+        with name_errors(path):
             file = open(name, "xb")  # x: refuse a link of that name
-        with written(file, path):
+        with close_after_writing(file, path):
             yield file
             if is_stored:
                 file.flush()
                 os.fsync(file.fileno())
-        with naming(path):
+        with name_errors(path):
             os.replace(name, target)
         if is_stored:
-            store_names(os.path.dirname(target))
+            sync_folder(os.path.dirname(target))
     finally:
         with contextlib.suppress(OSError):  # it was renamed
             os.unlink(name)
 
 
-def store_names(folder: str) -> None:
+def sync_folder(folder: str) -> None:
     """Store the names in a folder, if its file system can do that."""
     handle = os.open(folder, os.O_RDONLY | os.O_DIRECTORY | os.O_CLOEXEC)
     with contextlib.suppress(OSError):
@@ -308,15 +309,15 @@ def store_names(folder: str) -> None:
     os.close(handle)
 
 
-def new_name(folder: str, begin: str) -> str:
+def make_temporary_name(folder: str, begin: str) -> str:
     """Return a new name; it is known before the file exists, so that a signal can remove it."""
     return os.path.join(folder, begin + os.urandom(8).hex())
 
 
 @contextlib.contextmanager
-def temporary_folder(begin: str) -> Iterator[str]:
+def make_temporary_folder(begin: str) -> Iterator[str]:
     """Make a folder that is removed at the end, whenever a signal comes."""
-    path = new_name(tempfile.gettempdir(), begin)
+    path = make_temporary_name(tempfile.gettempdir(), begin)
     try:
         os.mkdir(path, 0o700)
         yield path
@@ -328,7 +329,7 @@ def temporary_folder(begin: str) -> Iterator[str]:
 
 
 @contextlib.contextmanager
-def written(file: BinaryIO, path: str) -> Iterator[None]:
+def close_after_writing(file: BinaryIO, path: str) -> Iterator[None]:
     """Close a file; an error without a name is an error of writing to it."""
     try:
         with file:
@@ -340,7 +341,7 @@ def written(file: BinaryIO, path: str) -> Iterator[None]:
 
 # SHA-256 and sizes of files.
 
-ROOM = 1 << 18  # bytes of one read
+BUFFER_SIZE = 1 << 18  # bytes of one read
 
 
 class SummedFile(NamedTuple):
@@ -364,7 +365,7 @@ class BackgroundSum:
     def work(self) -> None:
         """Sum up the file."""
         try:
-            self.found.append(file_of(self.name, self.name))
+            self.found.append(sum_file(self.name, self.name))
         except (Stop, OSError) as reason:
             self.reason = reason
 
@@ -379,9 +380,9 @@ class BackgroundSum:
         return self.found[0]
 
 
-def file_of(path: str, name: str) -> SummedFile:
+def sum_file(path: str, name: str) -> SummedFile:
     """Return the sum of a file, under the name that was typed."""
-    digest, room, size = hashlib.sha256(), memoryview(bytearray(ROOM)), 0
+    digest, room, size = hashlib.sha256(), memoryview(bytearray(BUFFER_SIZE)), 0
     with File(path) as file:
         while count := file.file.readinto(room):  # type: ignore[attr-defined]
             digest.update(room[:count])

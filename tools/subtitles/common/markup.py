@@ -5,7 +5,7 @@ import html
 import re
 from typing import Iterable, Union
 
-from .command_line import shown_lines
+from .command_line import escape_hidden_lines
 
 
 # A page has its style in it, and loads, runs, sends and frames nothing.
@@ -52,28 +52,28 @@ Value = Union[Markup, str, int, float]
 
 def escape(text: str) -> str:
     """Return a text as XML, with hidden characters by number."""
-    return html.escape(shown_lines(text))
+    return html.escape(escape_hidden_lines(text))
 
 
 def markup(template: str, *values: Value) -> Markup:
     """Fill a template, which has to be a literal, as a test checks: its places `{}` take markup,
     numbers and text, which is escaped. A place within a tag has quotes."""
-    return Markup(template.format(*map(put, values)))
+    return Markup(template.format(*map(format_value, values)))
 
 
-def put(value: Value) -> str | int | float:
+def format_value(value: Value) -> str | int | float:
     """Return a value as it is put into markup."""
     if isinstance(value, Markup):
         return value.source
     return escape(value) if isinstance(value, str) else value
 
 
-def joined(parts: Iterable[Value], between: Value = "") -> Markup:
+def join_markup(parts: Iterable[Value], between: Value = "") -> Markup:
     """Join values with something between them."""
-    return Markup(str(put(between)).join(str(put(one)) for one in parts))
+    return Markup(str(format_value(between)).join(str(format_value(one)) for one in parts))
 
 
-def own_style(path: str) -> Markup:
+def read_style(path: str) -> Markup:
     """Return the style of a page, from a file of these tools."""
     with open(path, encoding="utf-8") as file:
         return Markup(file.read())

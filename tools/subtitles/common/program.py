@@ -11,7 +11,7 @@ import sys
 from typing import NamedTuple
 
 from .command_line import INSTALLED, Stop, version
-from .files import Stamp, file_of, naming, stamp_in
+from .files import Stamp, sum_file, name_errors, make_stamp
 
 
 # The program of this repository that ./subttx runs.
@@ -28,33 +28,33 @@ def sources() -> str:
     return done.stdout.decode().strip()
 
 
-def chosen(top: str) -> tuple[str, str]:
+def find_program(top: str) -> tuple[str, str]:
     """Return the program's path in a repository by tools/program, and why there is none."""
     done = subprocess.run([os.path.join(top, "tools", "program")], stdin=subprocess.DEVNULL,
                           stdout=subprocess.PIPE, stderr=subprocess.PIPE, check=False)
     return done.stdout.decode().rstrip("\n"), done.stderr.decode().strip()
 
 
-def built_program(path: str | None = None) -> str:
+def find_built_program(path: str | None = None) -> str:
     """Return the program at `path`, or the one that was built from the current sources."""
     if path:
         if os.path.isdir(path) or not os.access(path, os.X_OK):
             raise Stop(f"{path} is not an executable program")
-        return behind_script(path)
-    program, why = chosen(TOP)
+        return resolve_script(path)
+    program, why = find_program(TOP)
     if not program:
         raise Stop(why or "no program is built for the sources: run ./subttx, or the gate")
     return program
 
 
-def behind_script(path: str) -> str:
+def resolve_script(path: str) -> str:
     """Return the program that a repository's script ./subttx runs; else the path itself."""
     top = os.path.dirname(os.path.realpath(path))
     with open(path, "rb") as file:
         is_script = file.read(2) == b"#!"
     if not is_script or not os.path.isfile(os.path.join(top, "tools", "program")):
         return path
-    return chosen(top)[0] or path
+    return find_program(top)[0] or path
 
 
 def read(path: str) -> str | None:
@@ -68,10 +68,10 @@ def read(path: str) -> str | None:
 # The program of a verdict: its version, its sum, the prover's line.
 
 PROVED = "PROVED"  # in the program's folder, or in the one above if it is installed
-OF_PROGRAM = re.compile(r"crate subttx \S+ (logic=proved .*)")
+PROVED_LINE = re.compile(r"crate subttx \S+ (logic=proved .*)")
 
 
-class MadeWith(NamedTuple):
+class ProgramInfo(NamedTuple):
     """The version of the tools, and the program's SHA-256 and line of the prover."""
 
     version: str
@@ -79,27 +79,27 @@ class MadeWith(NamedTuple):
     proved: str | None
 
 
-def about_program(path: str) -> MadeWith:
+def describe_program(path: str) -> ProgramInfo:
     """Return version, SHA-256 and proof of the program at a path."""
-    real = os.path.realpath(behind_script(path))
-    with naming(path):
+    real = os.path.realpath(resolve_script(path))
+    with name_errors(path):
         about = os.stat(real)
-    sha256 = sum_of(real, stamp_in(about))
-    return MadeWith(version(), sha256, proved_line(real, sha256))
+    sha256 = compute_sum(real, make_stamp(about))
+    return ProgramInfo(version(), sha256, find_proved_line(real, sha256))
 
 
 @functools.lru_cache(maxsize=None)
-def sum_of(path: str, like: Stamp) -> str:
+def compute_sum(path: str, like: Stamp) -> str:
     """Return the sum of a file, computed once while its stamp stays the same."""
-    return file_of(path, path).sha256
+    return sum_file(path, path).sha256
 
 
-def proved_line(program: str, sha256: str) -> str | None:
+def find_proved_line(program: str, sha256: str) -> str | None:
     """Return the prover's line from the file PROVED that has this program's sum."""
     beside = os.path.dirname(program)
     for folder in (beside, os.path.dirname(beside), os.path.join(TOP, "dist")):
         lines = (read(os.path.join(folder, PROVED)) or "").splitlines()
-        versions = [line for line in map(OF_PROGRAM.fullmatch, lines) if line]
+        versions = [line for line in map(PROVED_LINE.fullmatch, lines) if line]
         if f"program {sha256}" in lines and versions:
             return versions[0][1]
     return None
@@ -167,7 +167,7 @@ def compile_tools(prefix: str) -> None:
                            invalidation_mode=py_compile.PycInvalidationMode.UNCHECKED_HASH)
 
 
-def documents() -> list[str]:
+def list_documents() -> list[str]:
     """Return README, the manual, and the files that these link, but for dist/."""
     names = list(READ)
     for name in names:
@@ -184,17 +184,17 @@ def copy_documents(home: str) -> None:
     for folder in ("docs", "examples"):
         shutil.rmtree(os.path.join(home, folder), ignore_errors=True)
     shutil.copytree(os.path.join(TOP, "examples"), os.path.join(home, "examples"))
-    names = documents()
+    names = list_documents()
     for name in names:
         path = os.path.join(TOP, name)
         copy(path, os.path.join(home, name), 0o755 if os.access(path, os.X_OK) else 0o644)
     for name in names:
         if name.endswith(".md"):
             path = os.path.join(home, name)
-            write(path, without_dead_links(read(path) or "", os.path.dirname(path)))
+            write(path, remove_dead_links(read(path) or "", os.path.dirname(path)))
 
 
-def without_dead_links(text: str, folder: str) -> str:
+def remove_dead_links(text: str, folder: str) -> str:
     """Replace links to missing files in a document by their text."""
     def kept(link: re.Match[str]) -> str:
         is_there = ":" in link[2] or os.path.exists(os.path.join(folder, link[2]))
@@ -223,7 +223,7 @@ def install(program: str, prefix: str) -> list[str]:
     return [os.path.join(prefix, "bin", name) for name in names] + pages
 
 
-def shared_folders(prefix: str) -> list[str]:
+def list_shared_folders(prefix: str) -> list[str]:
     """Return the folders that others may use too, innermost first."""
     names = ["bin", MAN, COMPLETIONS, "lib"]
     folders: list[str] = []
@@ -236,7 +236,7 @@ def shared_folders(prefix: str) -> list[str]:
 
 def install_and_note(program: str, prefix: str) -> list[str]:
     """Install and compile, and store for `remove` which folders are new."""
-    made = [os.path.relpath(path, prefix) for path in shared_folders(prefix)
+    made = [os.path.relpath(path, prefix) for path in list_shared_folders(prefix)
             if not os.path.isdir(path)]
     paths = install(program, prefix)
     compile_tools(prefix)
@@ -256,20 +256,20 @@ def remove(prefix: str) -> list[str]:
         raise Stop(f"{home} is a link that no installation made: remove its target, then the link")
     made = {os.path.normpath(os.path.join(prefix, name))
             for name in (read(os.path.join(home, FOLDERS)) or "").splitlines()}
-    paths = [os.path.join(prefix, "bin", "subttx"), *links_into(prefix),
+    paths = [os.path.join(prefix, "bin", "subttx"), *find_installed_links(prefix),
              *(os.path.join(prefix, MAN, page) for page in PAGES),
              os.path.join(prefix, COMPLETIONS, "subttx")]
     removed = [path for path in paths if os.path.lexists(path)]
     for path in removed:
         os.remove(path)
     shutil.rmtree(home)
-    for path in shared_folders(prefix):
+    for path in list_shared_folders(prefix):
         if os.path.normpath(path) in made and os.path.isdir(path) and not os.listdir(path):
             os.rmdir(path)
     return [*removed, home]
 
 
-def links_into(prefix: str) -> list[str]:
+def find_installed_links(prefix: str) -> list[str]:
     """Return the links to tools and completions, of any version."""
     starts = {"bin": os.path.join("..", HOME, "tools", ""), COMPLETIONS: "subttx"}
     return [path for folder, start in starts.items()

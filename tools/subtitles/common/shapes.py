@@ -12,7 +12,7 @@ from .times import CLOCK
 # `misfit` returns the place that does not fit, as `.faults[3].number`; empty for the value
 # itself.
 
-MOST_TEXT = 65_536  # characters of a text, by default
+MAX_TEXT = 65_536  # characters of a text, by default
 Schema = dict[str, Any]
 
 
@@ -45,7 +45,7 @@ class Shape:
 class Text(Shape):
     """A text of limited length that matches a pattern. Without a pattern a longer text is cut."""
 
-    def __init__(self, pattern: str = "", most: int = MOST_TEXT, least: int = 0) -> None:
+    def __init__(self, pattern: str = "", most: int = MAX_TEXT, least: int = 0) -> None:
         self.pattern, self.most, self.least = pattern and re.compile(pattern), most, least
 
     def made(self, value: Any) -> Any:
@@ -240,13 +240,13 @@ class Rules(NamedTuple):
                           for row in self.rows]}
 
 
-def named(name: str, shape: Shape, meaning: str = "") -> Shape:
+def name_shape(name: str, shape: Shape, meaning: str = "") -> Shape:
     """Name a kind, which is then defined once in a schema."""
     shape.name, shape.meaning = name, meaning
     return shape
 
 
-def definitions(shapes: Sequence[Shape]) -> Schema:
+def make_definitions(shapes: Sequence[Shape]) -> Schema:
     """Return the named kinds that some kinds contain, in order."""
     known: Schema = {}
     waiting = [*shapes]
@@ -264,10 +264,10 @@ def definitions(shapes: Sequence[Shape]) -> Schema:
 # Kinds of values that JSON results have in several places.
 
 Members = dict[str, Any]  # of a fault, cause or cell, by `results.schema`
-MOST_NUMBER = (1 << 53) - 1  # the greatest that every JSON reader keeps exactly
+MAX_NUMBER = (1 << 53) - 1  # the greatest that every JSON reader keeps exactly
 
-TIME = named("time", Text(r"[0-9]{2}:[0-9]{2}:[0-9]{2}:[0-9]{2}"))
-COUNT = named("count", Integer(0, MOST_NUMBER))
-PTS = named("pts", Integer(0, CLOCK - 1))
-PID = named("pid", Integer(0, NO_PID - 1))
-SUM = named("sum", Text(r"[0-9a-f]{64}"), "SHA-256.")
+TIME = name_shape("time", Text(r"[0-9]{2}:[0-9]{2}:[0-9]{2}:[0-9]{2}"))
+COUNT = name_shape("count", Integer(0, MAX_NUMBER))
+PTS = name_shape("pts", Integer(0, CLOCK - 1))
+PID = name_shape("pid", Integer(0, NO_PID - 1))
+CHECKSUM = name_shape("sum", Text(r"[0-9a-f]{64}"), "SHA-256.")

@@ -20,7 +20,7 @@ FRAMES_OF_A_DAY = 2_160_000
 CLOCK = 2**33  # a PTS has 33 bits
 TICKS = 3600  # of 90 kHz in a frame
 NO_FRAME = -1  # for a PTS without a frame; less than all frames
-EARLY = TICKS // 4  # a PTS may be so early, with --within 1 or more
+EARLY_TICKS = TICKS // 4  # a PTS may be so early, with --within 1 or more
 
 
 class Between(NamedTuple):
@@ -77,21 +77,21 @@ def duration_text(frames: int) -> str:
     return " ".join(f"{count} {unit}" for count, unit in parts if count)
 
 
-def wrapped(ticks: int) -> int:
+def wrap_pts(ticks: int) -> int:
     """Return ticks as a PTS has them, modulo 2^33."""
     return ticks % CLOCK
 
 
 def ticks_between(first: int, second: int) -> int:
     """Return by how many ticks the second PTS is later; negative: earlier."""
-    return wrapped(second - first + CLOCK // 2) - CLOCK // 2
+    return wrap_pts(second - first + CLOCK // 2) - CLOCK // 2
 
 
 def ticks_within(first: int, length: int, pts: int) -> int:
     """Return by how many ticks a PTS is later than a first one; negative: earlier. PTS up to
     `length` ticks later count as later, which may be more than half of the clock."""
     before = (CLOCK - length) // 2
-    return wrapped(pts - first + before) - before
+    return wrap_pts(pts - first + before) - before
 
 
 def ticks_after(origin: int, pts: int) -> int:
@@ -102,12 +102,12 @@ def ticks_after(origin: int, pts: int) -> int:
 
 def pts_of(frame: int, origin: int) -> int:
     """Return the PTS of a frame of the day by the origin."""
-    return wrapped(origin + TICKS * frame)
+    return wrap_pts(origin + TICKS * frame)
 
 
 def frame_in(pts: int, origin: int, within: int = 0) -> int:
     """Return the frame of a PTS, also after the end of the day."""
-    return wrapped(pts - origin + EARLY * (within > 0)) // TICKS
+    return wrap_pts(pts - origin + EARLY_TICKS * (within > 0)) // TICKS
 
 
 def time_in(pts: int, origin: int) -> str | None:
@@ -124,11 +124,11 @@ def frame_at(pts: int, origin: int, within: int = 0) -> int | None:
 
 def frames_at(several: Sequence[int], origin: int, within: int = 0) -> Sequence[int]:
     """Return the frame of the day of each PTS; `NO_FRAME` if it has none."""
-    early = EARLY * (within > 0)
+    early = EARLY_TICKS * (within > 0)
     end, count = TICKS * FRAMES_OF_A_DAY, len(several)
     if count and several[-1] == several[0] + TICKS * (count - 1) and all(
             map(operator.eq, several, range(several[0], several[-1] + 1, TICKS))):
-        ticks = wrapped(several[0] - origin + early)
+        ticks = wrap_pts(several[0] - origin + early)
         if (within or ticks % TICKS == 0) and ticks // TICKS + count <= FRAMES_OF_A_DAY:
             return range(ticks // TICKS, ticks // TICKS + count)  # as in most recordings
     distances = ((pts - origin + early) % CLOCK for pts in several)
@@ -137,7 +137,7 @@ def frames_at(several: Sequence[int], origin: int, within: int = 0) -> Sequence[
     return [NO_FRAME if ticks % TICKS or ticks >= end else ticks // TICKS for ticks in distances]
 
 
-def rising_rows(frames: Sequence[int]) -> list[tuple[int, Sequence[int]]]:
+def split_rising_rows(frames: Sequence[int]) -> list[tuple[int, Sequence[int]]]:
     """Frames as rows in which none is before the one before it, each with the place of its first;
     where one is `NO_FRAME` it is a row of its own."""
     if isinstance(frames, range):
@@ -215,7 +215,7 @@ class Spans:
         return sum(last + 1 - first for first, last in self)
 
 
-def joined_spans(several: Iterable[Spans]) -> Spans:
+def join_spans(several: Iterable[Spans]) -> Spans:
     """Return all spans of several lists, in order."""
     rising = [each if each.is_rising() else Spans(sorted(each)) for each in several]
     return Spans(heapq.merge(*rising))

@@ -15,12 +15,12 @@ COLUMNS, LAST_ROW = 40, 23
 SPACE, START_BOX, END_BOX, DOUBLE, WHITE = 0x20, 0x0B, 0x0A, 0x0D, 0x07
 CODES = bytes(range(SPACE))
 COLOURS, DRAWN_CODES = range(0x01, 0x08), range(0x01, 0x0E)
-MOST_BEFORE, MOST_AFTER, MOST_SHIFT = 6, 4, 22
+MAX_BEFORE, MAX_AFTER, MAX_SHIFT = 6, 4, 22
 NEW_LINE, NO_CELL, CONTROLS = 0x8A, range(0x80, 0x86), (*range(0x20), *range(0x80, 0xA0))
 CHARACTER, CONTROL, TOO_LONG, PAST_BOTTOM, DOUBLE_ROW, HIDDEN = 50, 51, 52, 53, 54, 55
 FLAGS = ("fit", "white", "trim", "text", "up", "double", "pack", "last")
 NUMBER_RANGES = {"left": range(40), "right": range(40), "free": range(1, 4),
-           "row": range(-MOST_SHIFT, MOST_SHIFT + 1)}
+           "row": range(-MAX_SHIFT, MAX_SHIFT + 1)}
 ALLOWED_VALUES = {"strip": "codes 00 to 1F, each once",
                   "before": "up to 6 codes 01 to 0D and one * at most",
          "after": "up to 4 codes 01 to 0D", "left": "0 to 39", "right": "0 to 39",
@@ -95,12 +95,12 @@ def parse_item(name: str, value: str | None) -> dict[str, object] | None:
         return {name: int(value)} if is_allowed else None
     if name == "before":
         first, star, behind = value.partition("*")
-        parts = [parse_codes(part, MOST_BEFORE, DRAWN_CODES) for part in (first, behind)]
-        if None in parts or len(parts[0] or b"") + len(parts[1] or b"") > MOST_BEFORE:
+        parts = [parse_codes(part, MAX_BEFORE, DRAWN_CODES) for part in (first, behind)]
+        if None in parts or len(parts[0] or b"") + len(parts[1] or b"") > MAX_BEFORE:
             return None
         return {"before": parts[0], "behind": parts[1]}
     if name == "after":
-        codes = parse_codes(value, MOST_AFTER, DRAWN_CODES)
+        codes = parse_codes(value, MAX_AFTER, DRAWN_CODES)
     elif name == "strip":
         codes = parse_codes(value, 32, range(0x20))
         codes = None if codes is not None and len(set(codes)) < len(codes) else codes

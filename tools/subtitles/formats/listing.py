@@ -5,7 +5,7 @@ import os
 import re
 from typing import NamedTuple
 
-from ..common.markup import Markup, joined, markup
+from ..common.markup import Markup, join_markup, markup
 from ..common.program import TOP
 from ..common.times import FRAMES_A_SECOND, frame_of
 
@@ -224,11 +224,11 @@ def remove_markup(text: str) -> str:
 def make_cell_markup(text: str) -> Markup:
     """Return a cell of the manual as HTML: text in backquotes as code, links as their text."""
     parts = re.sub(r"\[([^]]*)\]\([^)]*\)", r"\1", text).split("`")
-    return joined(markup("<code>{}</code>", part) if at % 2 else part
-                  for at, part in enumerate(parts))
+    return join_markup(markup("<code>{}</code>", part) if at % 2 else part
+                       for at, part in enumerate(parts))
 
 
 def make_number_link(line: str) -> Markup:
     """Return a line `refused NUMBER Name PLACE` as HTML, with number and name as a link."""
     _, number, name, *place = line.split(" ")
-    return joined([markup('<a href="#n{}">{} {}</a>', number, number, name), *place], " ")
+    return join_markup([markup('<a href="#n{}">{} {}</a>', number, number, name), *place], " ")

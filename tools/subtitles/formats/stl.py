@@ -7,8 +7,8 @@ import re
 from dataclasses import dataclass
 from typing import Collection, Iterable, Iterator, NamedTuple, Sequence
 
-from ..common.command_line import Stop, tell
-from ..common.files import Damaged, first_bytes
+from ..common.command_line import Stop, print_stderr
+from ..common.files import Damaged, read_first_bytes
 from ..common.times import (
     ALL_DAY, Between, FRAMES_OF_A_DAY, count_until, frame_of, frame_of_code, time_of_code)
 from .listing import parse_fault_line
@@ -19,7 +19,7 @@ from .teletext import ACCENTS, BY_WORD, encode_line, decode_text
 
 GSI, TTI, TEXT = 1024, 128, 112  # sizes of the blocks and of a TTI block's text field
 USER_DATA, LAST_BLOCK = 0xFE, 0xFF  # extension block numbers (EBN)
-MOST_STL = GSI + TTI * 99_999 + 1  # `check` refuses a larger file
+MAX_STL = GSI + TTI * 99_999 + 1  # `check` refuses a larger file
 UNUSED, NEW_LINE = b"\x8f", b"\x8a"
 LAST_CONTINUED = 0xEF  # the highest EBN of a block that is not the last of its subtitle
 
@@ -75,7 +75,7 @@ def subtitle_times(subtitle: StoredSubtitle) -> tuple[int | None, int | None]:
 
 def read_stl(path: str) -> bytes:
     """Return the bytes of a subtitle file, or of a pipe, up to the size that `check` accepts."""
-    return first_bytes(path, MOST_STL, may_be_pipe=True)
+    return read_first_bytes(path, MAX_STL, may_be_pipe=True)
 
 
 def read_until_damage(name: str, data: bytes) -> Iterator[StoredSubtitle]:
@@ -89,7 +89,7 @@ def read_until_damage(name: str, data: bytes) -> Iterator[StoredSubtitle]:
     except Damaged as reason:
         if is_empty:
             raise Stop(f"{name}: {reason}") from None
-        tell(f"{name}: {reason}; only the subtitles before it are used")
+        print_stderr(f"{name}: {reason}; only the subtitles before it are used")
 
 
 def page_letter_codes(text: bytes, option: str) -> bytes:
@@ -108,7 +108,7 @@ CODE_PAGES = {"437", "850", "860", "863", "865"}
 def read_titles(path: str) -> list[str]:
     """Return the original and the translated programme title of a subtitle file, without empty and
     equal titles."""
-    block = first_bytes(path, GSI)
+    block = read_first_bytes(path, GSI)
     number = block[CODE_PAGE].decode("latin-1")
     code_page = f"cp{number}" if number in CODE_PAGES else "cp850"
     titles: list[str] = []

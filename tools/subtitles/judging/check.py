@@ -10,7 +10,7 @@ import shutil
 import subprocess
 from typing import BinaryIO, Callable, Iterator, NamedTuple
 
-from ..common.files import naming, pieces_of
+from ..common.files import name_errors, read_chunks
 from ..common.times import FRAMES_OF_A_DAY, Spans
 from ..formats.listing import (
     ENDED, FaultLine, SKIPPED_PACKETS, REFUSED, STL_FAULTS, UNDECIDED, parse_accepted_line,
@@ -113,7 +113,7 @@ class CheckOutput:
 
     def read_line(self, line: str) -> None:
         """Read one line of output, and append it to the file."""
-        with naming(self.path):
+        with name_errors(self.path):
             self.file.write(line.encode() + b"\n")
         self.last_line, self.is_accepted = line, False
         words = split_line(line)
@@ -131,7 +131,7 @@ class CheckOutput:
 
     def finish(self, status: int) -> None:
         """Store the exit status of `check`; raise `IncompleteAnswer` if it printed no verdict."""
-        with naming(self.path):
+        with name_errors(self.path):
             self.file.close()
         self.exit_status = status
         if self.verdict == NOT_JUDGED:
@@ -141,7 +141,7 @@ class CheckOutput:
 
     def close_file(self) -> None:
         """Close the file of a list that is incomplete."""
-        with naming(self.path):
+        with name_errors(self.path):
             self.file.close()
 
     @functools.cached_property
@@ -162,7 +162,7 @@ class CheckOutput:
 
     def move_file(self, path: str) -> None:
         """Move the file with the lines of output."""
-        with naming(path):
+        with name_errors(path):
             shutil.move(self.path, path)
         self.path = path
 
@@ -205,7 +205,7 @@ class CheckOutput:
 
     def read_bytes(self) -> Iterator[bytes]:
         """Yield the list of faults as bytes."""
-        return pieces_of(self.path)
+        return read_chunks(self.path)
 
     def read_lines(self) -> Iterator[str]:
         """Yield the lines of the list of faults."""

@@ -8,7 +8,7 @@ from typing import Iterator, NamedTuple, Sequence
 
 from ..common.command_line import counted
 from ..common.shapes import Members
-from ..common.times import Span, joined_spans, pts_of, ticks_between, time_of, wrapped
+from ..common.times import Span, join_spans, pts_of, ticks_between, time_of, wrap_pts
 from ..formats.listing import BEGIN, FaultLine, STL_FAULTS, WITH_CAUSE
 from ..formats.stl import COMMENT, LAST_BLOCK, NamedSubtitle, Subtitle, SubtitleFile, USER_DATA, \
     decode_subtitles
@@ -144,7 +144,7 @@ class CueJudge:
         self.part, self.severity = part, severity
         self.wording = CauseDescriber(part.causes, part.request.option) if part.causes else None
         with_cause = WITH_CAUSE if part.causes else set[int]()
-        self.spans = {number: joined_spans([spans]) for number,
+        self.spans = {number: join_spans([spans]) for number,
                       spans in part.check_output.fault_spans.items()
                       if number not in with_cause | {BEGIN}}
 
@@ -197,7 +197,7 @@ class CueJudge:
 
 # Refused subtitles, which are not judged
 
-MOST_FAULTS_READ = 20_000  # faults of a subtitle file to read at most
+MAX_FAULTS_READ = 20_000  # faults of a subtitle file to read at most
 NEXT_IS_REFUSED = "not judged: the next subtitle is refused"
 
 
@@ -218,7 +218,7 @@ def find_refused_subtitles(part: Part, file: SubtitleFile, beside: ValidSubtitle
     fault that cannot be judged, since the next subtitle is refused."""
     left_out = set(beside.skipped_positions) if beside else set[int]()
     faults = [fault for fault,
-              _ in itertools.islice(part.check_output.read_faults(), MOST_FAULTS_READ)
+              _ in itertools.islice(part.check_output.read_faults(), MAX_FAULTS_READ)
               if fault.number in STL_FAULTS]
     for _, several in itertools.groupby(faults, lambda fault: find_first_block(file, fault)):
         group = list(several)
@@ -265,7 +265,7 @@ def find_recording_start(part: Part) -> int | None:
             step = 0 if last is None else ticks_between(last, run.pts)
             elapsed += (step if 0 <= step < LONGEST_STEP else 0) + ticks_between(run.pts, run.last)
             last = run.last
-    return None if last is None else wrapped(last - elapsed)
+    return None if last is None else wrap_pts(last - elapsed)
 
 
 def format_recording_offset(part: Part, start: int | None, frame: int) -> str:

@@ -8,7 +8,7 @@ from typing import Iterator, NamedTuple, Sequence
 
 from ..clock.start import TimedPart
 from ..common.command_line import Stop, counted
-from ..common.files import file_of
+from ..common.files import sum_file
 from ..common.times import ALL_DAY, Between, FRAMES_OF_A_DAY, pts_of, time_of
 from ..formats.layout import PLAIN, parse_layout, find_text_letters
 from ..formats.listing import CONTENT, CONTROL, EMPTY, STL_FAULTS, WITH_CAUSE
@@ -205,7 +205,7 @@ class PairJudge:
         verdict which other subtitles are judged."""
         request, verdict = self.request, self.verdict
         if self.is_result_written:
-            verdict.stl = file_of(request.stl_path, request.stl)
+            verdict.stl = sum_file(request.stl_path, request.stl)
         answer = self.check_alone()
         if has_valid_subtitles(answer.fault_numbers):
             answer = self.find_valid_subtitles(answer)
@@ -392,7 +392,7 @@ class PairJudge:
         own = [subtitle for subtitle in subtitles if request.between.has(subtitle.begin)]
         due = functools.lru_cache(maxsize=None)(lambda: self.make_expected_pages(request, own))
         part = dataclasses.replace(part, expected_pages=due).add_packets(
-            find_part_packets(programme, part, listener), file_of(recording.path, recording.shown)
+            find_part_packets(programme, part, listener), sum_file(recording.path, recording.shown)
             if self.is_result_written and recording.is_piped else None)
         self.current_part = part
         part = measure_part_pace(part, [(subtitle.begin, subtitle.end) for subtitle in own],

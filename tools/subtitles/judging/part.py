@@ -16,7 +16,7 @@ from ..formats.listing import EMPTY, FaultLine, SKIPPED_PACKETS, STL_FAULTS, UND
 from ..formats.stl import Subtitle, SubtitleFile
 from ..formats.teletext import BY_BITS, RESERVED
 from ..recording.recording import Recording
-from ..request.commands import Listener, MOST_LIST_LINES, OutputNames
+from ..request.commands import Listener, MAX_LIST_LINES, OutputNames
 from ..request.request import Request, Unclear
 from ..stream.gaps import LossPlace
 from ..stream.packets import NO_RANGE, PES, PTSPair, Packets, Range, parse_headers
@@ -294,7 +294,7 @@ def find_lost_spans(places: Sequence[LossPlace], origin: int, within: int,
 def report_causes(listener: Listener, causes: Causes, option: str) -> None:
     """Print the first causes, and how many more there are."""
     wording, every = CauseDescriber(causes, option), causes.list_causes()
-    for cause in every[:MOST_LIST_LINES]:
+    for cause in every[:MAX_LIST_LINES]:
         listener.print_line(wording.format_line(cause))
-    if len(every) > MOST_LIST_LINES:
-        listener.print_line(f".. {len(every) - MOST_LIST_LINES} more causes")
+    if len(every) > MAX_LIST_LINES:
+        listener.print_line(f".. {len(every) - MAX_LIST_LINES} more causes")

@@ -6,7 +6,7 @@ import enum
 from typing import Collection, Iterable, NamedTuple, Sequence
 
 from ..clock.start import clock_advice
-from ..common.command_line import counted, range_words
+from ..common.command_line import counted, format_frame_range
 from ..common.times import time_of
 from ..formats.listing import (
     BEGIN, CONTENT, CONTROL, END, ENDS_READING, FaultLine, GAP, INCOMPLETE, LOSSES, LOST_PACKETS,
@@ -205,7 +205,7 @@ CAUSE_PREDICATES = {
     UNKNOWN_CAUSE: ("is not as expected", "are not as expected")}
 HINTS_ON_ALL = {GAP, OFF_FRAME}  # faults whose hint is about everything that was judged
 HINTS_FOR_CLAUSE = {CONTROL, PARITY}  # faults whose hint replaces the clause
-MOST_NUMBERS = 4  # listed in a sentence
+MAX_NUMBERS = 4  # listed in a sentence
 
 
 class FaultCount(NamedTuple):
@@ -376,8 +376,8 @@ def describe_counts(several: Sequence[FaultCount]) -> str:
     rising = sorted(several, key=lambda count: (rank_number(count.number), count.number))
     words = [f"{count.number} {count.name}" +
              (f" ({count.fault_count:,})" if count.fault_count > 1 else "") for count in rising]
-    if len(words) > MOST_NUMBERS:
-        words[MOST_NUMBERS:] = [counted(len(words) - MOST_NUMBERS, "more number")]
+    if len(words) > MAX_NUMBERS:
+        words[MAX_NUMBERS:] = [counted(len(words) - MAX_NUMBERS, "more number")]
     return " and ".join(filter(None, (", ".join(words[:-1]), words[-1])))
 
 
@@ -428,7 +428,7 @@ def describe_shared_cause(causes: Sequence[Cause], subtitles: Sequence[Subtitle]
         f"{len(causes):,} of {len(subtitles):,} subtitles"
     when = f"first at {time_of(first.begin)}, last at {time_of(last.begin)}"
     frames = sorted(cause.frames or 0 for cause in causes)
-    said = f"appeared {range_words(frames[0], frames[-1])} {name}" if name in (LATE, EARLY) \
+    said = f"appeared {format_frame_range(frames[0], frames[-1])} {name}" if name in (LATE, EARLY) \
         else CAUSE_PREDICATES[name][1]
     words = {cause.details for cause in causes}
     more = f" ({words.pop()})" if len(words) == 1 and words != {""} else ""

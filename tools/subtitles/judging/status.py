@@ -4,9 +4,9 @@ from __future__ import annotations
 from typing import Collection, Iterable, NamedTuple, Sequence
 
 from ..common.command_line import Stop
-from ..common.files import bounded_bytes
+from ..common.files import read_bounded_bytes
 from ..formats.listing import ENDS_READING, FAULT_NAMES, LOST_PACKETS, SILENT
-from ..request.lines import MOST_PROFILE_BYTES, decode_text
+from ..request.lines import MAX_PROFILE_BYTES, decode_text
 
 
 # Severities
@@ -32,7 +32,7 @@ class Severity:
         self.default = ERROR
         self.is_loss_allowed = is_loss_allowed
         if path is not None:
-            text = decode_text(path, bounded_bytes(path, MOST_PROFILE_BYTES))
+            text = decode_text(path, read_bounded_bytes(path, MAX_PROFILE_BYTES))
             for at, line in enumerate(text.split("\n"), 1):
                 self.read_line(path, at, line.partition("#")[0].split())
 

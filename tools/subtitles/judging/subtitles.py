@@ -15,7 +15,7 @@ from ..formats.stl import NamedSubtitle, Subtitle, SubtitleFile, subtitle_name, 
 from ..formats.teletext import (
     BY_WORD, NationalOption, OPTIONS, Page, decode_character, has_characters, character_bytes,
     find_options)
-from ..request.commands import MOST_LIST_LINES
+from ..request.commands import MAX_LIST_LINES
 from ..stream.packets import PES, PacketRun, Packets
 from ..stream.receiver import BLANK_PAGE, Rows, Timeline
 from .sentence import FAULT_CLAUSES
@@ -115,7 +115,7 @@ def format_options(options: list[NationalOption]) -> str:
 # Subtitles with these faults are not compared with others.
 NOT_COMPARED = {16, *range(18, 22)}
 ORDER_FAULTS = {56, 57}  # faults of a comparison with the previous subtitle
-MOST_NAMED = 3  # refused subtitles in the sentence
+MAX_NAMED = 3  # refused subtitles in the sentence
 PAGE_FLAGS, ERASE_FLAGS = "heo", "heb"  # flags of a PES packet with a page, or a blank one
 
 
@@ -168,9 +168,9 @@ class ValidSubtitles(NamedTuple):
 
     def format_lines(self) -> Iterator[str]:
         """Yield a line for each refused subtitle, up to a limit."""
-        yield from (refused.format_line() for refused in self.refused[:MOST_LIST_LINES])
-        if len(self.refused) > MOST_LIST_LINES:
-            yield f"undecided: {counted(len(self.refused) - MOST_LIST_LINES, 'more subtitle')}"
+        yield from (refused.format_line() for refused in self.refused[:MAX_LIST_LINES])
+        if len(self.refused) > MAX_LIST_LINES:
+            yield f"undecided: {counted(len(self.refused) - MAX_LIST_LINES, 'more subtitle')}"
 
     def describe(self) -> str:
         """Describe the first refused subtitles, and count the other ones."""
@@ -178,7 +178,7 @@ class ValidSubtitles(NamedTuple):
             return f"{self.refused[0].describe_subtitle()} is refused by " \
                 f"{self.refused[0].describe_reason()}"
         named = [f"{refused.describe_subtitle()} by {refused.describe_reason()}"
-                 for refused in self.refused[:MOST_NAMED]]
+                 for refused in self.refused[:MAX_NAMED]]
         more, total = len(self.refused) - len(named), len(self.judged) + len(self.skipped_positions)
         last = f"{more:,} more" if more else named.pop()
         return f"{len(self.refused):,} of {total:,} subtitles are refused, " \

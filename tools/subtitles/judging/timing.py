@@ -10,10 +10,10 @@ from ..clock.origin import OriginEstimate, OriginSearch, PartOrigin, estimate_or
 from ..clock.start import (
     Clock, GIVEN, NoFirstPicture, RECORDING, START, TCP, TimedPart, compute_start_clock,
     read_start_frame, refuse_outside)
-from ..common.command_line import Stop, counted, error_line, pid_name
+from ..common.command_line import Stop, counted, format_error, format_pid
 from ..common.times import (
     FRAMES_A_SECOND, FRAMES_OF_A_DAY, TICKS, duration_text, pts_of, ticks_after, ticks_between,
-    ticks_within, time_of, wrapped)
+    ticks_within, time_of, wrap_pts)
 from ..formats.listing import NamedFault, PICTURES_LEFT
 from ..recording.recording import Recording
 from ..request.commands import Listener
@@ -115,7 +115,7 @@ def report_estimated_origin(search: PartSearch, recording: Recording, clock: Clo
     try:
         origin = estimate_origin(origin_search, recording.packets)
     except (Stop, OSError) as reason:
-        origin = OriginEstimate(2, lines=[error_line(reason)])
+        origin = OriginEstimate(2, lines=[format_error(reason)])
     for line in [*origin.printed, *(CLOCK_PREFIX + line for line in origin.lines)]:
         listener.print_line(line)
     return origin
@@ -172,7 +172,7 @@ def describe_wrong_clock(request: Request, clock: Clock, delay: int) -> str:
         return f"with --origin {clock.origin} all subtitles are {duration_text(abs(delay))} " \
             f"{'late' if delay > 0 else 'early'}: none is in the recording at its time"
     given = read_start_frame(request)
-    estimated = wrapped(clock.origin + TICKS * delay)
+    estimated = wrap_pts(clock.origin + TICKS * delay)
     begins = round(ticks_after(estimated, pts_of(given, clock.origin)) / TICKS)
     name = "the TCP" if clock.source == TCP else "--start"
     which = "earlier" if given < begins else "later"
@@ -284,7 +284,7 @@ def find_late_jumps(part: Part, pace: Pace) -> tuple[list[PTSPair], int]:
 def describe_jumps(count: int, recording: Recording) -> str:
     """Describe at how many announced jumps of the counter losses are invisible; an empty text if at
     none."""
-    return f"{UNCHECKED} losses on {pid_name(recording.packets.pid)} at " \
+    return f"{UNCHECKED} losses on {format_pid(recording.packets.pid)} at " \
         f"{counted(count, 'place')} where a jump of its counter is announced" if count else ""
 
 
@@ -330,7 +330,7 @@ def describe_missing_pcr(recording: Recording) -> str:
     """Describe that no PCR shows losses; an empty text if there is a PCR."""
     if not recording.is_stream or recording.survey.clock_of(recording.packets.pid) is not None:
         return ""
-    return f"the programme of {pid_name(recording.packets.pid)} has no PCR: a loss that its " \
+    return f"the programme of {format_pid(recording.packets.pid)} has no PCR: a loss that its " \
         "counter does not show, as of 16 TS packets, is not noticed"
 
 

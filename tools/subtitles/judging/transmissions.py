@@ -8,7 +8,7 @@ import subprocess
 from typing import Mapping, NamedTuple, Sequence
 
 from ..common.command_line import counted
-from ..common.files import temporary_folder
+from ..common.files import make_temporary_folder
 from ..common.times import ALL_DAY, Between, Span
 from ..formats.listing import CHANGED
 from ..formats.stl import Subtitle, SubtitleList, read_stl, decode_subtitles, parse_subtitles
@@ -263,7 +263,7 @@ def schedule_pages(program: str, stl: str, subtitles: list[Subtitle], page: Page
     transmits; `layout_arguments` are options for drawing pages."""
     if not subtitles:
         return ExpectedPages([], [])
-    with temporary_folder("subttx-qc-") as folder:
+    with make_temporary_folder("subttx-qc-") as folder:
         path = os.path.join(folder, "due.pes")
         run_program(program, "schedule", "--page", page_name(*page), "--option", option,
                     "--every", LONGEST_INTERVAL, *between.words(), *layout_arguments, "--", stl,

@@ -6,7 +6,7 @@ import dataclasses
 from typing import Callable, Collection, Iterable, NamedTuple, Sequence
 
 from ..clock.start import ESTIMATED_LATER_NOTE, ESTIMATED_NOTE, clock_advice
-from ..common.command_line import range_words
+from ..common.command_line import format_frame_range
 from ..common.files import SummedFile
 from ..common.times import time_in
 from ..formats.listing import FaultLine, NamedFault, STL_FAULTS, UNDECIDED
@@ -43,8 +43,8 @@ class DelaySpread(NamedTuple):
         """Return the delays as one clause."""
         middle = "" if self.minimum == self.maximum else f" (median {self.median})"
         never = f"; {self.never_complete} never seen complete" if self.never_complete else ""
-        return f"subtitles are complete after {range_words(self.minimum, self.maximum)}{middle}" \
-            f"{never}"
+        return f"subtitles are complete after {format_frame_range(self.minimum, self.maximum)}" \
+            f"{middle}{never}"
 
 
 def summarize_delays(several: Iterable[int | None]) -> DelaySpread | None:

@@ -7,11 +7,11 @@ import itertools
 from typing import Collection, Iterator, NamedTuple, Sequence
 
 from ..clock.start import NoFirstPicture, find_first_picture, read_start_frame
-from ..common.command_line import counted, pid_name, shown
-from ..common.files import first_bytes
+from ..common.command_line import counted, format_pid, escape_hidden
+from ..common.files import read_first_bytes
 from ..common.times import (
     FRAMES_OF_A_DAY, NO_FRAME, TICKS, frame_in, frames_at, pts_of, ticks_after, ticks_between,
-    ticks_within, time_in, time_of, wrapped)
+    ticks_within, time_in, time_of, wrap_pts)
 from ..formats.listing import NEVER_SENT, NamedFault
 from ..formats.stl import SubtitleFile
 from ..formats.teletext import (
@@ -82,7 +82,7 @@ def pmt_notices(survey: Survey, pid: int, request: Request) -> Iterator[Notice]:
     own = [one for one in announced if one.page == request.page]
     name = request.page_name
     if not announced:
-        yield Notice("page", f"the PMT announces no page on {pid_name(pid)}, so receivers do not "
+        yield Notice("page", f"the PMT announces no page on {format_pid(pid)}, so receivers do not "
                      f"find page {name}")
     elif not own:
         yield Notice("page", f"the PMT announces {page_list(announced)}, but not page {name}")
@@ -102,8 +102,8 @@ def page_notices(own: list[Announced], request: Request) -> Iterator[Notice]:
     languages = dict.fromkeys(announced.language.lower() for announced in own)
     if wanted and not (wanted | ANY) & languages.keys():
         yield Notice("language", f"the PMT announces page {name} in "
-                     f"{' and '.join(map(shown, languages))}, but the language of the subtitle "
-                     f"file is {' or '.join(language_names(code))} (LC {code})")
+                     f"{' and '.join(map(escape_hidden, languages))}, but the language of the "
+                     f"subtitle file is {' or '.join(language_names(code))} (LC {code})")
     yield from option_notices([*languages], request)
 
 
@@ -143,7 +143,7 @@ def page_list(announced: list[Announced]) -> str:
 
 def language_code(stl: str) -> str:
     """Return the LC of a subtitle file."""
-    return first_bytes(stl, LC.stop)[LC].decode("latin-1")
+    return read_first_bytes(stl, LC.stop)[LC].decode("latin-1")
 
 
 def count_notices(subtitles: SubtitleFile) -> Iterator[Notice]:
@@ -266,10 +266,10 @@ def is_page_expected(clock: tuple[int, int] | None, times: Sequence[tuple[int, i
     origin, or without one as much time as from the first TCI to the last TCO."""
     if clock is None or not times:
         return False
-    length = wrapped(clock[1] - clock[0])
+    length = wrap_pts(clock[1] - clock[0])
     if origin is None:
         return length >= TICKS * (times[-1][1] - times[0][0])
-    return any(wrapped(pts_of(begin, origin) - clock[0]) + TICKS * (end - begin) <= length
+    return any(wrap_pts(pts_of(begin, origin) - clock[0]) + TICKS * (end - begin) <= length
                for begin, end in times)
 
 
@@ -283,14 +283,14 @@ def has_unreadable(survey: Survey, pids: Collection[int]) -> bool:
 def never_sent_text(survey: Survey, page: Page, pids: Collection[int],
                 carriers: Collection[int] = ()) -> str:
     """Return where the page is announced, and which PIDs have it."""
-    names = " and ".join(map(pid_name, sorted(pids)))
+    names = " and ".join(map(format_pid, sorted(pids)))
     words = f"page {page_name(*page)} is announced on {names}, but never sent"
     none = [pid for pid in sorted(pids)
             if pid not in survey.by_pid or not survey.by_pid[pid].packets]
     if none:
-        words += f" (no TS packet of {' and '.join(map(pid_name, none))})"
+        words += f" (no TS packet of {' and '.join(map(format_pid, none))})"
     if carriers:
-        words += f"; {' and '.join(map(pid_name, sorted(carriers)))} has it"
+        words += f"; {' and '.join(map(format_pid, sorted(carriers)))} has it"
     return words
 
 
@@ -310,7 +310,7 @@ def find_origin(request: Request, survey: Survey, pid: int) -> int | None:
     """Return the given origin, or that of the first picture of a PID's programme."""
     if request.start is not None:
         with contextlib.suppress(NoFirstPicture, Unclear):
-            return wrapped(find_first_picture(survey, pid).pts - TICKS * read_start_frame(request))
+            return wrap_pts(find_first_picture(survey, pid).pts - TICKS * read_start_frame(request))
     return request.origin
 
 

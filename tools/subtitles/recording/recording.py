@@ -10,9 +10,10 @@ import subprocess
 from typing import Collection, Iterable, Iterator, Sequence
 
 from ..clock.start import NoFirstPicture, has_first_picture
-from ..common.command_line import PACKET_SIZES, Stop, counted, pid_name, shown, stream_words
+from ..common.command_line import (
+    PACKET_SIZES, Stop, counted, escape_hidden, format_pid, stream_options)
 from ..common.files import (
-    BackgroundSum, STANDARD, SummedFile, first_bytes, naming, pieces_of)
+    BackgroundSum, STANDARD, SummedFile, read_first_bytes, name_errors, read_chunks)
 from ..common.times import ticks_between
 from ..formats.teletext import START
 from ..request.commands import (
@@ -27,8 +28,8 @@ from .notices import Notice, find_announcements, refuse_unsent, silent_pids
 
 # A recording from a pipe is copied to a file, which is judged once it is complete.
 
-MOST_PAGES = 3  # other pages to propose
-MOST_PIPED = 32_000_000_000  # bytes: two hours of 35 Mbit/s
+MAX_PAGES = 3  # other pages to propose
+MAX_PIPED = 32_000_000_000  # bytes: two hours of 35 Mbit/s
 
 
 def copy_piped(name: str, path: str, printer: Printer) -> SummedFile:
@@ -36,13 +37,13 @@ def copy_piped(name: str, path: str, printer: Printer) -> SummedFile:
     source = "standard input" if name == STANDARD else name
     digest, count = hashlib.sha256(), 0
     with open(path, "wb") as file:
-        for data in pieces_of(name, may_be_pipe=True):
+        for data in read_chunks(name, may_be_pipe=True):
             count += len(data)
-            if count > MOST_PIPED:
-                raise Stop(f"{source} has not ended after {MOST_PIPED:,} bytes: judge an endless "
+            if count > MAX_PIPED:
+                raise Stop(f"{source} has not ended after {MAX_PIPED:,} bytes: judge an endless "
                            "feed with tools/air")
             digest.update(data)
-            with naming(path):
+            with name_errors(path):
                 file.write(data)
                 file.flush()
             printer.show_progress(lambda: f"{source}: {count / 1e6:,.1f} MB")
@@ -60,7 +61,7 @@ LENGTH_AT, FIXED, TELETEXT = 8, 9, 0x24
 
 def read_pes_header(program: str, path: str, pid: int, size: int) -> bytes:
     """Return the first bytes that `extract` prints of a PID."""
-    words = [program, "extract", *stream_words(pid, size), "--", path, OUTPUT]
+    words = [program, "extract", *stream_options(pid, size), "--", path, OUTPUT]
     with subprocess.Popen(words, stdin=subprocess.DEVNULL, stdout=subprocess.PIPE,
                           stderr=subprocess.DEVNULL) as call:
         assert call.stdout
@@ -74,7 +75,7 @@ def pes_header_problem(begun: bytes, pid: int) -> str:
     or there is none."""
     if not begun.startswith(START[:3]) or begun[LENGTH_AT:FIXED] in (b"", bytes([TELETEXT])):
         return ""
-    length, whose = begun[LENGTH_AT], f" of {pid_name(pid)}" if pid != PES else ""
+    length, whose = begun[LENGTH_AT], f" of {format_pid(pid)}" if pid != PES else ""
     return (f"the PES header{whose} has {FIXED + length} bytes (PES_header_data_length "
             f"{length:02X}), but EN 300 472 requires {FIXED + TELETEXT} ({TELETEXT:02X})")
 
@@ -83,7 +84,7 @@ def pes_header_problem(begun: bytes, pid: int) -> str:
 
 def is_recording(path: str) -> bool:
     """Return whether a file begins as a recording does."""
-    head = first_bytes(path, 209)
+    head = read_first_bytes(path, 209)
     return head.startswith(START) or any(
         head[at:at + size + 1:size] == b"GG" for at in (0, 4) for size in PACKET_SIZES)
 
@@ -188,15 +189,15 @@ class Recording:
         if silent and self.request.pes is None:
             raise Unclear(self.with_contents(
                 f"page {self.request.page_name} is announced by several programmes of {self.name}, "
-                f"but sent only on {' and '.join(map(pid_name, sorted(carriers)))}, not on "
-                f"{' and '.join(map(pid_name, sorted(silent)))}"),
+                f"but sent only on {' and '.join(map(format_pid, sorted(carriers)))}, not on "
+                f"{' and '.join(map(format_pid, sorted(silent)))}"),
                 *(self.suggest_call("--pid", f"0x{pid:X}") for pid in sorted({*carriers} | silent)))
 
     def print_choice(self, packets: Packets, why: str) -> None:
         """Report which PID was chosen, with the evidence."""
         begun = sum(run.length for run in packets.runs_with_pts() if HEADER in run.flags)
-        line = f"{pid_name(packets.pid)}: page {self.request.page_name} has a header in {begun} " \
-            f"of {counted(packets.count, 'PES packet')}, {why}"
+        line = f"{format_pid(packets.pid)}: page {self.request.page_name} has a header in " \
+            f"{begun} of {counted(packets.count, 'PES packet')}, {why}"
         self.listener.add_selection(Selection(PID_CHOICE, f"0x{packets.pid:X}", line, begun,
                                        packets.count))
 
@@ -243,7 +244,7 @@ class Recording:
     def words(self) -> list[str]:
         """Return the options with which the program reads the recording."""
         stream = self.stream()
-        return stream_words(*stream) if stream else []
+        return stream_options(*stream) if stream else []
 
     @property
     def shown(self) -> str:
@@ -263,7 +264,7 @@ class Recording:
     def kept(self) -> Iterator[bytes]:
         """Yield the bytes of the recording to keep."""
         if self.is_piped:
-            yield from pieces_of(self.path)
+            yield from read_chunks(self.path)
             return
         own = self.names.temporary_path("kept.pes")
         done = subprocess.run([self.command_paths.program_path, "extract", *self.words(), "--",
@@ -271,7 +272,7 @@ class Recording:
                               check=False)
         if done.returncode != 1:  # everything before a refused PES packet is kept
             done.check_returncode()
-        yield from pieces_of(own)
+        yield from read_chunks(own)
 
     def places(self, jumps: Iterable[PTSPair] = ()) -> list[LossPlace]:
         """Return the places where packets are missing, including those that announced jumps of the
@@ -294,11 +295,11 @@ class Recording:
         notices = list[Notice]()
         is_open = self.packets.is_cut and not self.packets.refusal
         if self.is_stream and is_open:
-            notices.append(Notice("cut", f"{shown(self.name)} ends within a PES packet of the "
-                                  "page's PID, which is not judged"))
+            notices.append(Notice("cut", f"{escape_hidden(self.name)} ends within a PES packet of "
+                                  "the page's PID, which is not judged"))
         if self.packets.damage:
-            notices.append(Notice("cut", f"{shown(self.name)}: {self.packets.damage}; it was "
-                                  "read up to there"))
+            notices.append(Notice("cut", f"{escape_hidden(self.name)}: {self.packets.damage}; it "
+                                  "was read up to there"))
         return notices
 
     # What is said.
@@ -327,7 +328,7 @@ class Recording:
         for one in several:
             counts.update(one.sent)
         del counts[self.request.page_name]
-        return (self.suggest_call("--page", name) for name, _ in counts.most_common(MOST_PAGES))
+        return (self.suggest_call("--page", name) for name, _ in counts.most_common(MAX_PAGES))
 
     def with_contents(self, reason: str) -> str:
         """Return a reason, followed by what the recording has."""

@@ -3,7 +3,7 @@ from __future__ import annotations
 
 from typing import Sequence
 
-from ..common.markup import BREAK, Markup, Value, joined, markup
+from ..common.markup import BREAK, Markup, Value, join_markup, markup
 from ..common.times import frame_of
 from ..formats.listing import FaultLine, make_number_link
 from ..formats.stl import GSI, NamedSubtitle, SubtitleFile
@@ -24,7 +24,7 @@ def mark_field(file: SubtitleFile, fault: FaultLine) -> Markup:
     name, place = FIELDS[fault.number]
     data = file.block(fault.block) if fault.block else file.data[:GSI]
     return markup(" {} {}", name, mark(data[place].hex().upper() if fault.block else
-                                       joined(map(show_byte, data[place]))))
+                                       join_markup(map(show_byte, data[place]))))
 
 
 def mark(text: Value) -> Markup:
@@ -42,8 +42,8 @@ def mark_times(subtitle: NamedSubtitle, faults: Sequence[FaultLine]) -> tuple[Va
 
 def make_fault_lines(file: SubtitleFile, faults: Sequence[FaultLine]) -> Markup:
     """Return the lines of `check` about some faults, each with its field."""
-    return joined((make_number_link(fault.line) + mark_field(file, fault) for fault in faults),
-                  BREAK)
+    return join_markup((make_number_link(fault.line) + mark_field(file, fault) for fault in faults),
+                       BREAK)
 
 
 def mark_text(text: bytes, faults: Sequence[FaultLine]) -> Markup:
@@ -53,11 +53,11 @@ def mark_text(text: bytes, faults: Sequence[FaultLine]) -> Markup:
     lines, begin = [], 0
     for number, line in enumerate(text.split(b"\x8a")):
         characters = [" " if byte == 0x20 else show_byte(byte) for byte in line]
-        words = joined(mark(fault) if (True, at) in marked else fault
-                       for at, fault in enumerate(characters, begin))
+        words = join_markup(mark(fault) if (True, at) in marked else fault
+                            for at, fault in enumerate(characters, begin))
         lines.append(mark(words) if (False, number) in marked else words)
         begin += len(line) + 1
-    return joined(lines, BREAK)
+    return join_markup(lines, BREAK)
 
 
 def show_byte(byte: int) -> Value:

@@ -7,7 +7,7 @@ import itertools
 from typing import Collection, Iterable, Iterator, NamedTuple, Sequence
 
 from ..common.command_line import counted
-from ..common.markup import BREAK, Markup, NO_MARKUP, Value, joined, markup
+from ..common.markup import BREAK, Markup, NO_MARKUP, Value, join_markup, markup
 from ..common.times import frame_of, time_of
 from ..formats.listing import FaultLine, WITH_CAUSE
 from ..formats.stl import NamedSubtitle, Subtitle, SubtitleFile, decode_subtitles
@@ -26,8 +26,8 @@ from .blocks import make_fault_lines, mark_text, mark_times
 
 COLUMNS = ("No.", "Into recording", "Expected in", "Expected out", "Actual in", "Actual out",
            "Frames late (in / out)", "Text", "Verdict")
-MOST_PRINTED = 200  # rows on paper
-MOST_BARS = 12  # delays in the histogram
+MAX_PRINTED = 200  # rows on paper
+MAX_BARS = 12  # delays in the histogram
 ROW_CLASSES = {RIGHT: "ok", WAIVED: "waived", WRONG: "bad", NOT_KNOWN: "unseen"}  # CSS classes
 
 
@@ -85,7 +85,7 @@ class CueList:
             last = repeat_key
         if self.part.recording is None and not self.part.check_output.fault_numbers:
             for subtitle in decode_subtitles(self.file.data):
-                text = joined(map(decode_text, subtitle.text.split(b"\x8a")), BREAK)
+                text = join_markup(map(decode_text, subtitle.text.split(b"\x8a")), BREAK)
                 yield CueRow(subtitle.index, ROW_CLASSES[RIGHT], (), [
                     make_number_cell(subtitle.index, subtitle.number), "", time_of(subtitle.begin),
                     time_of(subtitle.end), "", "", "", text, RIGHT])
@@ -104,7 +104,7 @@ class CueList:
         firsts = self.part.check_output.first_faults
         links = [markup('<a href="#n{}">{} {}</a>', number, number, firsts[number].name)
                  for number in verdict.fault_numbers]
-        words = joined(filter(None, [verdict.cause, *links, verdict.doubt]), "; ")
+        words = join_markup(filter(None, [verdict.cause, *links, verdict.doubt]), "; ")
         return RIGHT if verdict.word == RIGHT else \
             markup("{}: {}", WAIVED, words) if verdict.word == WAIVED else words
 
@@ -116,7 +116,7 @@ class CueList:
         decoded = format_page_text(sent, self.option) if sent else expected
         if decoded == expected or cue.cause is None or cue.cause.name == TEXT_IN_PAUSE:
             return expected
-        return joined([*mark_difference(expected, decoded)], BREAK)
+        return join_markup([*mark_difference(expected, decoded)], BREAK)
 
     def make_refused_rows(self) -> Iterator[CueRow]:
         """Yield the rows of refused subtitles, and of subtitles that depend on them."""
@@ -184,7 +184,7 @@ class CueList:
             '<table class="groups"><caption>What is wrong with {}</caption><thead><tr><th '
             'scope="col">Cause</th><th scope="col">Subtitles</th><th scope="col">First, into the '
             "recording</th></tr></thead><tbody>{}</tbody></table>",
-            counted(len(self.causes.by_index), "subtitle"), joined(rows))
+            counted(len(self.causes.by_index), "subtitle"), join_markup(rows))
 
     def make_histogram(self) -> Markup:
         """Return the histogram of delays; empty if all cues are in time."""
@@ -196,7 +196,7 @@ class CueList:
         if set(all_delays) <= {0}:
             return NO_MARKUP
         most = max(all_delays.values())
-        common = sorted(value for value, _ in all_delays.most_common(MOST_BARS))
+        common = sorted(value for value, _ in all_delays.most_common(MAX_BARS))
         rows = [markup('<tr><th scope="row">{}</th><td>{}</td><td>{}</td><td class="bars"><i '
                        'style="width:{:.1f}%"></i></td></tr>', format_signed(value),
                        in_delays[value],
@@ -209,29 +209,29 @@ class CueList:
         return markup(
             '<table class="spread"><caption>Frames late (negative: early)</caption><thead><tr><th '
             'scope="col">Frames</th><th scope="col">In-cues</th><th scope="col">Out-cues</th>'
-            '<td></td></tr></thead><tbody>{}</tbody></table>', joined(rows))
+            '<td></td></tr></thead><tbody>{}</tbody></table>', join_markup(rows))
 
     # The list.
 
     def make_list(self) -> Markup:
         """Return the section with the list."""
         number = self.part.number
-        heads = joined(markup('<th scope="col">{}</th>', name) for name in COLUMNS)
+        heads = join_markup(markup('<th scope="col">{}</th>', name) for name in COLUMNS)
         wrong = sum(row.row_class != ROW_CLASSES[RIGHT] for row in self.rows)
-        hidden = len(self.rows) - wrong, max(wrong - MOST_PRINTED, 0)
+        hidden = len(self.rows) - wrong, max(wrong - MAX_PRINTED, 0)
         printed = 0
         rows = []
         for row in self.rows:
             printed += row.row_class != ROW_CLASSES[RIGHT] and not row.is_repeated
             classes = [row.row_class, *row.kinds, *["again"] * row.is_repeated,
-                       *["more"] * (printed > MOST_PRINTED)]
-            cells = joined(markup("<td>{}</td>", cell) for cell in row.cells[1:])
+                       *["more"] * (printed > MAX_PRINTED)]
+            cells = join_markup(markup("<td>{}</td>", cell) for cell in row.cells[1:])
             rows.append(markup('<tr id="s{}" class="{}"><th scope="row">{}</th>{}</tr>',
                                row.position, " ".join(classes), row.cells[0], cells))
         choices = [("all", "all", len(self.rows)), (ROW_CLASSES[WRONG], "not right", wrong)]
         choices += [(kind.key, kind.name, self.counts[kind.key]) for kind in self.kinds
                     if self.counts[kind.key]]
-        radios = joined(
+        radios = join_markup(
             markup('<label><input type="radio" name="cues{}" value="{}"{}/> {} ({:,})</label>',
                    number, value, markup(' checked="checked"') * (value == "all"), name, count)
             for value, name, count in choices)
@@ -242,7 +242,7 @@ class CueList:
             'class="list"><caption>{}</caption><thead><tr>{}</tr></thead><tbody>{}</tbody></table>'
             "</section>",
             radios if wrong else NO_MARKUP, *hidden, self.make_caption(), heads,
-            joined(rows, "\n"))
+            join_markup(rows, "\n"))
 
     def make_caption(self) -> str:
         """Return the caption, which explains the columns."""
@@ -315,12 +315,12 @@ def mark_characters(text: str, places: Collection[int]) -> Markup:
     """Mark the characters at some places of a text."""
     runs = itertools.groupby(range(len(text)), set(places).__contains__)
     pieces = ((is_marked, "".join(text[at] for at in run)) for is_marked, run in runs)
-    return joined(markup("<mark>{}</mark>", piece) if is_marked else piece
-                  for is_marked, piece in pieces)
+    return join_markup(markup("<mark>{}</mark>", piece) if is_marked else piece
+                       for is_marked, piece in pieces)
 
 
 # Places of faults.
-MOST_PLACES = 20
+MAX_PLACES = 20
 
 
 def find_places(part: Part) -> dict[int, list[tuple[FaultLine, str]]]:
@@ -328,7 +328,7 @@ def find_places(part: Part) -> dict[int, list[tuple[FaultLine, str]]]:
     places: dict[int, list[tuple[FaultLine, str]]] = {}
     for fault, end in part.check_output.read_faults():
         fault_places = places.setdefault(fault.number, [])
-        if len(fault_places) < MOST_PLACES:
+        if len(fault_places) < MAX_PLACES:
             until = f", until {end.time}" if end.time else \
                 f", up to PES packet {end.pes}" if end.pes is not None else ""
             fault_places.append((fault, until))
@@ -338,5 +338,5 @@ def find_places(part: Part) -> dict[int, list[tuple[FaultLine, str]]]:
 def make_filter_style(lists: Iterable[CueList]) -> Markup:
     """Return the CSS that hides rows without the selected kind of fault."""
     keys = sorted({kind.key for one in lists for kind in one.kinds})
-    return joined(markup('.cues:has([value="{}"]:checked) tbody tr:not(.{}) {{ display: none; }}\n',
-                         key, key) for key in keys)
+    return join_markup(markup('.cues:has([value="{}"]:checked) tbody tr:not(.{}) '
+                              '{{ display: none; }}\n', key, key) for key in keys)

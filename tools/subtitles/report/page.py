@@ -8,8 +8,8 @@ from typing import Iterable, Iterator, Sequence
 from ..clock.start import Clock, START, TCP
 from ..common.command_line import counted
 from ..common.files import SummedFile
-from ..common.markup import BREAK, HEAD, Markup, NO_MARKUP, Value, joined, markup, own_style
-from ..common.program import about_program
+from ..common.markup import BREAK, HEAD, Markup, NO_MARKUP, Value, join_markup, markup, read_style
+from ..common.program import describe_program
 from ..common.times import ALL_DAY, Span, time_of
 from ..formats.listing import (
     CHANGED, CONTENT, FaultLine, PARITY, make_cell_markup, make_number_link, read_meanings)
@@ -44,7 +44,7 @@ SHAPES = {
                                   '40 46 28"/>')),
     NOT_JUDGED: ("unjudged", markup('<path d="M31 4L58 31L31 58L4 31z"/><path d="M23 25Q23 17 31 '
                                     '17Q39 17 39 24Q39 29 31 32V37M31 41V46"/>'))}
-MOST_LINES = 5  # more places are folded
+MAX_LINES = 5  # more places are folded
 UNCHECKED_ROW_0 = "row 0, the header line of the page"
 UNCHECKED_DELAY = "a delay of all subtitles, since the clock was estimated"
 UNCHECKED_GAP = "the transmission between the parts"
@@ -84,13 +84,13 @@ def make_verdict_box(verdict: Verdict) -> Markup:
     parts += [markup('<p class="note">{}</p>', keep_options_together(one)) for one in notes]
     return markup('<div class="verdict {}">{}<div><p class="sentence">{}</p><p class="line" '
                   'id="verdict">{}</p>{}</div></div>', kind, drawn,
-                  keep_options_together(verdict.sentence), line, joined(parts))
+                  keep_options_together(verdict.sentence), line, join_markup(parts))
 
 
 def keep_options_together(text: str) -> Markup:
     """Mark up options in a text, so that no line breaks inside an option."""
-    return joined(markup("<b>{}</b>", one) if at % 2 else one
-                  for at, one in enumerate(re.split(r"(--[a-z]+(?: \d[\d:]*)?)", text)))
+    return join_markup(markup("<b>{}</b>", one) if at % 2 else one
+                       for at, one in enumerate(re.split(r"(--[a-z]+(?: \d[\d:]*)?)", text)))
 
 
 def describe_clock(verdict: Verdict) -> Markup:
@@ -115,8 +115,9 @@ def make_folded_list(what: str, lines: Sequence[str]) -> Markup:
     """Return a titled list of places, folded if it is long; empty if there are none."""
     if not lines:
         return NO_MARKUP
-    listed = markup("<ul>{}</ul>", joined(markup("<li>{}</li>", one) for one in first_lines(lines)))
-    if len(lines) > MOST_LINES:
+    listed = markup("<ul>{}</ul>", join_markup(markup("<li>{}</li>", one)
+                                               for one in first_lines(lines)))
+    if len(lines) > MAX_LINES:
         listed = markup("<details><summary>{}</summary>{}</details>",
                         counted(len(lines), "place"), listed)
     return markup('<p class="count">{}</p>{}', what, listed)
@@ -163,7 +164,7 @@ class PartView:
         if self.cue_list.cues:
             yield markup('<section><h2 id="timeline">Timeline</h2>{}</section>',
                          self.draw_timeline())
-        if pictures := joined(self.pictures()):
+        if pictures := join_markup(self.pictures()):
             yield markup('<section><h2 id="pictures">First of each kind</h2>{}</section>', pictures)
         if self.cue_list.rows:
             yield self.cue_list.make_list()
@@ -219,8 +220,8 @@ class PartView:
             advice = find_advice(self.part, first)
             more = NO_MARKUP if advice is None else markup(
                 "<dl><dt>Meaning</dt><dd>{}</dd><dt>Remedy</dt><dd>{}</dd></dl>", *advice)
-            fault_items = joined((markup("<li>{}{}</li>", make_number_link(fault.line), until)
-                           for fault, until in places.get(number, ())))
+            fault_items = join_markup((markup("<li>{}{}</li>", make_number_link(fault.line), until)
+                                       for fault, until in places.get(number, ())))
             omitted = count - len(places.get(number, ()))
             fault_items += markup("<li>and {:,} more: <code>check --all</code> lists them</li>",
                                   omitted) \
@@ -235,9 +236,9 @@ class PartView:
         return markup(
             '<section><h2 id="faults">{}</h2><table class="faults"><caption>Faults by number, as '
             "check reports them</caption><thead><tr>{}</tr></thead><tbody>{}</tbody></table>"
-            "</section>", counted(answer.fault_count, "fault"), joined(
+            "</section>", counted(answer.fault_count, "fault"), join_markup(
                 markup('<th scope="col">{}</th>', name) for name in (
-                    "Number", "Faults", "First", "Into recording", "More")), joined(rows))
+                    "Number", "Faults", "First", "Into recording", "More")), join_markup(rows))
 
 
 def format_fault_place(part: Part, fault: FaultLine) -> Value:
@@ -252,7 +253,7 @@ def format_fault_place(part: Part, fault: FaultLine) -> Value:
 
 def make_definition_list(rows: Iterable[tuple[str, Value]]) -> Markup:
     """Return a definition list of the names whose values are not empty."""
-    return markup('<dl class="made">{}</dl>', joined(
+    return markup('<dl class="made">{}</dl>', join_markup(
         markup("<dt>{}</dt><dd>{}</dd>", name, value) for name, value in rows if value))
 
 
@@ -326,19 +327,19 @@ def list_options(verdict: Verdict, part: Part) -> str:
 
 def footer(verdict: Verdict, command_paths: CommandPaths) -> Markup:
     """Return the last sections: what was not checked, waived faults, files and commands."""
-    program = about_program(command_paths.program_path)
+    program = describe_program(command_paths.program_path)
     size = os.path.getsize(command_paths.program_path)
     files = [("STL", verdict.stl), *(("PES", part.judged_file) for part in verdict.parts),
              ("Recording", verdict.recording),
              ("Program", SummedFile(command_paths.program_command, size, program.sha256))]
-    rows = joined(markup('<tr><th scope="row">{}</th><td class="long">{}</td><td>{:,} bytes</td>'
-                         '<td class="long"><code>{}</code></td></tr>', kind, one.name, one.size,
-                         one.sha256) for kind, one in files if one)
-    commands = joined((markup('<code class="long">{}</code>', one)
-                       for one in verdict.commands), BREAK)
+    rows = join_markup(markup('<tr><th scope="row">{}</th><td class="long">{}</td>'
+                              '<td>{:,} bytes</td><td class="long"><code>{}</code></td></tr>',
+                              kind, one.name, one.size, one.sha256) for kind, one in files if one)
+    commands = join_markup((markup('<code class="long">{}</code>', one)
+                            for one in verdict.commands), BREAK)
     proved: Value = markup('<code class="long">{}</code>', program.proved) if program.proved else \
         "there is no file PROVED with the prover's result for this program"
-    return joined([
+    return join_markup([
         markup('<section><h2 id="unchecked">Not checked, waived</h2>{}</section>',
                make_definition_list([
             ("Not checked", "; ".join(list_unchecked(verdict))),
@@ -369,12 +370,12 @@ def make_parts_table(parts: Sequence[Part]) -> Markup:
                               f"{part.check_output.fault_count:,}",
                               list_cause_counts([part.causes]) if part.causes else "none", clock]
         rows.append(markup('<tr><th scope="row"><a href="{}">part {}</a></th>{}</tr>', name,
-                           part.number, joined(markup('<td data-name="{}">{}</td>', *pair)
-                                               for pair in zip(PART_COLUMNS, cells))))
+                           part.number, join_markup(markup('<td data-name="{}">{}</td>', *pair)
+                                                    for pair in zip(PART_COLUMNS, cells))))
     return markup('<table class="parts"><caption>{} parts</caption><thead><tr><td></td>{}</tr>'
-                  "</thead><tbody>{}</tbody></table>", len(parts), joined(
+                  "</thead><tbody>{}</tbody></table>", len(parts), join_markup(
                       markup('<th scope="col">{}</th>', name) for name in PART_COLUMNS),
-                  joined(rows))
+                  join_markup(rows))
 
 
 LINKS = (("causes", "What is wrong"), ("timeline", "Timeline"), ("pictures", "Pictures"),
@@ -400,12 +401,12 @@ def make_report_page(verdict: Verdict, command_paths: CommandPaths) -> Markup:
         body.append(markup('<section class="part" id="{}"><h2>Part {}, from {} to {}: {}</h2>{}'
                            "</section>", name, view.part.number, begin or "", end or "",
                            view.part.first_text,
-                           joined(view.make_sections(), "\n").anchored(f"{name}-")))
+                           join_markup(view.make_sections(), "\n").anchored(f"{name}-")))
     body.append(footer(verdict, command_paths))
-    content = joined(body, "\n")
-    links = joined((markup('<a href="#{}">{}</a>', anchor, words) for anchor, words in LINKS
-                    if f' id="{anchor}"' in content.source), " ")
-    style = own_style(os.path.join(os.path.dirname(__file__), "style.css"))
+    content = join_markup(body, "\n")
+    links = join_markup((markup('<a href="#{}">{}</a>', anchor, words) for anchor, words in LINKS
+                         if f' id="{anchor}"' in content.source), " ")
+    style = read_style(os.path.join(os.path.dirname(__file__), "style.css"))
     return markup(
         "{}<title>{} &#8211; {}</title><style>\n{}{}</style></head><body><main><h1>Report on {}"
         '</h1>\n<nav aria-label="Sections">{}</nav>\n{}\n</main></body></html>\n', HEAD, line,

@@ -9,7 +9,7 @@ import re
 from typing import Any, Callable, Iterable, Iterator, NamedTuple, TypeVar
 
 from ..common.command_line import counted
-from ..common.markup import Markup, NO_MARKUP, joined, markup
+from ..common.markup import Markup, NO_MARKUP, join_markup, markup
 from ..formats.teletext import NEWSFLASH, SUBTITLE, has_bit, character_table
 from ..stream.receiver import BLANK_PAGE, HIT, OLD, ReceiverState, Rows, national_option
 
@@ -145,7 +145,7 @@ def draw_row(row: bytes, number: int, option: int, is_boxed_page: bool) -> tuple
         parts.append(markup('<rect class="{}" x="{}" y="1" width="{}" height="13"/>', name,
                             begin * WIDTH + 1, (end - begin) * WIDTH - 2))
     parts.append(markup('<text class="n" x="-4" y="11">{}</text></g>', number))
-    return joined(parts), is_tall
+    return join_markup(parts), is_tall
 
 
 def draw_frames(different: Iterable[Place], tall: set[int]) -> Markup:
@@ -158,8 +158,8 @@ def draw_frames(different: Iterable[Place], tall: set[int]) -> Markup:
             end = row + 1 + (row in tall)
             first = boxes.pop((run[0], len(run), row), row)
             boxes[run[0], len(run), end] = first
-    return joined(draw_frame(column, width, first, end)
-                  for (column, width, end), first in boxes.items())
+    return join_markup(draw_frame(column, width, first, end)
+                       for (column, width, end), first in boxes.items())
 
 
 def draw_frame(column: int, width: int, first: int, end: int) -> Markup:
@@ -203,7 +203,7 @@ def draw_picture(rows: Rows, header: bytes, shown_rows: RowRange,
             tall |= {number} if is_tall else set()
     parts.append(draw_frames(different, tall))
     parts.append(markup("</svg>"))
-    return joined(parts)
+    return join_markup(parts)
 
 
 def draw_empty_picture(words: str, shown_rows: RowRange) -> Markup:

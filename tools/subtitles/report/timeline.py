@@ -4,7 +4,7 @@ from __future__ import annotations
 
 from typing import Iterable, Iterator
 
-from ..common.markup import Markup, NO_MARKUP, Value, joined, markup
+from ..common.markup import Markup, NO_MARKUP, Value, join_markup, markup
 from ..common.times import FRAMES_A_SECOND, Span, time_of
 from ..judging.cues import Cue, find_text_spans
 from ..stream.receiver import Timeline
@@ -15,7 +15,7 @@ MIN_MARK_WIDTH = 2  # units
 MINUTE = 60 * FRAMES_A_SECOND
 STEPS = [seconds * FRAMES_A_SECOND for seconds in (1, 2, 5, 10, 30)] + [
     minutes * MINUTE for minutes in (1, 2, 5, 10, 30, 60, 120, 240)]
-MOST_TIMES = 10  # below the lanes
+MAX_TIMES = 10  # below the lanes
 EDGE = 8  # percent; a time nearer to an end of the lanes is aligned with that end
 
 
@@ -48,7 +48,7 @@ class Lanes:
                 (span.first, span.last + 1) for span in self.lost_spans)))
         label = f"Timeline from {time_of(self.begin)} to {time_of(self.end)}"
         return markup('<figure class="lanes"><figcaption>{}</figcaption>{}{}</figure>', label,
-                      joined(lanes), self.draw_axis())
+                      join_markup(lanes), self.draw_axis())
 
     def fault_lanes(self) -> Iterator[Markup]:
         """Draw a lane for each kind of fault."""
@@ -85,7 +85,7 @@ class Lanes:
     def draw_axis(self) -> Markup:
         """Draw the times; each is a link to the next subtitle."""
         length = self.end - self.begin
-        step = next((one for one in STEPS if length <= MOST_TIMES * one), STEPS[-1])
+        step = next((one for one in STEPS if length <= MAX_TIMES * one), STEPS[-1])
         begins = [cue.subtitle for cue in self.cues.cues]
         words = []
         for frame in range(-(-self.begin // step) * step, self.end - length // 30, step):
@@ -95,7 +95,7 @@ class Lanes:
             edge = "first" if place < EDGE else "last" if place > 100 - EDGE else "inner"
             words.append(markup('<a class="{}" href="#s{}" style="left:{:.4g}%">{}</a>', edge,
                                 one.index, place, short) if one else NO_MARKUP)
-        return markup('<div class="axis"><div>{}</div></div>', joined(words))
+        return markup('<div class="axis"><div>{}</div></div>', join_markup(words))
 
 
 def find_cue_span(cue: Cue) -> tuple[int, int]:

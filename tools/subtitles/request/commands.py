@@ -11,9 +11,10 @@ import sys
 import time
 from typing import Callable, TextIO
 
-from ..common.command_line import HIDDEN, INSTALLED, Stop, quoted, shown, silence, tell
+from ..common.command_line import (
+    HIDDEN, INSTALLED, Stop, discard_output, escape_hidden, print_stderr, quote_argument)
 from ..common.files import is_utf_8
-from ..common.program import TOP, behind_script
+from ..common.program import TOP, resolve_script
 from .request import OPTIONS, Profile, Request, Selection, list_arguments
 
 
@@ -36,7 +37,7 @@ class CommandPaths:
         path = os.path.abspath(program or os.path.join(TOP, "subttx"))
         if os.path.isdir(path) or not os.access(path, os.X_OK):
             raise Stop(f"{self.program_command} is not an executable program")
-        self.program_path = behind_script(path)  # the script would search for it in each call
+        self.program_path = resolve_script(path)  # the script would search for it in each call
 
     def default_program(self) -> str:
         """Return the path of the program next to the tools."""
@@ -52,7 +53,7 @@ class CommandPaths:
 
 def shell_line(*words: str) -> str:
     """Quote arguments for a shell, except `>` and `|`."""
-    line = " ".join(word if word in (">", "|") else quoted(word) for word in words)
+    line = " ".join(word if word in (">", "|") else quote_argument(word) for word in words)
     return line.replace(" > ", " >")
 
 
@@ -75,7 +76,7 @@ ESCAPE = "%"
 # pair, a part or a line.
 ESCAPED = re.compile(rf"^\.|{ESCAPE}|{HIDDEN.pattern}|[.~](?=[0-9]+$)|(?<=^line) (?=[0-9]+$)"
                      r"|^i(?=ndex$)")
-MOST_NAME_BYTES, KEPT_NAME_BYTES = 180, 120  # a longer name is cut, and a digest is added
+MAX_NAME_BYTES, KEPT_NAME_BYTES = 180, 120  # a longer name is cut, and a digest is added
 
 
 def pair_name(stl: str) -> str:
@@ -83,7 +84,7 @@ def pair_name(stl: str) -> str:
     stem = os.path.splitext(os.path.basename(stl))[0]
     name = ESCAPED.sub(lambda found: "".join(
         f"{ESCAPE}{byte:02X}" for byte in os.fsencode(found[0])), stem) or ESCAPE
-    if len(os.fsencode(name)) > MOST_NAME_BYTES:
+    if len(os.fsencode(name)) > MAX_NAME_BYTES:
         digest = hashlib.sha256(os.fsencode(stem)).hexdigest()[:32]
         beginning = name.encode()[:KEPT_NAME_BYTES].decode("utf-8", "ignore")
         name = f"{beginning}{ESCAPE}~{digest}"
@@ -261,7 +262,7 @@ class Progress:
             sys.stderr.flush()
 
 
-MOST_LIST_LINES = 40  # printed lines of a list
+MAX_LIST_LINES = 40  # printed lines of a list
 class Printer:
     """Prints lines on standard output, or on standard error if an output file is `-`."""
 
@@ -277,7 +278,7 @@ class Printer:
         self.progress.clear()
         self.last_line = line
         if not self.is_quiet:
-            self.write_line(shown(line), self.out)
+            self.write_line(escape_hidden(line), self.out)
 
     @staticmethod
     def write_line(line: str, out: TextIO) -> None:
@@ -285,12 +286,12 @@ class Printer:
         try:
             print(line, file=out, flush=True)
         except BrokenPipeError:
-            silence(out)
+            discard_output(out)
 
     def print_error(self, line: str) -> None:
         """Print a line on standard error, after all earlier output."""
         self.progress.clear()
-        tell(line)
+        print_stderr(line)
 
     def show_progress(self, make_line: Callable[[], str]) -> None:
         """Show a progress line on a terminal."""
@@ -302,14 +303,14 @@ class Printer:
         self.print_line(f"+ {line}")
 
     def print_list_line(self, line: str) -> None:
-        """Print a line of a list, if it is one of the first `MOST_LIST_LINES`."""
+        """Print a line of a list, if it is one of the first `MAX_LIST_LINES`."""
         self.list_length += 1
-        if self.list_length <= MOST_LIST_LINES:
+        if self.list_length <= MAX_LIST_LINES:
             self.print_line(line)
 
     def end_list(self, last_line: str) -> None:
         """Print the number of omitted lines, and the last line of the list."""
-        omitted = self.list_length - MOST_LIST_LINES
+        omitted = self.list_length - MAX_LIST_LINES
         if omitted > 1:
             self.print_line(f".. {omitted - 1} more lines")
         if omitted > 0:

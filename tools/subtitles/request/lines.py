@@ -11,8 +11,8 @@ import os
 import re
 from typing import Any, Collection, Iterable, Iterator, Mapping, NamedTuple, Sequence
 
-from ..common.command_line import Stop, Words, error_line
-from ..common.files import Inputs, bounded_bytes, kind_of, plain_name
+from ..common.command_line import Stop, ToolParser, format_error
+from ..common.files import Inputs, read_bounded_bytes, describe_kind, make_safe_name
 from .commands import ListNames, pair_name
 from .request import (
     Mode, OPTIONS, Profile, Request, Setting, add_options, option_values, make_request,
@@ -23,8 +23,8 @@ from .request import (
 
 # Limits of a list. Python needs some 600 bytes for a line that is not a pair, and 150 for each of
 # its words.
-MOST_BYTES, MOST_LINES, MOST_WORDS = 16_000_000, 100_000, 1_000_000
-MOST_LINE_CHARACTERS, MOST_LINE_WORDS = 65_536, 256
+MAX_BYTES, MAX_LINES, MAX_WORDS = 16_000_000, 100_000, 1_000_000
+MAX_LINE_CHARACTERS, MAX_LINE_WORDS = 65_536, 256
 BYTE_ORDER_MARKS = codecs.BOM_UTF8, codecs.BOM_UTF16_LE, codecs.BOM_UTF16_BE
 # A part of a word, a blank or a comment; if nothing matches, a quote is not closed.
 LIST_TOKEN = re.compile(r"""(?P<blank>[ \t\r\n]+) | (?P<comment>\#.*)
@@ -45,7 +45,7 @@ class Line(NamedTuple):
 
 def read_list(path: str, may_be_pipe: bool = False) -> str:
     """Return the text of a list file."""
-    return decode_text(path, bounded_bytes(path, MOST_BYTES, may_be_pipe))
+    return decode_text(path, read_bounded_bytes(path, MAX_BYTES, may_be_pipe))
 
 
 def decode_text(name: str, data: bytes) -> str:
@@ -68,9 +68,9 @@ def split_lines(text: str) -> Iterator[Line]:
         line = parse_line(number, text_line.removesuffix("\n"))
         line_count += bool(line.arguments)
         word_count += len(line.arguments)
-        if line_count > MOST_LINES or word_count > MOST_WORDS:
-            raise Stop(f"line {number} exceeds the limits of a list: {MOST_LINES:,} lines and "
-                       f"{MOST_WORDS:,} words")
+        if line_count > MAX_LINES or word_count > MAX_WORDS:
+            raise Stop(f"line {number} exceeds the limits of a list: {MAX_LINES:,} lines and "
+                       f"{MAX_WORDS:,} words")
         if line.arguments:
             yield line
 
@@ -86,8 +86,8 @@ def parse_line(number: int, text: str) -> Line:
 def split_words(line: str) -> list[str]:
     """Split a line into words as `shlex` does, but in linear time. Raise `ValueError` if the line
     is too long, a quote is not closed or a word has a NUL character."""
-    if len(line) > MOST_LINE_CHARACTERS:
-        raise ValueError(f"it has more than {MOST_LINE_CHARACTERS:,} characters")
+    if len(line) > MAX_LINE_CHARACTERS:
+        raise ValueError(f"it has more than {MAX_LINE_CHARACTERS:,} characters")
     parts: list[list[str]] = [[]]  # of each word
     at = 0
     while at < len(line):
@@ -102,8 +102,8 @@ def split_words(line: str) -> list[str]:
             parts[-1].append(match[kind] if kind != "double" else
                              ESCAPED.sub(r"\1", match[kind]))
     arguments = ["".join(parts_of_word) for parts_of_word in parts if parts_of_word]
-    if len(arguments) > MOST_LINE_WORDS:
-        raise ValueError(f"it has more than {MOST_LINE_WORDS} words")
+    if len(arguments) > MAX_LINE_WORDS:
+        raise ValueError(f"it has more than {MAX_LINE_WORDS} words")
     if any("\0" in word for word in arguments):
         raise ValueError("a word has a NUL character")
     return arguments
@@ -111,7 +111,7 @@ def split_words(line: str) -> list[str]:
 
 # Profiles.
 
-MOST_PROFILE_BYTES = 65_536
+MAX_PROFILE_BYTES = 65_536
 PATH_FIELDS = {"severity"}  # options whose value is a path
 
 
@@ -124,18 +124,18 @@ def parse_setting(arguments: Sequence[str]) -> Setting:
         names = ", ".join(one.name for one in OPTIONS if one.is_in_profile)
         raise Stop(f"{option.name if option else 'its first word'} is not allowed in a profile: "
                    f"use {names}")
-    parser = Words("")
+    parser = ToolParser("")
     add_options(parser, [option])
     return Setting(name, option.field, getattr(parser.parse_args(arguments), option.field))
 
 
 def read_profile(path: str, may_be_pipe: bool = False) -> Profile:
     """Read a profile; raise `Stop` for the first faulty or repeated line."""
-    name = plain_name(path)
+    name = make_safe_name(path)
     try:
-        data = bounded_bytes(name, MOST_PROFILE_BYTES, may_be_pipe)
+        data = read_bounded_bytes(name, MAX_PROFILE_BYTES, may_be_pipe)
     except OSError as reason:
-        raise Stop(error_line(reason)) from None
+        raise Stop(format_error(reason)) from None
     settings, lines = dict[str, Setting](), dict[str, int]()
     for line in split_lines(decode_text(name, data)):
         try:
@@ -159,7 +159,7 @@ def resolve_setting_path(setting: Setting, folder: str) -> Setting:
 
 
 # Options of a line, of the command line and of a profile.
-def read_options(parser: Words, line: Sequence[str], defaults: Mapping[str, Any],
+def read_options(parser: ToolParser, line: Sequence[str], defaults: Mapping[str, Any],
                  own_defaults: Mapping[str, Any], folder: str = "", is_typed: bool = False) \
         -> argparse.Namespace:
     """Return the options of a line, with `defaults` for options that it does not have.
@@ -203,9 +203,9 @@ def describe_mode_conflict(name: str, modes: Sequence[Mode], mode: Mode) -> str:
 
 
 @functools.lru_cache(maxsize=None)
-def make_line_parser() -> Words:
+def make_line_parser() -> ToolParser:
     """Return the parser for lines of a list; cached, since making it takes longer than using it."""
-    parser = Words("")
+    parser = ToolParser("")
     parser.add_argument("stl")
     parser.add_argument("recording")
     add_options(parser)
@@ -270,7 +270,7 @@ def collect_inputs(items: Iterable[BatchItem], *more: str) -> Inputs:
 def find_path_problem(path: str) -> str | None:
     """Return why a path can't be judged, `None` if it is a regular file."""
     try:
-        kind = kind_of(os.stat(path).st_mode)
+        kind = describe_kind(os.stat(path).st_mode)
     except OSError as error:
         return f"{path}: {error.strerror}"
     except ValueError as error:

@@ -9,12 +9,13 @@ import stat
 from typing import Any, Callable, Iterable, Mapping, NamedTuple, Sequence
 
 from ..common.command_line import (
-    Lateness, MOST_EVERY, MOST_WITHIN, Stop, Words, breaks_word, every_word, late_text, late_word,
-    origin_word, pace_word, page_word, pid_word, range_word, shown, start_word, time_word,
-    within_word)
-from ..common.files import first_bytes, plain_name
+    Lateness, MAX_EVERY, MAX_WITHIN, Stop, ToolParser, escape_hidden, format_lateness,
+    parse_break_count, parse_lateness, parse_origin, parse_packet_range, parse_page,
+    parse_pes_interval, parse_pid, parse_repeat_interval, parse_start, parse_time, parse_within)
+from ..common.files import read_first_bytes, make_safe_name
 from ..common.shapes import (
-    COUNT, Flag, Integer, Listed, Maybe, Member, OneOf, PID, PTS, Record, SUM, Shape, TIME, Text)
+    CHECKSUM, COUNT, Flag, Integer, Listed, Maybe, Member, OneOf, PID, PTS, Record, Shape, TIME,
+    Text)
 from ..common.times import Between, FRAMES_OF_A_DAY, frame_of, time_of
 from ..formats.layout import find_layout_fault
 from ..formats.stl import read_stl
@@ -126,7 +127,7 @@ def remove_markup(text: str) -> str:
 
 def check_time(text: str) -> str:
     """Return a time of day unchanged; raise `ArgumentTypeError` if it is invalid."""
-    time_word(text)
+    parse_time(text)
     return text
 
 
@@ -148,7 +149,7 @@ def check_layout(text: str) -> str:
 
 def parse_pace_or_none(text: str) -> str:
     """Parse a maximum PES interval, or `none`."""
-    return text if text == NONE else str(pace_word(text))
+    return text if text == NONE else str(parse_pes_interval(text))
 
 
 def format_range(pes: tuple[int, int]) -> str:
@@ -156,24 +157,24 @@ def format_range(pes: tuple[int, int]) -> str:
     return f"{pes[0]}-{pes[1]}"
 
 
-PROFILE = Record("profile", "", Member("name", Text()), Member("sha256", SUM))
+PROFILE = Record("profile", "", Member("name", Text()), Member("sha256", CHECKSUM))
 
 PART_NOTE = "null if qc chosen the value, which is then in see the part."
 
 OPTIONS: tuple[Option, ...] = (
     Option("--page", "P", "judge page P", MEASURED_PAIRS, "888", field="page", default=(0, 0x88),
-           read=page_word, write=lambda page: page_name(*page), check_default=(0, 0x88),
+           read=parse_page, write=lambda page: page_name(*page), check_default=(0, 0x88),
            is_in_profile=True,
            shape=Text(r"[1-8][0-9A-F]{2}"), result_value=lambda page: page_name(*page)),
     Option("--every", "N", "allow at most N frames from one header of the page to the next", PAIRS,
-           "250", field="every", default=250, read=every_word, check_default=250,
-           is_in_profile=True, shape=Integer(1, MOST_EVERY)),
+           "250", field="every", default=250, read=parse_repeat_interval, check_default=250,
+           is_in_profile=True, shape=Integer(1, MAX_EVERY)),
     Option("--option", "O", "use this national option; `auto`: choose it by the language of the "
            "subtitle file (LC)", MEASURED, "english", field="option", default="english",
            choices=(*OPTION_WORDS, AUTO), check_default="english", is_in_profile=True,
            shape=OneOf(*OPTION_WORDS)),
     Option("--origin", "T", "take T as the PTS of 00:00:00:00", MEASURED_PAIRS, "estimated",
-           field="origin", read=origin_word, is_in_profile=True, shape=Maybe(PTS), note=PART_NOTE),
+           field="origin", read=parse_origin, is_in_profile=True, shape=Maybe(PTS), note=PART_NOTE),
     Option("--complete", None, "require a [terminator header]"
            "(streams.md#closing-headers---complete) after each page", PAIRS, "required",
            field="is_complete", default=True, check_default=False, is_in_profile=True,
@@ -181,7 +182,7 @@ OPTIONS: tuple[Option, ...] = (
     Option("--no-complete", None, "do not require terminator headers", PAIRS, "required",
            field="is_complete", default=True, flag_value=False, is_in_profile=True),
     Option("--pid", "PID", "judge this PID of a transport stream", MEASURED_PAIRS,
-           "the PID that carries the page", field="pid", read=pid_word,
+           "the PID that carries the page", field="pid", read=parse_pid,
            write=lambda pid: f"0x{pid:X}", is_in_profile=True, shape=Maybe(PID), note=PART_NOTE),
     Option("--allow-lost", None, "treat lost TS packets (45, 79) as warnings", PAIRS,
            "they are errors", field="is_loss_allowed", default=False, is_in_profile=True,
@@ -194,25 +195,26 @@ OPTIONS: tuple[Option, ...] = (
            field="severity", is_in_profile=True, shape=Maybe(Text())),
     Option("--breaks", "N", "expect N [breaks](#programmes-with-breaks) in the programme; each "
            "part has its own clock", PAIRS, "0", field="breaks", default=0,
-           read=breaks_word, shape=COUNT),
+           read=parse_break_count, shape=COUNT),
     Option("--pes", "I-J", "judge only PES packets I to J, if the recording has the programme "
-           "twice", MEASURED_PAIRS, "all", field="pes", read=range_word, write=format_range,
+           "twice", MEASURED_PAIRS, "all", field="pes", read=parse_packet_range, write=format_range,
            shape=Maybe(Listed(COUNT, 2, 2))),
     Option("--start", "TIME|tcp", "take TIME as the time code of the recording's [first picture]"
            "(#the-clock-by-the-first-picture); `tcp`: use the TCP of the GSI block",
-           MEASURED_PAIRS, "estimated", field="start", read=start_word, is_in_profile=True,
+           MEASURED_PAIRS, "estimated", field="start", read=parse_start, is_in_profile=True,
            shape=Maybe(Text())),
     Option("--relative", None, "exit with status 0 for [`relative`](#verdicts-and-exit-status): "
            "a delay of all subtitles is not checked", PAIRS, "status 3",
            field="is_relative_allowed", default=False, is_in_profile=True, shape=Flag()),
     Option("--within", "N", "accept pages that are complete at most N frames after their cues",
-           MEASURED_PAIRS, "0", field="within", default=0, read=within_word, check_default=0,
-           is_in_profile=True, shape=Integer(0, MOST_WITHIN)),
+           MEASURED_PAIRS, "0", field="within", default=0, read=parse_within, check_default=0,
+           is_in_profile=True, shape=Integer(0, MAX_WITHIN)),
     Option("--late", "SHARES", "choose the likeliest clock by the usual delays of the inserter: "
            "how many in-cues, and after the slash out-cues, are 0, 1 .. frames late, as "
            "`0:31,1:40,2:29/0:100`; only with `--within`",
-           PAIRS, "none", field="late", read=late_word, write=late_text, is_in_profile=True,
-           shape=Maybe(Text()), result_value=lambda late: late and late_text(late)),
+           PAIRS, "none", field="late", read=parse_lateness, write=format_lateness,
+           is_in_profile=True,
+           shape=Maybe(Text()), result_value=lambda late: late and format_lateness(late)),
     Option("--strict", None, "treat [warnings](#warnings) about the recording as faults", JUDGED,
            "they change nothing", field="is_strict", default=False, shape=Flag()),
     Option("--from", "TIME", "judge only subtitles with a TCI at TIME or later", MEASURED, "all",
@@ -252,7 +254,7 @@ GROUPS = {
                    "--limit", "--settled")}
 
 
-def add_options(parser: Words, options: Iterable[Option] | None = None) -> None:
+def add_options(parser: ToolParser, options: Iterable[Option] | None = None) -> None:
     """Add options to a parser in their groups; by default the options for a pair."""
     for option in sorted(OPTIONS if options is None else options, key=group_number):
         arguments: dict[str, Any] = {"help": option.help, "dest": option.field,
@@ -421,13 +423,13 @@ def make_request(args: argparse.Namespace) -> Request:
 
 def make_file_request(stl: str, recording: str | None, options: argparse.Namespace) -> Request:
     """Return the request for two files with parsed options."""
-    recording_name = recording and (recording if recording == "-" else plain_name(recording))
+    recording_name = recording and (recording if recording == "-" else make_safe_name(recording))
     if options.origin is not None and options.start is not None:
         raise Stop("--start and --origin both give the clock: remove one")
     if options.late and options.late.longest > options.within:
         raise Stop(f"--late has delays of {options.late.longest} frames, but --within allows "
                    f"{options.within}: give a greater --within")
-    request = Request(plain_name(stl), recording_name, **option_values(options))
+    request = Request(make_safe_name(stl), recording_name, **option_values(options))
     if request.option == AUTO and not is_pipe(request.stl):  # a pipe is read later
         choose_option(request)
     return request
@@ -454,14 +456,14 @@ def choose_option(request: Request) -> None:
     """Choose the national option by the language of the subtitle file (GSI block, LC)."""
     language = b""
     with contextlib.suppress(Stop, OSError):  # judging reports the error
-        language = first_bytes(request.stl_path, LC.stop)[LC]
+        language = read_first_bytes(request.stl_path, LC.stop)[LC]
     request.option = option_for_language(language).word
     request.language = language.decode("latin-1")
 
 
 def describe_option(request: Request) -> str:
     """Return the line that explains the choice of the national option."""
-    language = f"the language of the file (LC) is {shown(request.language)}" \
+    language = f"the language of the file (LC) is {escape_hidden(request.language)}" \
         if request.language else "the file names no language (LC)"
     return f"option: {request.option}, since {language}"
 

@@ -12,9 +12,10 @@ import xml.etree.ElementTree as tree
 from typing import Any, Callable, Iterable, Iterator, NamedTuple, Sequence
 
 from ..clock.start import RECORDING
-from ..common.command_line import Stop, error_line, shown_lines
-from ..common.files import bounded_bytes, first_bytes, is_replaced, result_file, whole_file
-from ..common.program import MadeWith
+from ..common.command_line import Stop, format_error, escape_hidden_lines
+from ..common.files import (
+    is_replaced, open_output, open_result, read_bounded_bytes, read_first_bytes)
+from ..common.program import ProgramInfo
 from ..common.shapes import Listed, Member, Members
 from ..judging.status import ACCEPTED, NOT_JUDGED, STATUSES, matches_exit_status
 from ..judging.subtitles import SubtitleCounts
@@ -27,18 +28,18 @@ from .schema import (
 
 # JSON results. Items of lists are written one by one, since there may be any number of faults.
 
-MOST_BYTES = 32 << 20  # of the items in all lists of a result
+MAX_BYTES = 32 << 20  # of the items in all lists of a result
 
 
 class ListLimit:
     """Limits the size of the lists in a result, and counts omitted items."""
 
     def __init__(self) -> None:
-        self.remaining_bytes = MOST_BYTES
+        self.remaining_bytes = MAX_BYTES
         self.omitted_counts = {member.name: 0 for member in LISTS}
 
 
-def write_result(verdict: Verdict, program: MadeWith) -> Iterator[str]:
+def write_result(verdict: Verdict, program: ProgramInfo) -> Iterator[str]:
     """Yield the text of a JSON result in pieces."""
     source, limit = ResultSource(verdict, program), ListLimit()
     separator = "{"
@@ -71,10 +72,10 @@ def write_list(member: Member, source: ResultSource, limit: ListLimit) -> Iterat
 # Reading JSON results, as rows of a table.
 
 ENDING = ".json"
-MOST_ROW_LINES = 100
-MOST_RESULT_BYTES = 2 * MOST_BYTES
-MOST_VALUES = 2_000_000  # Python needs 70 bytes for a value, and 160 for a member of an object
-MOST_DIGITS = 20
+MAX_ROW_LINES = 100
+MAX_RESULT_BYTES = 2 * MAX_BYTES
+MAX_VALUES = 2_000_000  # Python needs 70 bytes for a value, and 160 for a member of an object
+MAX_DIGITS = 20
 NO_CLOCK, LATER_CLOCK = "no clock was given", "the clock after a break was estimated"
 
 
@@ -118,13 +119,13 @@ def can_replace(path: str, prefix: bytes = b"{") -> bool:
     file with other contents may be an input, given by mistake."""
     if not is_replaced(path) or not os.path.exists(path):
         return True
-    return first_bytes(path, len(prefix)) in (prefix, b"")
+    return read_first_bytes(path, len(prefix)) in (prefix, b"")
 
 
 def write_file(path: str | None, make_chunks: Callable[[], Iterable[bytes]]) -> None:
     """Write a requested file, completely or not at all."""
     if path is not None:
-        with whole_file(path) as file:
+        with open_output(path) as file:
             file.writelines(make_chunks())
 
 
@@ -135,7 +136,7 @@ def result_bytes(result: dict[str, Any]) -> bytes:
 
 def write_result_file(path: str, result: dict[str, Any]) -> None:
     """Write a result that was not judged into a folder of results."""
-    with result_file(path) as file:
+    with open_result(path) as file:
         file.write(result_bytes(result))
 
 
@@ -165,25 +166,25 @@ def read_result(path: str) -> dict[str, Any] | None:
 
 def read_json(path: str) -> object:
     """Read the JSON value in a file; raise `ValueError` if it is too large."""
-    data = bounded_bytes(path, MOST_RESULT_BYTES, is_followed=False)
-    if sum(map(data.count, (b",", b"{", b"["))) > MOST_VALUES:
-        raise ValueError(f"it has more than {MOST_VALUES:,} values")
+    data = read_bounded_bytes(path, MAX_RESULT_BYTES, is_followed=False)
+    if sum(map(data.count, (b",", b"{", b"["))) > MAX_VALUES:
+        raise ValueError(f"it has more than {MAX_VALUES:,} values")
     return json.loads(data.decode("utf-8"), parse_int=parse_number, parse_constant=refuse_constant)
 
 
 def parse_number(digits: str) -> int:
     """Parse a number of at most 20 digits; raise `ValueError` if it is longer."""
-    return int(digits) if len(digits) <= MOST_DIGITS else refuse_constant(digits)
+    return int(digits) if len(digits) <= MAX_DIGITS else refuse_constant(digits)
 
 
 def refuse_constant(text: str) -> int:
     """Raise `ValueError` for a number that no result has, for example `NaN`."""
-    raise ValueError(f"{text[:MOST_DIGITS]} is not a number that a result can have")
+    raise ValueError(f"{text[:MAX_DIGITS]} is not a number that a result can have")
 
 
 def describe_error(reason: Exception) -> str:
     """Return the message of an exception in one line."""
-    return error_line(reason) if isinstance(reason, (Stop, OSError)) else \
+    return format_error(reason) if isinstance(reason, (Stop, OSError)) else \
         " ".join(str(reason).split())
 
 
@@ -211,7 +212,7 @@ def make_row(result: dict[str, Any], name: str) -> Row:
     return Row(name, title or name, result["verdict"], result["status"],
                result["reason"] or result["worst_fault"], result["fault_count"],
                count_row_causes(result),
-               [fault["line"] for fault in result["faults"][:MOST_ROW_LINES]], result["seconds"],
+               [fault["line"] for fault in result["faults"][:MAX_ROW_LINES]], result["seconds"],
                find_hint(result), SubtitleCounts(**counts).describe() if counts else "",
                result["sentence"], describe_clock(result))
 
@@ -276,7 +277,7 @@ def describe_inputs(request: Request) -> dict[str, Any]:
             "severity": describe_file(request.severity)}
 
 
-def is_current(result: dict[str, Any], request: Request, program: MadeWith) -> bool:
+def is_current(result: dict[str, Any], request: Request, program: ProgramInfo) -> bool:
     """Return whether a pair has the same options and unchanged files, and would be judged by the
     same version of program and tools."""
     return "request" in result and result["request"] == REQUEST.made(request) \
@@ -377,7 +378,7 @@ def table_value(value: object) -> object:
     """Escape control characters in a text, and put an apostrophe before a formula."""
     if not isinstance(value, str):
         return value
-    text = shown_lines(value)
+    text = escape_hidden_lines(value)
     return f"'{text}" if text.startswith(FORMULA_BEGINNINGS) else text
 
 
@@ -415,14 +416,14 @@ class TestCase(NamedTuple):
 
 
 def make_element(case: TestCase) -> tree.Element:
-    element = tree.Element("testcase", classname="subttx", name=shown_lines(case.name),
+    element = tree.Element("testcase", classname="subttx", name=escape_hidden_lines(case.name),
                            time=f"{case.seconds:.3f}")
-    text = shown_lines("\n".join(
+    text = escape_hidden_lines("\n".join(
         [case.sentence] * bool(case.sentence) + [case.line] * (case.line not in case.sentence)
         + [case.counts] * bool(case.counts) + [*case.lines]))
     if case.status:
         kind = "error" if case.verdict == NOT_JUDGED else "failure"
-        message = shown_lines(case.sentence or case.line)
+        message = escape_hidden_lines(case.sentence or case.line)
         tree.SubElement(element, kind, message=message, type=case.verdict).text = text
     elif case.verdict != ACCEPTED:
         tree.SubElement(element, "system-out").text = text

@@ -8,11 +8,11 @@ from __future__ import annotations
 from typing import Iterator, NamedTuple
 
 from ..clock.start import SOURCES
-from ..common.command_line import MOST_EVERY, PACKET_SIZES
-from ..common.program import MadeWith
+from ..common.command_line import MAX_EVERY, PACKET_SIZES
+from ..common.program import ProgramInfo
 from ..common.shapes import (
-    COUNT, Flag, Integer, Listed, Maybe, Member, MOST_NUMBER, Number, OneOf, PID, PTS, Record,
-    Rules, Schema, SUM, Text, TIME, definitions, named)
+    COUNT, Flag, Integer, Listed, Maybe, Member, MAX_NUMBER, Number, OneOf, PID, PTS, Record,
+    Rules, Schema, CHECKSUM, Text, TIME, make_definitions, name_shape)
 from ..common.times import FRAMES_OF_A_DAY, time_of
 from ..judging.causes import CAUSE_NAMES, CauseDescriber, count_causes
 from ..judging.cues import NOT_KNOWN, RIGHT, WAIVED, WRONG, make_subtitle_rows
@@ -25,11 +25,11 @@ from ..request.request import CHOICES, request_members
 
 FIRST_FAULT, LAST_FAULT = 10, 79  # fault numbers
 
-CODE_TIME = named("code_time", Text(r"[0-9]{2,3}(:[0-9]{2,3}){3}"))
-DATE = named("date", Text(r"[0-9]{4}-[0-9]{2}-[0-9]{2}T[0-9]{2}:[0-9]{2}:[0-9]{2}Z"))
-PART = named("part_number", Integer(1, MOST_NUMBER))
-STATUS = named("status", OneOf(*sorted({*STATUSES.values()})), "The exit status.")
-WORD = named("word", OneOf(*STATUSES))
+CODE_TIME = name_shape("code_time", Text(r"[0-9]{2,3}(:[0-9]{2,3}){3}"))
+DATE = name_shape("date", Text(r"[0-9]{4}-[0-9]{2}-[0-9]{2}T[0-9]{2}:[0-9]{2}:[0-9]{2}Z"))
+PART = name_shape("part_number", Integer(1, MAX_NUMBER))
+STATUS = name_shape("status", OneOf(*sorted({*STATUSES.values()})), "The exit status.")
+WORD = name_shape("word", OneOf(*STATUSES))
 
 FILE_AT_START = Record(
     "file_at_start", "",
@@ -42,7 +42,7 @@ FILE = Record(
     Member("name", Maybe(Text()), "The name as typed; null for PES packets that "
            "were not kept."),
     Member("size", COUNT, "The size in bytes."),
-    Member("sha256", SUM))
+    Member("sha256", CHECKSUM))
 
 SUBTITLE = Record(
     "subtitle", "",
@@ -52,7 +52,7 @@ SUBTITLE = Record(
     Member("begin", CODE_TIME, "The TCI."),
     Member("end", CODE_TIME, "The TCO."))
 
-CAUSE_NAME = named("cause_name", OneOf(*CAUSE_NAMES))
+CAUSE_NAME = name_shape("cause_name", OneOf(*CAUSE_NAMES))
 CAUSE_MEMBERS = (
     Member("subtitle", SUBTITLE),
     Member("name", CAUSE_NAME, "The name of the cause."),
@@ -62,7 +62,7 @@ CAUSE_MEMBERS = (
     Member("decoded_text", Maybe(Text()), "The received text."),
     Member("other_number", Maybe(Integer(0, 65535)),
            "The number (SN) of the subtitle with the received text."),
-    Member("other_position", Maybe(Integer(1, MOST_NUMBER)),
+    Member("other_position", Maybe(Integer(1, MAX_NUMBER)),
            "That subtitle's position in the file, from 1."),
     Member("line", Text(), "The cause as printed."))
 CAUSE = Record("cause", "A cause says why the content of a subtitle differs from the expected "
@@ -167,7 +167,7 @@ JUDGED_PART = Record(
            "packets.", lambda of: (of.part.stream or (None, None))[1]),
     Member("pes", Maybe(Text(r"[0-9]+-[0-9]+", 40)), "The first and the last judged PES packet, as "
            "for --pes; null if all of a feed was judged.", lambda of: of.part.pes_argument),
-    Member("pace", Maybe(Integer(1, MOST_EVERY)), "The longest allowed PES interval in frames; "
+    Member("pace", Maybe(Integer(1, MAX_EVERY)), "The longest allowed PES interval in frames; "
            "null if it is not checked.", lambda of: of.part.request.pace),
     Member("judged_file", Maybe(FILE), "The judged PES packets of a feed."),
     Member("clock", Maybe(CLOCK_OF_PART), of=lambda of: of.part.clock))
@@ -210,7 +210,7 @@ DELAY = Maybe(Integer(-FRAMES_OF_A_DAY, FRAMES_OF_A_DAY))
 CUE = Record(
     "cue", "",
     Member("part", PART),
-    Member("position", Integer(1, MOST_NUMBER), "The position in the subtitle file, from 1."),
+    Member("position", Integer(1, MAX_NUMBER), "The position in the subtitle file, from 1."),
     Member("number", Integer(0, 65535), "The SN."),
     Member("recording_offset", Maybe(Text(r"[0-9]+:[0-9]{2}:[0-9]{2}")), "The TCI, "
            "counted from the recording's beginning, as H:MM:SS."),
@@ -249,7 +249,7 @@ CHOICE = Record(
 PROGRAM = Record(
     "program", "",
     Member("version", Text(), "The version."),
-    Member("sha256", SUM),
+    Member("sha256", CHECKSUM),
     Member("proof", Maybe(Text()), "The prover's line, if it is installed with the program.",
            lambda program: program.proved))
 
@@ -268,9 +268,9 @@ COUNTS = Record(
            "subtitle or come after it."))
 
 FORMAT = 7
-MOST_LISTED = 20_000  # items of a list
-MOST_SUBTITLES = 100_000  # a subtitle file has 99,999 blocks at most
-MOST_SECONDS = 10 ** 9
+MAX_LISTED = 20_000  # items of a list
+MAX_SUBTITLES = 100_000  # a subtitle file has 99,999 blocks at most
+MAX_SECONDS = 10 ** 9
 Value = object
 
 
@@ -278,7 +278,7 @@ class ResultSource(NamedTuple):
     """What a result is made from: the verdict and the program."""
 
     verdict: Verdict
-    program: MadeWith
+    program: ProgramInfo
 
 
 def list_trusted_frames(known: ResultSource) -> Iterator[dict[str, Value]]:
@@ -340,32 +340,32 @@ TIMED = Rules([
 
 # The lists, written item by item; `omitted` counts the rest of each.
 LISTS = (
-    Member("parts", Listed(JUDGED_PART, MOST_LISTED), "The parts. Each has its own clock "
+    Member("parts", Listed(JUDGED_PART, MAX_LISTED), "The parts. Each has its own clock "
            "and verdict. Frames between parts are not judged.",
            lambda known: (PartResult(part, known.verdict.is_kept) for part in known.verdict.parts)),
-    Member("losses", Listed(LOSS, MOST_LISTED), "The losses in the recording.",
+    Member("losses", Listed(LOSS, MAX_LISTED), "The losses in the recording.",
            lambda known: known.verdict.gaps),
-    Member("notes", Listed(Text(), MOST_LISTED),
+    Member("notes", Listed(Text(), MAX_LISTED),
            "The notes as printed.",
            lambda known: known.verdict.list_notes()),
-    Member("hints", Listed(Text(), MOST_LISTED), "The hints as printed, about the first fault with "
+    Member("hints", Listed(Text(), MAX_LISTED), "The hints as printed, about the first fault with "
            "some numbers.",
            lambda known: known.verdict.hints),
-    Member("warnings", Listed(WARNING, MOST_LISTED), "Unusual values in the files.",
+    Member("warnings", Listed(WARNING, MAX_LISTED), "Unusual values in the files.",
            lambda known: known.verdict.warnings),
-    Member("commands", Listed(Text(), MOST_LISTED), "The check commands that qc ran.",
+    Member("commands", Listed(Text(), MAX_LISTED), "The check commands that qc ran.",
            lambda known: known.verdict.commands),
-    Member("choices", Listed(CHOICE, MOST_LISTED), "The values that qc chose, in order.",
+    Member("choices", Listed(CHOICE, MAX_LISTED), "The values that qc chose, in order.",
            lambda known: known.verdict.selections),
-    Member("trusted_frames", Listed(TRUSTED, MOST_LISTED), "Frames without a fault; "
+    Member("trusted_frames", Listed(TRUSTED, MAX_LISTED), "Frames without a fault; "
            "with --within N, frames that become right within N frames.", list_trusted_frames),
-    Member("faults", Listed(FAULT, MOST_LISTED), "The faults: first those without a number, then "
+    Member("faults", Listed(FAULT, MAX_LISTED), "The faults: first those without a number, then "
            "the others in the order of check --all.",
            lambda known: make_faults(known.verdict)),
-    Member("causes", Listed(LISTED_CAUSE, MOST_LISTED), "The cause for each subtitle with a fault "
+    Member("causes", Listed(LISTED_CAUSE, MAX_LISTED), "The cause for each subtitle with a fault "
            "72, and for the first and last subtitle with a fault 63 or 74. Each cause also has a "
            "key part.", list_cause_rows),
-    Member("subtitles", Listed(CUE, MOST_SUBTITLES), "All subtitles, including refused subtitles. "
+    Member("subtitles", Listed(CUE, MAX_SUBTITLES), "All subtitles, including refused subtitles. "
            "A fault between two subtitles belongs to neither.",
            lambda known: list_subtitle_rows(known.verdict)))
 OMITTED = Record("omitted", "The number of items omitted from each list.", *(
@@ -400,7 +400,7 @@ VERDICT = Record(
     Member("inputs", INPUTS, of=lambda known: known.verdict),
     Member("program", PROGRAM),
     Member("date", DATE, "The time of judging, in UTC.", lambda known: known.verdict.date),
-    Member("seconds", Number(MOST_SECONDS), "The time that judging took.",
+    Member("seconds", Number(MAX_SECONDS), "The time that judging took.",
            lambda known: known.verdict.seconds),
     Member("cause_counts", CAUSE_COUNTS, of=lambda known: count_causes(
         part.causes for part in known.verdict.parts if part.causes)),
@@ -446,4 +446,4 @@ def schema() -> Schema:
                     "HH:MM:SS:FF at 25 frames a second, in the time of the subtitle file.",
         "title": "A verdict on a subtitle file and its recording, or on a batch of them",
         "oneOf": [one.reference() for one in (VERDICT, BATCH, NO_PAIR)],
-        "definitions": {**definitions([VERDICT, NO_PAIR]), BATCH.name: batch}}
+        "definitions": {**make_definitions([VERDICT, NO_PAIR]), BATCH.name: batch}}

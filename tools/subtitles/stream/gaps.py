@@ -5,14 +5,14 @@ import dataclasses
 import statistics
 from typing import Iterable, Iterator, NamedTuple, Sequence
 
-from ..common.command_line import counted, pid_name
-from ..common.times import TICKS, ticks_between, time_of, wrapped
+from ..common.command_line import counted, format_pid
+from ..common.times import TICKS, ticks_between, time_of, wrap_pts
 from .packets import PCRStep, PTSPair, Packets
 from .survey import Survey
 
 
 SECOND = 90_000  # ticks
-MOST_LISTED = 20  # most places to list
+MAX_LISTED = 20  # most places to list
 PAUSE = 10  # in a pause of the PCR come less than 1/10 of the usual packets
 
 
@@ -110,7 +110,7 @@ def loss_line(place: LossPlace, first: int | None) -> str:
     """Return a line with the position of a place and its missing packets."""
     known = [pts for pts in (place.before, place.after) if pts is not None]
     names = " and ".join(map(str, known))
-    times = " and ".join(time_of(wrapped(pts - (first or 0)) // TICKS) for pts in known)
+    times = " and ".join(time_of(wrap_pts(pts - (first or 0)) // TICKS) for pts in known)
     where = "between" if len(known) == 2 else "before" if place.before is None else "after"
     return (f"{where} PTS {names} ({times} after the first): " if known
             else "") + describe_loss(place)
@@ -118,8 +118,8 @@ def loss_line(place: LossPlace, first: int | None) -> str:
 
 def first_lines(lines: Sequence[str]) -> list[str]:
     """Return the first lines, and one with the number of further places."""
-    more = len(lines) - MOST_LISTED
-    return [*lines[:MOST_LISTED], *([f"and at {counted(more, 'more place')}"] if more > 0 else [])]
+    more = len(lines) - MAX_LISTED
+    return [*lines[:MAX_LISTED], *([f"and at {counted(more, 'more place')}"] if more > 0 else [])]
 
 
 def gap_marker_lines(packets: Packets) -> list[str]:
@@ -127,14 +127,14 @@ def gap_marker_lines(packets: Packets) -> list[str]:
     first = next(packets.pts(), None)
     lines = [loss_line(place, first) for place in find_loss_places(packets) if place.gap_marker is
              not None]
-    if len(lines) > MOST_LISTED:
-        lines[MOST_LISTED - 1:] = [f"and at {counted(len(lines) - MOST_LISTED + 1, 'more place')}"]
+    if len(lines) > MAX_LISTED:
+        lines[MAX_LISTED - 1:] = [f"and at {counted(len(lines) - MAX_LISTED + 1, 'more place')}"]
     return lines
 
 
 def explain_refusal(packets: Packets) -> str | None:
     """Return why a PID has no Teletext or why reading stopped, or `None` if all is Teletext."""
-    name = pid_name(packets.pid)
+    name = format_pid(packets.pid)
     if not packets.refusal and packets.count:
         return None
     if not packets.refusal:
@@ -154,7 +154,7 @@ def explain_refusal(packets: Packets) -> str | None:
 
 # The distance of PTS from the PCR of the programme, sampled once a second
 
-MOST_LATE = 60  # most samples from which to take the largest distance
+MAX_LATE = 60  # most samples from which to take the largest distance
 ANOMALY_TEXTS = {"behind": "are behind the PCR", "early": "are more than a second ahead of the PCR",
                  "changed": "moved against the PCR by more than half a second"}
 
@@ -188,7 +188,7 @@ def find_pts_anomalies(packets: Packets) -> Iterator[PTSAnomaly]:
 
 def find_pts_delay(packets: Packets) -> int:
     """Return the most ticks by which recent PTS were behind the PCR."""
-    return max([0, *(-ahead for _, ahead in packets.samples[-MOST_LATE:])])
+    return max([0, *(-ahead for _, ahead in packets.samples[-MAX_LATE:])])
 
 
 def find_recorded_range(survey: Survey, packets: Packets) -> tuple[int, int] | None:
@@ -196,5 +196,5 @@ def find_recorded_range(survey: Survey, packets: Packets) -> tuple[int, int] | N
     clock = survey.clock_of(packets.pid)
     if clock is None:
         return None
-    ahead = max([0, *(one for _, one in packets.samples[:MOST_LATE])])
-    return wrapped(clock[0] + ahead), clock[1] - find_pts_delay(packets)
+    ahead = max([0, *(one for _, one in packets.samples[:MAX_LATE])])
+    return wrap_pts(clock[0] + ahead), clock[1] - find_pts_delay(packets)

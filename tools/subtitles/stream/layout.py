@@ -6,7 +6,7 @@ from collections import Counter
 from typing import Iterable, Iterator, NamedTuple, Optional, Sequence, TypeVar
 
 from ..formats.layout import (
-    CODES, COLOURS, COLUMNS, DOUBLE, DRAWN_CODES, Layout, MOST_AFTER, MOST_BEFORE, MOST_SHIFT,
+    CODES, COLOURS, COLUMNS, DOUBLE, DRAWN_CODES, Layout, MAX_AFTER, MAX_BEFORE, MAX_SHIFT,
     PLAIN, START_BOX, TextFault, WHITE, assign_rows, complexity_key, count_leading_codes,
     count_leading_spaces, draw_text, find_column, find_page_letters, find_start_column,
     find_text_letters, format_layout, make_page_rows, prepare_line, remove_attributes, remove_codes,
@@ -23,8 +23,8 @@ from .receiver import Rows, Timeline
 REFUSED = {code for code in CODES if code not in COMMON}  # unless the layout strips them
 BOX_CODES, LINE_CODES = b"\x0a\x0b", b"\x0a\x0b\x0d"
 FEWEST, TENTHS = 10, 9  # fewest subtitles, and how many of ten must be drawn as sent
-MOST_STRIPPED = 5  # most codes at the ends of lines to combine in all ways
-MOST_KEPT = 6  # most candidates to keep
+MAX_STRIPPED = 5  # most codes at the ends of lines to combine in all ways
+MAX_KEPT = 6  # most candidates to keep
 Element = TypeVar("Element")
 
 
@@ -81,7 +81,7 @@ def codes_to_strip(pairs: Sequence[SentLine]) -> Iterator[bytes]:
         free, [], *([code] for code in free), [code for code in free if code in BOX_CODES],
         [code for code in free if code in LINE_CODES],
         *([other for other in free if other != code] for code in free)]
-    if len(free) <= MOST_STRIPPED:
+    if len(free) <= MAX_STRIPPED:
         some += [list(one) for size in range(len(free) + 1)
                  for one in itertools.combinations(free, size)]
     choices = {bytes(sorted({*must, *one})) for one in some}
@@ -110,12 +110,12 @@ def find_beginnings(lines: Counter[tuple[bytes, bytes]],
                 for at in range(len(shown) - len(own) + 1)
                 if shown[at:at + len(own)] == own and (own or at == len(shown))}
         for way in ways:
-            if len(way[1] + way[2]) <= MOST_BEFORE and all(
+            if len(way[1] + way[2]) <= MAX_BEFORE and all(
                     code in DRAWN_CODES for code in way[1] + way[2]):
                 votes[way] = sum(count for (own, shown), count in seen.items()
                                  if shown == way[1] + own + bytes([WHITE]) * (
                                      white and not any(it in COLOURS for it in own)) + way[2])
-    return most(votes, MOST_KEPT)
+    return most(votes, MAX_KEPT)
 
 
 def find_ends(lines: Counter[tuple[bytes, bytes]]) -> list[bytes]:
@@ -128,8 +128,8 @@ def find_ends(lines: Counter[tuple[bytes, bytes]]) -> list[bytes]:
             codes = b""
         if added.startswith(codes):
             votes[added[len(codes):]] += count
-    return [one for one in most(votes, MOST_KEPT)
-            if len(one) <= MOST_AFTER and all(code in DRAWN_CODES for code in one)]
+    return [one for one in most(votes, MAX_KEPT)
+            if len(one) <= MAX_AFTER and all(code in DRAWN_CODES for code in one)]
 
 
 def find_line_layouts(pairs: Sequence[SentLine]) -> list[Layout]:
@@ -152,7 +152,7 @@ def find_line_layouts(pairs: Sequence[SentLine]) -> list[Layout]:
                     if made.strip(b" ") == sent.strip(b" ") and len(made) <= COLUMNS)
     best = max(scores.values())
     near = [one for one, score in scores.items() if score * 10 >= best * TENTHS]
-    return sorted(near, key=lambda one: (-scores[one], complexity_key(one)))[:4 * MOST_KEPT]
+    return sorted(near, key=lambda one: (-scores[one], complexity_key(one)))[:4 * MAX_KEPT]
 
 
 def as_bits(places: Iterable[int]) -> int:
@@ -175,7 +175,7 @@ def find_row_layouts(layout: Layout, pairs: Sequence[SentLine],
                 for pair in pairs}
         votes = Counter(pair.row - rows[pair.place][pair.number] for pair in pairs)
         for shift in {0, *most(votes, 2)}:
-            if abs(shift) <= MOST_SHIFT:
+            if abs(shift) <= MAX_SHIFT:
                 wrong = as_bits({pair.place for pair in pairs
                                  if rows[pair.place][pair.number] + shift != pair.row})
                 yield shape._replace(row=shift), wrong
@@ -253,7 +253,7 @@ def find_candidates(subtitles: Sequence[SentSubtitle], option: NationalOption) -
                 counts[layout] = len(subtitles) - bin(wrong | others | unknown).count("1")
     best = max(counts.values())
     near = sorted((one for one in counts if counts[one] == best), key=complexity_key)
-    return [PLAIN, *(simplify(one, subtitles, option) for one in near[:MOST_KEPT])]
+    return [PLAIN, *(simplify(one, subtitles, option) for one in near[:MAX_KEPT])]
 
 
 # The items of a layout for which there is evidence
@@ -266,7 +266,7 @@ def find_candidates(subtitles: Sequence[SentSubtitle], option: NationalOption) -
 STAR = "*"  # item: codes come after the leading codes of a line
 SINGLE = ("after", "fit", "white", "trim", "text", "up", "left", "right", "free", "double", "pack",
           "last", "row")
-MOST_ITEMS = 12  # most items of which to try all groups
+MAX_ITEMS = 12  # most items of which to try all groups
 # Visible codes of a text: colours other than white, flash, backgrounds.
 VISIBLE_CODES = (*range(0x01, 0x07), 0x08, 0x1C, 0x1D)
 RESTORED = (DOUBLE, START_BOX)  # codes that `before` may restore
@@ -274,7 +274,7 @@ RESTORED = (DOUBLE, START_BOX)  # codes that `before` may restore
 OVERRULING = (*COLOURS, 0x09, 0x0C)
 FLASH = 0x08
 BOXES_SHOWN = 2  # start boxes before a line that libzvbi needs to show it
-MOST_MOVED = 2  # most rows by which a broadcaster moves all lines
+MAX_MOVED = 2  # most rows by which a broadcaster moves all lines
 LayoutItem = tuple[str, int]  # name of an item, and the code for `strip`
 Group = frozenset[LayoutItem]
 Page = Optional[Rows]  # the page that a layout draws, if it can
@@ -368,7 +368,7 @@ def find_questionable_items(layout: Layout) -> Group:
         taken.add((STAR, 0))
     if FLASH in brought or brought.count(START_BOX) < BOXES_SHOWN:
         taken.add(("before", 0))
-    if abs(layout.row) > MOST_MOVED:
+    if abs(layout.row) > MAX_MOVED:
         taken.add(("row", 0))
     return frozenset(taken)
 
@@ -415,7 +415,7 @@ class Evidence:
         """Return the group of items without evidence that changes the fewest subtitles; `None` if
         every group has evidence. With too many groups to try, return a single item."""
         items = list_items(layout)
-        is_few = len(items) <= MOST_ITEMS
+        is_few = len(items) <= MAX_ITEMS
         sizes = range(1, len(items) + 1) if is_few else (1,)
         rests = [(self.item_evidence(layout, group, is_few), group) for size in sizes
                  for group in itertools.combinations(items, size)]

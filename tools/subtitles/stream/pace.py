@@ -7,7 +7,7 @@ import itertools
 import operator
 from typing import Iterator, NamedTuple, Optional, Sequence, Tuple
 
-from ..common.times import NO_FRAME, frames_at, rising_rows
+from ..common.times import NO_FRAME, frames_at, split_rising_rows
 from .packets import Packets, Range
 from .repeats import NEAR
 
@@ -28,7 +28,7 @@ TWO_LOST, ONE_LOST = 3, 2  # PES packets to the next one if two are lost, or one
 UNITS = 4  # Teletext units in a TS packet; a PES header takes the place of one
 PAYLOAD = 184  # bytes of a TS packet
 USUAL_EVERY = 250  # default of --every, in frames
-MOST_EACH = 9  # most TS packets of a PES packet
+MAX_EACH = 9  # most TS packets of a PES packet
 REGULAR, IRREGULAR, PAUSED, BY_EVERY, TOO_FEW = \
     "regular", "irregular", "paused", "by --every", "too few"
 Pauses = Sequence[Tuple[Optional[int], Optional[int]]]
@@ -188,7 +188,7 @@ def frame_rows(packets: Packets, inside: Range, origin: int, within: int) -> lis
         if run is not None and run.pts is not None and not run.fault:
             pts.extend(run.list_pts())
         elif pts:
-            rows += [row for _, row in rising_rows(frames_at(pts, origin, within))
+            rows += [row for _, row in split_rising_rows(frames_at(pts, origin, within))
                      if row[0] != NO_FRAME]
             pts = array.array("q")
     return rows
@@ -200,7 +200,7 @@ def count_ts_packets(packets: Packets, inside: Range, size: int | None) -> int:
     total = packets.packets if size is None else size // PAYLOAD
     usual = round(total / packets.count) if packets.count else 0
     units = max((run.units for run in packets.runs_between(*inside)), default=0)
-    return min(max(usual, -(-(units + 1) // UNITS), 1), MOST_EACH)
+    return min(max(usual, -(-(units + 1) // UNITS), 1), MAX_EACH)
 
 
 def find_pauses(times: Sequence[tuple[int, int]]) -> Pauses:

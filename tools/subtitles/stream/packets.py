@@ -7,7 +7,7 @@ import functools
 import itertools
 from typing import Iterable, Iterator, NamedTuple, Sequence
 
-from ..common.times import TICKS, count_until, ticks_between, wrapped
+from ..common.times import TICKS, count_until, ticks_between, wrap_pts
 
 
 PES = 0  # PID of a PES file, which has none
@@ -36,13 +36,13 @@ class PacketRun(NamedTuple):
     fault: int = 0
 
     def pts_of(self, number: int) -> int | None:
-        return None if self.pts is None else wrapped(self.pts + self.step * (number - self.first))
+        return None if self.pts is None else wrap_pts(self.pts + self.step * (number - self.first))
 
     def list_pts(self) -> Sequence[int]:
         """Return the PTS of each PES packet, or an empty list if they have none."""
         if self.pts is None or self.length == 1:  # the usual case if PES packets differ
             return [] if self.pts is None else [self.pts]
-        return [wrapped(self.pts + self.step * at) for at in range(self.length)]
+        return [wrap_pts(self.pts + self.step * at) for at in range(self.length)]
 
     def part(self, first: int, length: int) -> PacketRun:
         """Return `length` PES packets, from number `first` on."""

@@ -5,7 +5,7 @@ import math
 import statistics
 from typing import Iterable, NamedTuple, Sequence
 
-from ..common.times import TICKS, ticks_between, wrapped
+from ..common.times import TICKS, ticks_between, wrap_pts
 
 
 # Once a second `survey` prints the lead of Teletext: its PTS minus the decoding time of the last
@@ -70,7 +70,7 @@ def locate_departures(leads: Sequence[VideoLead]) -> list[Departure] | None:
 
 def steps_of(leads: Sequence[VideoLead]) -> list[int]:
     """Return the steps of decoding times, in ticks more than usual for the number of pictures."""
-    times = [wrapped(lead.pts - lead.ticks) for lead in leads]
+    times = [wrap_pts(lead.pts - lead.ticks) for lead in leads]
     gone = [(ticks_between(first, second), after.number - before.number)
             for first, second, before, after in zip(times, times[1:], leads, leads[1:])]
     usual = statistics.median(ticks / count for ticks, count in gone) if gone else TICKS

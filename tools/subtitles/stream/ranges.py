@@ -6,7 +6,7 @@ import itertools
 from typing import Iterator, NamedTuple
 
 from ..common.command_line import counted
-from ..common.times import FRAMES_OF_A_DAY, TICKS, frame_in, pts_of, time_of, wrapped
+from ..common.times import FRAMES_OF_A_DAY, TICKS, frame_in, pts_of, time_of, wrap_pts
 from .packets import BLANK, CLOSED, HEADER, OPEN, PacketRun, Packets, PageChange, Range
 
 
@@ -217,5 +217,5 @@ def is_outside(run: PacketRun, low: int, high: int) -> bool:
     first, last = run.pts, run.last
     if first is None or last is None or not 0 <= run.step * run.length < SKIPPED:
         return first is None
-    begin, length = low - TICKS, wrapped(high - low) + 2 * TICKS
-    return wrapped(first - begin) > length and wrapped(begin - first) > wrapped(last - first)
+    begin, length = low - TICKS, wrap_pts(high - low) + 2 * TICKS
+    return wrap_pts(first - begin) > length and wrap_pts(begin - first) > wrap_pts(last - first)

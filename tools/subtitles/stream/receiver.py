@@ -7,7 +7,8 @@ import functools
 import itertools
 from typing import Iterable, Iterator, NamedTuple, Sequence
 
-from ..common.times import FRAMES_OF_A_DAY, NO_FRAME, Span, count_until, frames_at, rising_rows
+from ..common.times import (
+    FRAMES_OF_A_DAY, NO_FRAME, Span, count_until, frames_at, split_rising_rows)
 from ..formats.teletext import Page
 from .packets import (
     CLOSED, ERASE, HEADER, NO_RANGE, OPEN, PacketRun, Packets, Range, STRAY, Texts, parse_headers)
@@ -234,7 +235,7 @@ class Timeline(ReceivedPackets):
         if texts is not None:
             self.printed_rows = full_page(texts, self.is_erased)
         all_frames = frames_at(() if run.fault else run.list_pts(), self.origin, self.within)
-        for place, frames in rising_rows(all_frames) or [(0, [NO_FRAME])]:
+        for place, frames in split_rising_rows(all_frames) or [(0, [NO_FRAME])]:
             if frames[0] != NO_FRAME:
                 self.receive(run.part(run.first + place, len(frames)), frames, is_told, stray)
             else:

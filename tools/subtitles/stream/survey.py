@@ -6,7 +6,8 @@ import subprocess
 import sys
 from typing import Callable, Iterable, Iterator, NamedTuple
 
-from ..common.command_line import Unanswered, page_in, pid_name, shown, stream_words
+from ..common.command_line import (
+    ProgramInterrupted, decode_page, escape_hidden, format_pid, stream_options)
 from ..formats.teletext import Page, page_name
 from .packets import GapMarker, PCRStep, PES, PacketRun, Packets, PageChange, Texts
 from .pictures import VideoLead
@@ -15,11 +16,11 @@ from .pictures import VideoLead
 # The manual describes each line of the output; unknown lines of a later program are skipped.
 
 VERSION = "1"
-MOST_PAGES = 12  # most pages on a line
+MAX_PAGES = 12  # most pages on a line
 SUBTITLE_KINDS = (2, 5)
 KINDS = {1: "initial page", 2: "subtitles", 3: "additional information", 4: "programme schedule",
          5: "subtitles for the hard of hearing"}
-MOST_PCR_PIDS = 8  # most PCR PIDs of a programme to remember
+MAX_PCR_PIDS = 8  # most PCR PIDs of a programme to remember
 HIT = b"\xa0"  # a space whose byte had even parity
 NO_LETTERS = bytes(range(0x21))
 
@@ -32,7 +33,7 @@ class Announced(NamedTuple):
     kind: int
 
     def line(self) -> str:
-        return f"{page_name(*self.page)} {shown(self.language)} " \
+        return f"{page_name(*self.page)} {escape_hidden(self.language)} " \
             f"{KINDS.get(self.kind, 'of an unknown kind')}"
 
 
@@ -68,9 +69,9 @@ def pid_line(packets: Packets, programmes: Iterable[ProgramMap]) -> str:
                               for program_map in programmes
                               for page in program_map.pages.get(packets.pid, []))
     pages = sorted(packets.sent)
-    more = [f"and {len(pages) - MOST_PAGES} more"] if len(pages) > MOST_PAGES else []
-    return f"{pid_name(packets.pid)}: announced {', '.join(announced) or 'nothing'}; subtitle " \
-        f"pages sent: {' '.join(pages[:MOST_PAGES] + more) or 'none'}"
+    more = [f"and {len(pages) - MAX_PAGES} more"] if len(pages) > MAX_PAGES else []
+    return f"{format_pid(packets.pid)}: announced {', '.join(announced) or 'nothing'}; subtitle " \
+        f"pages sent: {' '.join(pages[:MAX_PAGES] + more) or 'none'}"
 
 
 def optional_number(word: str) -> int | None:
@@ -135,15 +136,15 @@ class Survey:
         self.programmes.append(ProgramMap(int(number), int(clock), after=next(known, None)))
         if int(clock) in pids:
             pids.remove(int(clock))
-        pids[:] = [*pids, int(clock)][-MOST_PCR_PIDS:]
+        pids[:] = [*pids, int(clock)][-MAX_PCR_PIDS:]
 
     def parse_stream(self, pid: str, kind: str, *_: str) -> None:
         self.programmes[-1].kinds[int(pid)] = int(kind)
 
     def parse_announce(self, pid: str, page: str, language: str, kind: str, *_: str) -> None:
-        shown = page_in(page) or (int(page[0]) % 8, 0xFF)
+        escape_hidden = decode_page(page) or (int(page[0]) % 8, 0xFF)
         self.programmes[-1].pages.setdefault(int(pid), []).append(
-            Announced(shown, bytes.fromhex(language).decode("latin-1"), int(kind)))
+            Announced(escape_hidden, bytes.fromhex(language).decode("latin-1"), int(kind)))
 
     def parse_teletext(self, pid: str, *_: str) -> None:
         self.get_packets(pid)
@@ -252,10 +253,10 @@ class Survey:
         return [pid_line(self.by_pid[pid], self.programmes_of(pid)) for pid in sorted(self.by_pid)]
 
     def refuse(self, status: int) -> None:
-        """Raise `Unanswered` if the output is incomplete."""
+        """Raise `ProgramInterrupted` if the output is incomplete."""
         if self.unexpected_line or status or not self.is_complete:
-            raise Unanswered("survey gave no complete result: "
-                             f"{self.unexpected_line or 'it did not end'}, status {status}")
+            raise ProgramInterrupted("survey gave no complete result: "
+                                     f"{self.unexpected_line or 'it did not end'}, status {status}")
 
 
 def survey(program: str, name: str, page: Page, pid: int | None = None,
@@ -269,9 +270,9 @@ def survey(program: str, name: str, page: Page, pid: int | None = None,
 
 def read_lines(answer: Survey, program: str, name: str, page: Page, pid: int | None = None) \
         -> Iterator[None]:
-    """Run `survey` on a recording and yield after each line; raise `Unanswered` if the output is
-    incomplete."""
-    words = [program, "survey", "--page", page_name(*page), *stream_words(pid), "--", name]
+    """Run `survey` on a recording and yield after each line; raise `ProgramInterrupted` if the
+    output is incomplete."""
+    words = [program, "survey", "--page", page_name(*page), *stream_options(pid), "--", name]
     with subprocess.Popen(words, stdout=subprocess.PIPE, encoding="ascii",
                           errors="replace") as process:
         assert process.stdout
