@@ -52,9 +52,9 @@ class Blocks(unittest.TestCase):
             ([(1, last, 0), (2, 0xFD, 0)], [(1, b"1")],
              "block 2 has the reserved extension block number FD"),
             ([(1, 0, 0), (2, last, 0)], [],
-             "block 2 begins another subtitle, but the one before is incomplete"),
+             "block 2 begins a subtitle, but the one before is incomplete"),
             ([(1, 0, 0), (257, last, 0)], [],
-             "block 2 begins another subtitle, but the one before is incomplete"),
+             "block 2 begins a subtitle, but the one before is incomplete"),
             ([(1, last, 0), (2, 0, 0)], [(1, b"1")], "the subtitle of block 2 has no last block"),
             ([(1, 0, 0), (9, user, 0)], [], "the subtitle of block 2 has no last block")]
         for row, wanted, words in of_rows:

@@ -56,7 +56,7 @@ def read_stored_subtitles(data: bytes) -> Iterator[StoredSubtitle]:
         if LAST_CONTINUED < ebn < LAST_BLOCK:
             raise Damaged(f"block {block} has the reserved extension block number {ebn:02X}")
         if first is not None and first[:3] != tti[:3]:
-            raise Damaged(f"block {block} begins another subtitle, but the one before is incomplete")
+            raise Damaged(f"block {block} begins a subtitle, but the one before is incomplete")
         first = first or tti
         texts.append(tti[16:].split(UNUSED)[0])
         if ebn == LAST_BLOCK:
