@@ -155,49 +155,49 @@ abbrev pace_of_text : Text → Option ℕ
 pace_of_text text = between 1 day (number_of_text text)
 
 -- The values of the arguments give the settings `l` for reading and drawing.
-record OptionsHaveValues (receiver_state : Text → List (List Text)) (l : DisplayOptions) : Type 0
+record OptionsHaveValues (held : Text → List (List Text)) (l : DisplayOptions) : Type 0
   where
     pub page_is :
-        page_of_text (text_without_zeros (codes "888") (receiver_state (codes "page"))) ≡ Some
+        page_of_text (text_without_zeros (codes "888") (held (codes "page"))) ≡ Some
         l.reading.options.page
     pub every_eq :
-        number_of_text (text_without_zeros (codes "250") (receiver_state (codes "every"))) ≡ Some
+        number_of_text (text_without_zeros (codes "250") (held (codes "every"))) ≡ Some
         l.reading.options.every
     pub origin_eq :
-        number_of_text (text_without_zeros (codes "0") (receiver_state (codes "origin"))) ≡ Some
+        number_of_text (text_without_zeros (codes "0") (held (codes "origin"))) ≡ Some
         l.reading.options.origin
     pub pace_eq :
-        parsed_option_text pace_of_text (first_text (receiver_state (codes "pace"))) ≡ Some
+        parsed_option_text pace_of_text (first_text (held (codes "pace"))) ≡ Some
         l.reading.options.pace
     pub complete_eq :
-        bytes_eq (text_without_zeros (codes "false") (receiver_state (codes "complete")))
+        bytes_eq (text_without_zeros (codes "false") (held (codes "complete")))
         (codes "true")
         ≡ l.reading.options.asks_complete
     pub within_option_is_zero : l.reading.options.within ≡ 0
     pub keeps_is_false : l.reading.options.keeps ≡ false
-    pub pid_eq : parsed_option_text pid_of_text (first_text (receiver_state (codes "pid"))) ≡ Some
+    pub pid_eq : parsed_option_text pid_of_text (first_text (held (codes "pid"))) ≡ Some
         l.reading.pid
     pub size_eq :
         packet_size_of_text (text_without_zeros (codes "188")
-        (receiver_state (codes "packet-size")))
+        (held (codes "packet-size")))
         ≡ Some l.reading.size
     pub range_eq : parsed_option_text range_of_text
-        (first_text (receiver_state (codes "pes"))) ≡ Some
+        (first_text (held (codes "pes"))) ≡ Some
         l.reading.range
     pub from_eq :
-        option_map_or frame_of_text (first_text (receiver_state (codes "from"))) (Some 0)
+        option_map_or frame_of_text (first_text (held (codes "from"))) (Some 0)
         ≡ Some l.reading.scope.from
     pub to_eq :
-        option_map_or frame_of_text (first_text (receiver_state (codes "to"))) (Some day)
+        option_map_or frame_of_text (first_text (held (codes "to"))) (Some day)
         ≡ Some l.reading.scope.to
     pub open_eq :
-        bytes_eq (text_without_zeros (codes "false") (receiver_state (codes "open"))) (codes "true")
+        bytes_eq (text_without_zeros (codes "false") (held (codes "open"))) (codes "true")
         ≡ l.reading.scope.takes_open
     pub option_eq :
-        named_option (text_without_zeros (codes "english") (receiver_state (codes "option"))) ≡
+        named_option (text_without_zeros (codes "english") (held (codes "option"))) ≡
         Some l.national
     pub layout_eq :
-        option_map_or layout_of_text (first_text (receiver_state (codes "layout")))
+        option_map_or layout_of_text (first_text (held (codes "layout")))
         (Some default_layout)
         ≡ Some l.layout
 
@@ -208,43 +208,43 @@ abbrev with_reading : DisplayOptions → Reading → DisplayOptions
 with_reading l r = record l { reading = r }
 
 abbrev values_after_next : (Text → List (List Text)) → DisplayOption → Text → List (List Text)
-values_after_next receiver_state part id = values_with_choice id (receiver_state id) part
+values_after_next held part id = values_with_choice id (held id) part
 
-next_option_keeps_meaning : (receiver_state : Text → List (List Text)) (l : DisplayOptions)
+next_option_keeps_meaning : (held : Text → List (List Text)) (l : DisplayOptions)
     (part : DisplayOption)
-    → OptionsHaveValues receiver_state l
-    → OptionsHaveValues (values_after_next receiver_state part) (with_display_option l part)
-next_option_keeps_meaning receiver_state l (Of (Any (Page text n is))) m = assumption (is, m)
-next_option_keeps_meaning receiver_state l (Of (Any (Every text n is))) m = assumption (is, m)
-next_option_keeps_meaning receiver_state l (Of (Any (Origin text n is))) m = assumption (is, m)
-next_option_keeps_meaning receiver_state l (Of (Any (Pace text n is))) m = assumption
+    → OptionsHaveValues held l
+    → OptionsHaveValues (values_after_next held part) (with_display_option l part)
+next_option_keeps_meaning held l (Of (Any (Page text n is))) m = assumption (is, m)
+next_option_keeps_meaning held l (Of (Any (Every text n is))) m = assumption (is, m)
+next_option_keeps_meaning held l (Of (Any (Origin text n is))) m = assumption (is, m)
+next_option_keeps_meaning held l (Of (Any (Pace text n is))) m = assumption
     (ap (option_map Some) is, m)
-next_option_keeps_meaning receiver_state l (Of (Any Complete)) m =
+next_option_keeps_meaning held l (Of (Any Complete)) m =
     let is : bytes_eq (codes "true") (codes "true") ≡ true = refl in assumption (is, m)
-next_option_keeps_meaning receiver_state l (Of (Any EveryFault)) m = assumption m
-next_option_keeps_meaning receiver_state l (Of (Pid text n is)) m = assumption
+next_option_keeps_meaning held l (Of (Any EveryFault)) m = assumption m
+next_option_keeps_meaning held l (Of (Pid text n is)) m = assumption
     (ap (option_map Some) is, m)
-next_option_keeps_meaning receiver_state l (Of (Size text n is)) m = assumption (is, m)
-next_option_keeps_meaning receiver_state l (Of (Numbers text n is)) m = assumption
+next_option_keeps_meaning held l (Of (Size text n is)) m = assumption (is, m)
+next_option_keeps_meaning held l (Of (Numbers text n is)) m = assumption
     (ap (option_map Some) is, m)
-next_option_keeps_meaning receiver_state l (Of (From text n name is)) m = assumption (is, m)
-next_option_keeps_meaning receiver_state l (Of (To text n name is)) m = assumption (is, m)
-next_option_keeps_meaning receiver_state l (Of IncludeOpen) m =
+next_option_keeps_meaning held l (Of (From text n name is)) m = assumption (is, m)
+next_option_keeps_meaning held l (Of (To text n name is)) m = assumption (is, m)
+next_option_keeps_meaning held l (Of IncludeOpen) m =
     let is : bytes_eq (codes "true") (codes "true") ≡ true = refl in assumption (is, m)
-next_option_keeps_meaning receiver_state l (Letters text n name is) m = assumption (is, m)
-next_option_keeps_meaning receiver_state l (Lines text n name is) m = assumption (is, m)
+next_option_keeps_meaning held l (Letters text n name is) m = assumption (is, m)
+next_option_keeps_meaning held l (Lines text n name is) m = assumption (is, m)
 
 abbrev values_by_parts : (Text → List (List Text)) → List DisplayOption → Text → List (List Text)
-values_by_parts receiver_state parts id = values_after_parts id (receiver_state id) parts
+values_by_parts held parts id = values_after_parts id (held id) parts
 
-options_keep_meaning : (receiver_state : Text → List (List Text)) (l : DisplayOptions)
+options_keep_meaning : (held : Text → List (List Text)) (l : DisplayOptions)
     (parts : List DisplayOption)
-    → OptionsHaveValues receiver_state l
-    → OptionsHaveValues (values_by_parts receiver_state parts) (fold with_display_option l parts)
-options_keep_meaning receiver_state l [] m = m
-options_keep_meaning receiver_state l (part ∷ parts) m =
-    options_keep_meaning (values_after_next receiver_state part) (with_display_option l part) parts
-    (next_option_keeps_meaning receiver_state l part m)
+    → OptionsHaveValues held l
+    → OptionsHaveValues (values_by_parts held parts) (fold with_display_option l parts)
+options_keep_meaning held l [] m = m
+options_keep_meaning held l (part ∷ parts) m =
+    options_keep_meaning (values_after_next held part) (with_display_option l part) parts
+    (next_option_keeps_meaning held l part m)
 
 english_is_option_name : named_option (codes "english") ≡ Some English
 unfolding named_option sub_set
@@ -319,40 +319,40 @@ empty_default_adds_nothing : (vs : List (List Text)) → first_text (or_default 
 empty_default_adds_nothing [] = refl
 empty_default_adds_nothing (v ∷ vs) = refl
 
-record RowsHaveValues (rows : List Row) (stl recording : Text) (receiver_state : Text → List
+record RowsHaveValues (rows : List Row) (stl recording : Text) (held : Text → List
     (List Text))
     : Type 0 where
   pub stl_eq : first_of (codes "stl") rows ≡ Some stl
   pub recording_eq : first_of (codes "recording") rows ≡ Some recording
   pub page_is : first_of (codes "page") rows ≡ Some (text_without_zeros (codes "888")
-      (receiver_state (codes "page")))
+      (held (codes "page")))
   pub every_eq :
       first_of (codes "every") rows ≡ Some
-      (text_without_zeros (codes "250") (receiver_state (codes "every")))
+      (text_without_zeros (codes "250") (held (codes "every")))
   pub origin_eq :
       first_of (codes "origin") rows ≡ Some
-      (text_without_zeros (codes "0") (receiver_state (codes "origin")))
+      (text_without_zeros (codes "0") (held (codes "origin")))
   pub complete_eq :
       first_of (codes "complete") rows ≡ Some
-      (text_without_zeros (codes "false") (receiver_state (codes "complete")))
+      (text_without_zeros (codes "false") (held (codes "complete")))
   pub all_eq : first_of (codes "all") rows ≡ Some (text_without_zeros (codes "false")
-      (receiver_state (codes "all")))
+      (held (codes "all")))
   pub option_eq :
       first_of (codes "option") rows ≡ Some
-      (text_without_zeros (codes "english") (receiver_state (codes "option")))
-  pub layout_eq : first_of (codes "layout") rows ≡ first_text (receiver_state (codes "layout"))
-  pub from_eq : first_of (codes "from") rows ≡ first_text (receiver_state (codes "from"))
-  pub to_eq : first_of (codes "to") rows ≡ first_text (receiver_state (codes "to"))
+      (text_without_zeros (codes "english") (held (codes "option")))
+  pub layout_eq : first_of (codes "layout") rows ≡ first_text (held (codes "layout"))
+  pub from_eq : first_of (codes "from") rows ≡ first_text (held (codes "from"))
+  pub to_eq : first_of (codes "to") rows ≡ first_text (held (codes "to"))
   pub open_eq :
       first_of (codes "open") rows ≡ Some
-      (text_without_zeros (codes "false") (receiver_state (codes "open")))
+      (text_without_zeros (codes "false") (held (codes "open")))
   pub within_option_is_zero : first_of (codes "within") rows ≡ Some (codes "0")
-  pub pid_eq : first_of (codes "pid") rows ≡ first_text (receiver_state (codes "pid"))
+  pub pid_eq : first_of (codes "pid") rows ≡ first_text (held (codes "pid"))
   pub packet_size_eq :
       first_of (codes "packet-size") rows
-      ≡ Some (text_without_zeros (codes "188") (receiver_state (codes "packet-size")))
-  pub pes_eq : first_of (codes "pes") rows ≡ first_text (receiver_state (codes "pes"))
-  pub pace_eq : first_of (codes "pace") rows ≡ first_text (receiver_state (codes "pace"))
+      ≡ Some (text_without_zeros (codes "188") (held (codes "packet-size")))
+  pub pes_eq : first_of (codes "pes") rows ≡ first_text (held (codes "pes"))
+  pub pace_eq : first_of (codes "pace") rows ≡ first_text (held (codes "pace"))
   pub keeping_eq : first_of (codes "keeping") rows ≡ Some (codes "false")
 
 module _ (stl pes : Text) (parts : List DisplayOption) where
@@ -523,12 +523,12 @@ scope_eq rows from to also scope from_eq to_eq open_eq from_says to_says open_sa
 
 -- The arguments contain `--all`.
 abbrev lists_all : (Text → List (List Text)) → Bool
-lists_all receiver_state = bytes_eq
-    (text_without_zeros (codes "false") (receiver_state (codes "all"))) (codes "true")
+lists_all held = bytes_eq
+    (text_without_zeros (codes "false") (held (codes "all"))) (codes "true")
 
-module _ (rows : List Row) (stl recording : Text) (receiver_state : Text → List (List Text))
+module _ (rows : List Row) (stl recording : Text) (held : Text → List (List Text))
     (l : DisplayOptions)
-    (say : RowsHaveValues rows stl recording receiver_state) (m : OptionsHaveValues receiver_state
+    (say : RowsHaveValues rows stl recording held) (m : OptionsHaveValues held
     l) where
   too_far :
       nat_le 1 l.reading.options.every && nat_le l.reading.options.every day ≡ false
@@ -549,7 +549,7 @@ module _ (rows : List Row) (stl recording : Text) (receiver_state : Text → Lis
       → check_request rows
       ≡ Ok (Requested.Check stl (requested_recording recording l.reading)
       (options_in l.reading.options)
-      l.national l.layout l.reading.scope (lists_all receiver_state))
+      l.national l.layout l.reading.scope (lists_all held))
   check_eq near time =
       rw (
         say.page_is,
@@ -586,7 +586,7 @@ module _ (rows : List Row) (stl recording : Text) (receiver_state : Text → Lis
       → check_request rows ≡ Ok requested
       → (requested
       ≡ Requested.Check stl (requested_recording recording l.reading) (options_in l.reading.options)
-      l.national l.layout l.reading.scope (lists_all receiver_state))
+      l.national l.layout l.reading.scope (lists_all held))
       × (l.reading.options.origin < 2 ^ 33)
   in_range false time requested near_is time_field_gives_frame is = let e = sym (too_far near_is) ∙
       is in cc
@@ -647,13 +647,13 @@ check_rows_are_found stl pes parts is_stl is_pes =
     let more = flat_map arguments_of_display_option parts in
     ap
     (λ (w : Walk). finished rules
-    (fold (walked rules []) (walked rules [] w pes) more).receiver_state)
+    (fold (walked rules []) (walked rules [] w pes) more).held)
     (walk_takes_plain_word rules nothing_held 1 stl is_stl)
-    ∙ ap (λ (w : Walk). finished rules (fold (walked rules []) w more).receiver_state)
+    ∙ ap (λ (w : Walk). finished rules (fold (walked rules []) w more).held)
     (walk_takes_plain_word rules
     (to_positional rules (arg_by_index rules 1) stl (walk_at_position nothing_held 1)
-    nothing_held).receiver_state 2 pes is_pes)
-    ∙ ap (λ (w : Walk). finished rules w.receiver_state)
+    nothing_held).held 2 pes is_pes)
+    ∙ ap (λ (w : Walk). finished rules w.held)
     (walk_reads_display_options (state_after_files stl pes) parts)
 
 requests_no_help : (program stl pes : Text) (more : List Text)

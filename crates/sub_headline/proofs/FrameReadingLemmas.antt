@@ -82,16 +82,16 @@ chunks_are_data_units (suc n) units b (
   others,
   first,
   rest,
-  receiver_state,
+  held,
   after,
   units_are_so,
   b_is,
 ) =
-    let size = (valid_unit_decodes u first receiver_state).1 in
+    let size = (valid_unit_decodes u first held).1 in
     rw (
       b_is,
       chunks_of_cons 46 first rest size (omega (arith, length-append first rest, size)),
-      unit_eq u first receiver_state,
+      unit_eq u first held,
       chunks_are_data_units n others rest after,
       units_are_so,
     ) (sym (map-append (λ (u : UnitValue). u.packet) (option_to_list u) others))

@@ -125,7 +125,7 @@ range_is_name (x ∷ xs) range is = λ e.
 -- The state of the argument parser `clap` after the name of an option, before its value.
 abbrev walk_at_option : Text → Held → Walk
 walk_at_option id h = record {
-  receiver_state = h;
+  held = h;
   waiting = option id;
   position = 3;
   is_trailing = false;

@@ -84,7 +84,7 @@ name_is_plain_word c position word h name =
 abbrev pub walk_at_position : Held → ℕ → Walk
 walk_at_position h position =
     record {
-      receiver_state = h;
+      held = h;
       waiting = idle;
       position = position;
       is_trailing = false;
@@ -111,7 +111,7 @@ state_after_files stl pes =
     let c = check_shape.rules in
     let one = to_positional c (arg_by_index c 1) stl (walk_at_position nothing_held 1) nothing_held
     in
-    (to_positional c (arg_by_index c 2) pes one one.receiver_state).receiver_state
+    (to_positional c (arg_by_index c 2) pes one one.held).held
 
 program_name_gives_check : (program stl pes : Text)
     → command_in (program ∷ codes "check" ∷ stl ∷ pes ∷ [])
@@ -126,13 +126,13 @@ file_arguments_give_rows : (stl pes : Text)
     ≡ finished check_shape.rules (state_after_files stl pes)
 unfolding subttx_app
 file_arguments_give_rows stl pes is_stl is_pes =
-    ap (λ (w : Walk). finished check_shape.rules (walked check_shape.rules [] w pes).receiver_state)
+    ap (λ (w : Walk). finished check_shape.rules (walked check_shape.rules [] w pes).held)
     (walk_takes_plain_word check_shape.rules nothing_held 1 stl is_stl)
-    ∙ ap (λ (w : Walk). finished check_shape.rules w.receiver_state)
+    ∙ ap (λ (w : Walk). finished check_shape.rules w.held)
     (walk_takes_plain_word check_shape.rules
     (to_positional check_shape.rules (arg_by_index check_shape.rules 1) stl
     (walk_at_position nothing_held 1)
-    nothing_held).receiver_state 2 pes is_pes)
+    nothing_held).held 2 pes is_pes)
 
 file_rows_give_request : (stl pes : Text)
     → command_request (codes "check") (finished check_shape.rules (state_after_files stl pes))
