@@ -1,4 +1,4 @@
-"""Compare each call of dev/snapshots/ with its stored output: see `snapshots`."""
+"""Run each command of dev/snapshots/, and compare its output with the stored output."""
 from __future__ import annotations
 
 import os
@@ -11,7 +11,7 @@ from .snapshots import FOLDER, compare, summary, text_of, changes_in
 
 
 class Snapshots(Case):
-    """A test for each file."""
+    """Tests of stored outputs, one method for each file in dev/snapshots/."""
 
 
 def test_of(group: str) -> Callable[[Snapshots], None]:

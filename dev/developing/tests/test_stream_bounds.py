@@ -1,4 +1,4 @@
-"""Time limits at their exact values and next to them, for PTS that wrap anywhere."""
+"""Test time limits at and next to their exact values, with PTS that wrap at any place."""
 from __future__ import annotations
 
 import itertools
@@ -26,12 +26,12 @@ ORIGINS = 0, 7, CLOCK - 100 * SECOND - 5, CLOCK - 20 * SECOND, CLOCK - 5
 
 
 def pts_at(seconds: float | None, origin: int = 0) -> int | None:
-    """Return a PTS some seconds after another one."""
+    """Return the PTS some seconds after `origin`, or `None` if `seconds` is `None`."""
     return None if seconds is None else round(origin + seconds * SECOND) % CLOCK
 
 
 def packets_at(times: Sequence[float | None], origin: int = 0, does: str = "he") -> Packets:
-    """Return PES packets at some seconds; `None` for one without a PTS."""
+    """Return PES packets with PTS at some seconds; `None` stands for a packet without PTS."""
     return Packets(257, [PacketRun(number, 1, pts_at(one, origin), 0, does, "")
                          for number, one in enumerate(times)])
 
@@ -62,7 +62,7 @@ class Silences(unittest.TestCase):
                 lull = Silence(first, last, is_near)
                 self.assertEqual(select_idle_silences([lull], every, pauses),
                                  [lull] * (wanted or is_near), (first, last, pauses))
-        # In most pauses of that length; shorter ones don't count.
+        # The silence lies in most pauses of its length; shorter pauses don't count.
         silence = Silence(begin + 400, end, False)
         of_others: list[tuple[list[int], bool]] = [
             ([], True), ([500], False), ([499], True), ([499, 499], True), ([500, 499], False),
@@ -154,7 +154,7 @@ class FirstPictures(unittest.TestCase):
 
 
 class ReceivedFrames(unittest.TestCase):
-    # The number of the first PES packet, and the frame of each.
+    # Runs of PES packets: the number of the first packet, and the frame of each packet.
     RUNS = ((0, [10]), (1, [11, 12, 13]), (6, [20, 20, 21]), (9, [30]))
 
     def test_finds_the_frames_around_a_pes_packet(self) -> None:
@@ -201,7 +201,7 @@ class ReceivedFrames(unittest.TestCase):
 
     @staticmethod
     def timeline(sent: str, **more: Any) -> Timeline:
-        """Return the timeline of PES packets, each as frame (with ! if refused), actions and text.
+        """Return a timeline of PES packets, each given as `frame[!] actions text` (! if refused).
         """
         packets = Packets(5)
         for number, word in enumerate(filter(None, sent.split(" "))):

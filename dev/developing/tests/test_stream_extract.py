@@ -1,4 +1,4 @@
-"""Transport streams of dev/pes2ts, `extract`, and the languages of subtitle files."""
+"""Test transport streams written by dev/pes2ts, `extract`, and languages of subtitle files."""
 from __future__ import annotations
 
 

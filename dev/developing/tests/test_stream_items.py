@@ -1,4 +1,4 @@
-"""Which items of a layout are proposed: those that subtitles show and that hide nothing."""
+"""Test which items of a layout are proposed from the transmitted subtitles."""
 from __future__ import annotations
 
 import random
@@ -18,7 +18,7 @@ SHORT_TEXTS = [b"cat", b"dog", b"the sun", b"and then", b"who knows", b"yes"]
 
 
 class SentText(NamedTuple):
-    """A text with its justification code, and the text transmitted for it."""
+    """A subtitle's text, its transmitted text, and its justification code."""
 
     text: bytes
     sent: bytes
@@ -26,8 +26,8 @@ class SentText(NamedTuple):
 
 
 class Row(NamedTuple):
-    """How many of 100 subtitles are transmitted differently; the layout that is proposed; the one
-    that is left out, and how many subtitles it would draw."""
+    """A programme of 100 subtitles, some transmitted differently, with the proposed layout, the
+    omitted layout, and the number of subtitles that the omitted layout would draw."""
 
     name: str
     one: SentText
@@ -42,8 +42,8 @@ COLOUR, FLASH, DOUBLE = SentText(b"\3Hi", b"Hi"), SentText(b"\x08Hi", b"Hi"), Se
 SPACES, EMPTY = SentText(b"  Hi", b"Hi"), SentText(b"Hi\x8a\x8aHo", b"Hi\x8aHo")
 WHITE, STEADY = SentText(b"\7Hi", b"Hi"), SentText(b"\x09Hi", b"Hi")
 NEW_BACKGROUND, BLACK = SentText(b"\x04\x1d\7Hi", b"\4\7Hi"), SentText(b"\x1cHi", b"Hi")
-NO_BOX = SentText(b"\x00Hi", b"Hi")  # 00 is no code of a page
-# Transmitted without its colour, its flash and so on: an item would draw it.
+NO_BOX = SentText(b"\x00Hi", b"Hi")  # 00 is not sent in a page
+# Programmes in which some texts are transmitted without a control code that an item would draw.
 ROWS = [
     *(Row(f"{name}, {count}", one, count, "", left, count)
       for name, one, left in (("colour", COLOUR, "strip=03"), ("flash", FLASH, "strip=08"),
@@ -58,7 +58,7 @@ ROWS = [
                               ("00", NO_BOX, "strip=00")) for count in (1, 9, 10)),
     Row("none", COLOUR, 0, ""),
 ]
-# A layout, its items, and the layout without each.
+# Each layout with its items, and the layout without each item.
 ITEMS = [
     ("strip=0307", [("strip=03", "strip=07"), ("strip=07", "strip=03")]),
     ("before=0D*0B0B", [("before=0D*0B0B", ""), ("before=0D*0B0B", "before=0D0B0B")]),
@@ -67,8 +67,8 @@ ITEMS = [
     ("after=0A,fit,left=2", [("after=0A", "fit,left=2"), ("fit", "after=0A,left=2"),
                              ("left=2", "after=0A,fit")]),
     ("", [])]
-OVERRULING = (*range(0x01, 0x08), 0x09, 0x0C)  # after a line's own codes
-# A layout, and which of its items hide something from a viewer.
+OVERRULING = (*range(0x01, 0x08), 0x09, 0x0C)  # codes that override the codes of a line
+# Each layout with the items that hide text from a viewer.
 TAKEN = [
     ("strip=0A0B", ""), ("strip=0D", "strip=0D"), ("strip=0D,before=0D0B0B", ""),
     ("strip=0D,before=0B0B*0D", ""), ("strip=0A0B,before=", "before=,strip=0B"),
@@ -84,21 +84,21 @@ TAKEN = [
 
 
 def meant(text: str) -> Layout:
-    """Parse a layout."""
+    """Parse the text of a valid layout."""
     found = parse_layout(text) if text else PLAIN
     assert found is not None, text
     return found
 
 
 def rows_of(text: bytes, justify: int, layout: Layout, row: int = 18) -> tuple[bytes, ...]:
-    """Return the page that a layout draws."""
+    """Return the rows that a layout draws for a text."""
     lines = draw_text(text, row, justify, layout, ENGLISH)
     assert not isinstance(lines, TextFault), text
     return make_page_rows(lines)
 
 
 def sent_of(several: Sequence[SentText], layout: Layout = PLAIN) -> list[SentSubtitle]:
-    """Return the transmission of texts in a layout."""
+    """Return the subtitles transmitted for some texts in a layout."""
     return [SentSubtitle(one.text, 18, one.justify, rows_of(one.sent, one.justify, layout))
             for one in several]
 

@@ -1,4 +1,4 @@
-"""Layouts: their texts, the rows that they draw, and how they are found."""
+"""Test how layouts are parsed, how they draw subtitles, and how they are detected."""
 from __future__ import annotations
 
 import os
@@ -21,7 +21,7 @@ from .bench import Case
 
 
 GERMAN = BY_WORD["german"]
-# Texts that are no layout.
+# Texts that are not valid layouts.
 NONE = ("", "fit,fit", "before=0", "before=0E", "before=00", "before=0B0B0B0B0B0B0B",
         "after=0A0A0A0A0A", "strip=20", "strip=0A0A", "left=40", "left=007", "row=-23", "row=23",
         "row=+1", "row=--1", "left=-1", "free=0", "free=4", "fit=1", "left", "left=", "fit,",
@@ -29,13 +29,13 @@ NONE = ("", "fit,fit", "before=0", "before=0E", "before=00", "before=0B0B0B0B0B0
         "before=0*B",
         "before=0B0B0B*0B0B0B0B", "before=*0E", "after=0A*", "strip=*0A", "before", "row=1\n",
         "left=\u0661", "left=-0", "free=-1")
-# The same layout in other words, and its simplest text.
+# Texts of layouts, each with the shortest text of the same layout.
 MEANS = [("row=-0,left=00,free=01", ""), ("before=*", "before="), ("before=0b*0d", "before=0B*0D"),
          ("white,up", "up,white"), ("before=0B0B,after=0A0A,strip=", ""), ("row=-22", "row=-22"),
          ("row=22", "row=22"),
          ("strip=1f00", "strip=1F00"), ("right=09", "right=9"), ("before=0B*", "before=0B"),
          ("before=0B0B*07", "before=0B0B*07")]
-# Text, VP, JC, layout, and the drawn lines (row, column, cells) or the fault.
+# Subtitle text, VP, JC, layout, and the drawn rows (row, column, cells) or the error.
 DRAWN = [
     ("Hi", 22, 2, "", "22 17 0B0B4869 0A0A"), ("Hi", 22, 2, "white", "22 16 0B0B074869 0A0A"),
     ("03 Hi", 22, 2, "before=*0B0B", "22 16 030B0B4869 0A0A"),
@@ -60,8 +60,8 @@ DRAWN = [
     ("0D Hi 8A 8A Ho", 20, 2, "", "20 16 0B0B0D4869 0A0A 22 17 0B0B486F 0A0A"),
     ("03 06 07", 22, 2, "text,before=,after=", "22 17 03 0607"), ("E6", 22, 2, "", "50 at 0")]
 WORDS = "the cat sat on a mat and then it went to see what was there Hi Ho no yes".split()
-# Layouts of inserters: whether the file has its own codes; whether an empty line leaves room for
-# double height; a layout that draws so.
+# Layouts of inserters: whether the subtitle file has control codes, whether it leaves an empty
+# line for double height, and the layout.
 HOUSES = [
     (False, False, "before=0D0B0B,double"), (True, True, ""), (False, False, "text"),
     (False, False, "last"), (False, False, "after=0A"), (False, False, "after="),
@@ -72,13 +72,13 @@ HOUSES = [
 
 
 def text_bytes(printed: str) -> bytes:
-    """Return the bytes of a text."""
+    """Convert a text of the table to the bytes of a subtitle."""
     return b"".join(one.encode() if one in ("Hi", "Ho") else bytes.fromhex(one)
                     for one in printed.split(" "))
 
 
 def drawing_of(text: bytes, row: int, justify: int, layout: Layout) -> str:
-    """Return what is drawn, in the format of the table."""
+    """Return the rows that a layout draws, in the format of the table."""
     found = draw_text(text, row, justify, layout, ENGLISH)
     if isinstance(found, TextFault):
         return f"{found.number} at {found.at}"
@@ -87,7 +87,7 @@ def drawing_of(text: bytes, row: int, justify: int, layout: Layout) -> str:
 
 
 def line(some: random.Random, has_codes: bool) -> bytes:
-    """Return a random line, with a colour or complete codes."""
+    """Return a random line of a subtitle, with a colour or with all control codes."""
     text = " ".join(some.choice(WORDS) for _ in range(some.randrange(1, 5)))[:30].encode()
     colour = some.choice([b"", b"", b"\3", b"\6"])
     return b"\x0d" + colour + b"\x0b\x0b" + text + b"\x0a\x0a" if has_codes else colour + text
@@ -95,7 +95,7 @@ def line(some: random.Random, has_codes: bool) -> bytes:
 
 def programme(some: random.Random, has_codes: bool, leaves_room: bool, layout: Layout,
               count: int = 120) -> list[SentSubtitle]:
-    """Return subtitles and their transmission in a layout."""
+    """Return random subtitles, each with its transmission in a layout."""
     sent: list[SentSubtitle] = []
     while len(sent) < count:
         between = b"\x8a\x8a" if leaves_room else b"\x8a"
@@ -227,7 +227,7 @@ class StoredRows(Case):
 
 
 def sent_in(pes: bytes) -> str:
-    """Return the rows of the first page transmission with numbers, columns and cells."""
+    """Return the rows of the first page transmission, in the format of the table."""
     page: Page = (0, 0x88)
     sending = read_packet(split_packets(pes)[0][0], 0, 0)
     assert not isinstance(sending, int)
@@ -236,6 +236,6 @@ def sent_in(pes: bytes) -> str:
 
 
 def format_rows(rows: Iterable[tuple[int, bytes]]) -> str:
-    """Format rows as in the table."""
+    """Format rows with their numbers, columns and cells as in the table."""
     return "; ".join(f"{number} {len(codes) - len(codes.lstrip(b' '))} {codes.strip(b' ').hex()}"
                      for number, codes in rows if codes.strip(b" ")) or "blank"

@@ -1,4 +1,4 @@
-"""Part of a subtitle file judged with --from and --to, and the files that printed commands name."""
+"""Test --from and --to, and the files written for printed commands."""
 from __future__ import annotations
 
 import os
@@ -17,25 +17,25 @@ from .transmissions import (
     CLOSING, HEADER, pes_file, delayed, write_programme, row_packet, schedule_pages,
     write_subtitle_file)
 
-MINUTE = 1500  # frames
+MINUTE = 1500  # frames in a minute
 EARLIER, LATER = ("--to", "00:01:00:00"), ("--from", "00:01:00:00")
 BAD = b"no letter: \xe6"
 
 
 def three(first: int) -> list[tuple[int, int]]:
-    """Return the frames of three subtitles."""
+    """Return the first and end frames of three subtitles after a frame."""
     return [(first + 50 * at, first + 50 * at + 40) for at in range(1, 4)]
 
 
 class DayFiles(Case):
     def day(self, *texts: bytes, name: str = "day.stl") -> str:
-        """Write a file with three subtitles in the first minute and three in the second."""
+        """Write a subtitle file with three subtitles in each of the first two minutes."""
         texts = texts or tuple(b"Number %d" % number for number in range(1, 7))
         return write_subtitle_file(self, [(begin, end, text) for (begin, end), text in zip(
             [*three(0), *three(MINUTE)], texts)], name)
 
     def transmission(self, *words: str) -> str:
-        """Write the transmission of the second programme, or of the range in `words`."""
+        """Write the transmission of the second minute, or of the range in `words`."""
         self.schedule(self.day(), "second.pes", *(words or LATER))
         return self.path("second.pes")
 
@@ -227,7 +227,7 @@ class Adjoining(ProgrammeCase):
                                   row=20)
         with open(stl, "r+b") as file:
             file.seek(11)
-            file.write(b"0")  # DSC: open subtitles
+            file.write(b"0")  # set DSC to open subtitles
         pes = self.schedule(stl, "one.pes", "--every", "25", *words)
         judged = judge_files(self, stl, pes, "--origin", "0", *words, "--to", time_of(250))
         self.must("not judged",

@@ -1,7 +1,4 @@
-"""The lines of `survey`, and what the tools read from them.
-
-The expected lines of made recordings follow docs/manual/survey.md.
-"""
+"""Test the output of `survey`, described in docs/manual/survey.md, and how the tools read it."""
 from __future__ import annotations
 
 import os
@@ -27,12 +24,12 @@ from .transmissions import CLOSING, HEADER, PAGE, row_packet
 from .test_formats_characters import character_set_packet
 
 FIRST = 1_000_000  # PTS of the first picture and of the first PES packet of Teletext
-LAST = FIRST + 100_000 * TICKS  # PTS of the last one
+LAST = FIRST + 100_000 * TICKS  # PTS of the last PES packet of Teletext
 LATER_PID, OTHER_VIDEO = 0x111, 0x300
 
 
 def lines_of_kinds(case: Case, data: bytes, *kinds: str) -> list[str]:
-    """Return the lines of some kinds."""
+    """Return the lines of some kinds that `survey` prints for a recording."""
     status, lines = case.program("survey", case.write("one.ts", data))
     case.must("status", status == 0, status)
     return [line for line in lines if line.split()[0] in kinds]
@@ -43,17 +40,17 @@ def each_frame(count: int, first: int = FIRST) -> list[bytes]:
     return [make_pes_packet((first + TICKS * frame) % CLOCK, [CLOSING]) for frame in range(count)]
 
 
-# The lead of the Teletext over the pictures.
+# `lead` lines: the distance from a picture's PTS to the PTS of the Teletext after it.
 
 def lead(frame: int, ticks: int = 0, pid: int = TELETEXT_PID, video: int = VIDEO_PID,
          number: int | None = None, first: int = FIRST) -> str:
-    """Return the line about the PES packet of a frame after the picture of that frame."""
+    """Return the expected `lead` line for a PES packet sent after the picture of its frame."""
     return f"lead {pid} {(first + TICKS * frame) % CLOCK} {ticks} {video} " \
         f"{frame + 1 if number is None else number}"
 
 
 def timed_video(pts: int | None, dts: int | None = None, stream_id: int = 0xE0) -> bytes:
-    """Return a PES packet of video with these times."""
+    """Return a video PES packet with this PTS and DTS, or without them."""
     times = [] if pts is None else [encode_pts(pts)] if dts is None else [
         encode_pts(pts), encode_pts(dts)]
     return b"\0\0\1" + bytes([stream_id, 0, 0, 0x80, (0, 0x80, 0xC0)[len(times)], 5 * len(times)]) \
@@ -62,7 +59,7 @@ def timed_video(pts: int | None, dts: int | None = None, stream_id: int = 0xE0) 
 
 class LeadLines(Case):
     def lines_of(self, *programmes: Programme, frames: int = 60) -> list[str]:
-        """Return the lines of a recording of programmes."""
+        """Return the `lead` lines of a recording with these programmes."""
         return lines_of_kinds(self, multiplex_programmes(programmes, frames).data, "lead")
 
     def test_prints_the_lead_once_a_second(self) -> None:
@@ -90,7 +87,7 @@ class LeadLines(Case):
                            [lead(frame, video=own) for frame in (0, 25)])
 
     def made_of(self, *several: tuple[int, bytes]) -> list[str]:
-        """Return the lines of PES packets on PIDs of a programme with two videos."""
+        """Return the `lead` lines of PES packets in a programme with two videos."""
         maker = Maker([*components(), (OTHER_VIDEO, MPEG_2, b"")])
         maker.put_tables()
         for pid, data in several:
@@ -134,12 +131,12 @@ class LeadLines(Case):
             self.check(name, self.made_of(*several), wanted)
 
 
-# First pictures: thirty, one a frame, each in two TS packets.
+# `video`, `picture`, `group` and `pictures` lines of a video with thirty pictures.
 
 def pictures(flagged: Sequence[int], lost: Sequence[int] = (), scrambled: Sequence[int] = (),
              wrong: Sequence[int] = (), twice: Sequence[int] = ()) -> bytes:
-    """Return a stream in which some pictures have a random_access_indicator, and some TS packets
-    are lost, scrambled, marked as damaged, or repeated."""
+    """Return a video stream in which the `flagged` pictures have a random_access_indicator, and
+    some TS packets are lost, scrambled, marked as damaged (`wrong`), or repeated."""
     maker = Maker(components())
     maker.put_tables()
     tables = maker.taken()
@@ -155,8 +152,8 @@ def pictures(flagged: Sequence[int], lost: Sequence[int] = (), scrambled: Sequen
 
 class PictureLines(Case):
     def test_counts_breaks_and_scrambled_packets_of_a_group(self) -> None:
-        group = 3, 15  # its TS packets are 6 to 29
-        # LOST SCRAMBLED, and at the end of the recording PASSED STARTED
+        group = 3, 15  # pictures 3 to 14, in TS packets 6 to 29
+        # Expected end of the `pictures` line: LOST SCRAMBLED [PASSED STARTED].
         rows: list[tuple[str, bytes]] = [
             ("0 0", pictures(group)), ("1 0", pictures(group, lost=[7])),
             ("1 0", pictures(group, lost=[17])), ("1 0", pictures(group, lost=[17, 18])),
@@ -169,7 +166,7 @@ class PictureLines(Case):
             ("0 0 3 1", pictures((3,))), ("2 1 3 1", pictures((3,), [17, 40], [59])),
             ("1 1 0 1", pictures((0,), [1], [3])), ("0 0 30 0", pictures(())),
             ("0 0 29 0", pictures((), [6], [8])),
-            # the counter has wrapped to the same value
+            # The continuity counter wraps to its old value during this loss.
             ("1 0", pictures((3, 25), lost=range(17, 32))),
             ("0 0 29 0", pictures((), twice=[6, 7, 8], lost=[10]))]
         for number, (wanted, data) in enumerate(rows):
@@ -191,7 +188,7 @@ class PictureLines(Case):
                        [f"video {VIDEO_PID} {passed}"])
 
     def lines_of(self, *several: bytes) -> list[str]:
-        """Return the lines of TS packets of the video PID."""
+        """Return the lines that `survey` prints about TS packets of the video PID."""
         maker = Maker(components())
         maker.put_tables()
         return lines_of_kinds(self, maker.data + b"".join(several), "video", "picture", "group",
@@ -199,7 +196,7 @@ class PictureLines(Case):
 
     def split(self, cuts: Sequence[int], pes: bytes, flagged: bool = False, counter: int = 0
               ) -> list[bytes]:
-        """Return the TS packets of a PES packet that is cut at some places."""
+        """Split a PES packet at some places, and return its TS packets."""
         maker = Maker([])
         maker.counters[VIDEO_PID] = counter + 15
         for begin, end in zip([0, *cuts], [*cuts, len(pes)]):
@@ -214,7 +211,7 @@ class PictureLines(Case):
         second = timed_video(FIRST + TICKS)
         rows: list[list[int]] = [[], *([cut] for cut in range(1, 30)), [1, 2, 3], [*range(1, 28)]]
         for cuts in rows:
-            made = self.split([], second)  # the first stream_id makes the PID known
+            made = self.split([], second)  # `survey` learns the PID from the first stream_id
             made += self.split(cuts, pes, True, 1)
             made += self.split([9], second, counter=len(made) & 15)
             self.check(f"cut at {cuts}", self.lines_of(*made), [
@@ -264,10 +261,10 @@ class PictureLines(Case):
                            f"pictures {VIDEO_PID} {wanted} 0 0 1")
 
 
-# Tables: PAT and PMT, and PIDs outside them.
+# Lines about the PAT, the PMT, and PIDs outside of them.
 
 class Named(NamedTuple):
-    """The components of a PMT, or PES packets on PIDs; and the expected lines."""
+    """The components of a PMT, or PES packets on their PIDs, with the expected lines."""
 
     components: list[tuple[int, int, bytes]]
     wanted: list[str]
@@ -395,11 +392,12 @@ class TableLines(Case):
                 f"{5 + (not missing) * len(parts)} 0 0 0 {FIRST + 5 * TICKS}"] * is_followed)
 
 
-# Clocks.
+# `clock`, `pcr` and `ahead` lines.
 
 def with_pcr(intervals: Iterable[tuple[int, int]], behind: int = 1) -> bytes:
-    """Return PCRs with intervals in ticks and TS packets, between two PES packets of Teletext; the
-    second comes some packets after the last PCR."""
+    """Return a stream with PCRs between two PES packets of Teletext.
+
+    Each interval between PCRs is given in ticks and TS packets."""
     maker, pcr = Maker(components()), FIRST
     maker.put_tables()
     maker.put(TELETEXT_PID, make_pes_packet(FIRST, []))
@@ -415,7 +413,7 @@ def with_pcr(intervals: Iterable[tuple[int, int]], behind: int = 1) -> bytes:
 class ClockLines(Case):
     def test_finds_late_pcr(self) -> None:
         usual = [(3600, 5)] * 1000
-        # PCR, and TICKS PACKETS USUAL USUALPACKETS of reported ones
+        # Intervals between PCRs, and TICKS PACKETS USUAL USUALPACKETS of each `clock` line.
         rows: list[tuple[str, Sequence[tuple[int, int]], list[str]]] = [
             ("late", [*usual, (10_801, 12)], ["10801 12 3600 5"]),
             ("not late", [*usual, (10_800, 12)], []),
@@ -435,14 +433,14 @@ class ClockLines(Case):
             self.must(name, lines == [f"clock {TELETEXT_PID} {FIRST} {LAST} {one} whole"
                                       for one in wanted], lines)
         data = with_pcr([*usual, (20_000, 9)], 2)
-        place = len(data) - 3 * PACKET  # of the late PCR
+        place = len(data) - 3 * PACKET  # offset of the late PCR
         twice = data[:place] + data[place - PACKET:place] + data[place:]
         self.check("audio sent twice", lines_of_kinds(self, twice, "clock"),
                    [f"clock {TELETEXT_PID} {FIRST} {LAST} 20000 10 3600 5 whole"])
 
     def test_uses_no_adaptation_field_of_a_damaged_packet(self) -> None:
         data = with_pcr([*[(3600, 5)] * 30, (20_000, 9)], 2)
-        place = len(data) - 3 * PACKET  # of the late PCR
+        place = len(data) - 3 * PACKET  # offset of the late PCR
         late = data[place:place + PACKET]
         line = f"clock {TELETEXT_PID} {FIRST} {LAST} 20000 10 3600 5 whole"
         pcr = f"pcr {VIDEO_PID} {FIRST + 30 * 3600}"
@@ -469,7 +467,7 @@ class ClockLines(Case):
                 maker.put_tables()
                 for frame, one in enumerate(each_frame(90, first)):
                     maker.put_pcr(first + (TICKS + drift) * frame - AHEAD)
-                    if frame >= 10:  # the last PCR is never one in a `pcr` line
+                    if frame >= 10:  # omit the Teletext of the first frames
                         maker.put(TELETEXT_PID, one)
                 lines = lines_of_kinds(self, maker.data, "ahead")
                 self.must(f"{first} {drift}", lines == [
@@ -495,10 +493,10 @@ class ClockLines(Case):
                 self.must(f"{usual} {since}", lines == wanted[:since <= most], lines)
 
 
-# PES packets.
+# `pes` lines.
 
 def of_pes(several: Iterable[bytes]) -> bytes:
-    """Return a stream with each PES packet in one TS packet."""
+    """Return a transport stream with each PES packet in one TS packet."""
     maker = Maker(components())
     maker.put_tables()
     for one in several:
@@ -507,12 +505,12 @@ def of_pes(several: Iterable[bytes]) -> bytes:
 
 
 def pes_packets_with(*several: Sequence[bytes]) -> list[bytes]:
-    """Return PES packets with these Teletext packets, one a frame."""
+    """Return one PES packet for each frame, with these Teletext packets."""
     return [make_pes_packet(FIRST + TICKS * frame, some) for frame, some in enumerate(several)]
 
 
 def with_third(place: int, *new: int) -> list[bytes]:
-    """Return five PES packets; the third has other bytes at a place."""
+    """Return five PES packets, the third with changed bytes at a place."""
     made = each_frame(5)
     made[2] = made[2][:place] + bytes(new) + made[2][place + len(new):]
     return made
@@ -520,8 +518,8 @@ def with_third(place: int, *new: int) -> list[bytes]:
 
 class PesLines(Case):
     def test_joins_pes_packets_that_differ_in_nothing_but_pts(self) -> None:
-        again = make_packet(0, 0, [8, 8, 0, 8, 0, 8, 3, 0], b" " * 32)  # the header, with C8
-        # FIRST COUNT PTS STEP DOES/CONTROL UNITS FAULT
+        again = make_packet(0, 0, [8, 8, 0, 8, 0, 8, 3, 0], b" " * 32)  # header with C8
+        # Expected end of `pes` lines: FIRST COUNT PTS STEP DOES/CONTROL UNITS FAULT.
         begun = f"0 1 {FIRST} 0 heob/88080810 1 0"
         rows: list[tuple[str, list[bytes], list[str]]] = [
             ("alike", each_frame(5), [f"0 5 {FIRST} {TICKS} b/ 1 0"]),
@@ -609,7 +607,7 @@ class PesLines(Case):
             for name, more, skipped in (
                     ("alone", made, 0), ("before", bytes(1000) + made, 1000),
                     ("in it", made[:size * 1000] + bytes(100) + made[size * 1000:], 100),
-                    ("behind", made + made[:100], 96 if size == 192 else 100)):  # a time stamp
+                    ("behind", made + made[:100], 96 if size == 192 else 100)):  # a time stamp has 4 bytes
                 lines = lines_of_kinds(self, more, "pes", "end", "over")
                 self.must(f"{size} {name}", lines == [
                     f"pes {TELETEXT_PID} {run}", f"end {TELETEXT_PID} 1500 0 1500 0 0 0 {last}",
@@ -622,7 +620,7 @@ class PesLines(Case):
                 "over 0 0"], lines)
 
 
-# All lines of a recording, in order.
+# The complete output for short recordings.
 
 FRAMES = each_frame(3)
 GAP_MARKER = b"\0\0\1\xbd\0\xb2" + b"\xff" * 178
@@ -630,7 +628,7 @@ GAP_MARKER = b"\0\0\1\xbd\0\xb2" + b"\xff" * 178
 
 def of_teletext(pes: Iterable[bytes], change: Callable[[list[bytes]], list[bytes]] = list
                 ) -> bytes:
-    """Return tables and PES packets of Teletext, whose TS packets may be changed."""
+    """Return a stream with tables and PES packets of Teletext, after `change` of its TS packets."""
     maker = Maker(components())
     maker.put_tables()
     tables = maker.taken()
@@ -644,7 +642,7 @@ def without_second(packets: list[bytes]) -> list[bytes]:
 
 
 def repeat_first_for_second(packets: list[bytes]) -> list[bytes]:
-    """Repeat the first in place of the lost second."""
+    """Replace the second TS packet by a repetition of the first."""
     return [packets[0], packets[0], *packets[2:]]
 
 
@@ -654,13 +652,13 @@ def scramble_second(packets: list[bytes]) -> list[bytes]:
 
 
 def announce_second(packets: list[bytes]) -> list[bytes]:
-    """Announce a counter jump in place of the lost second."""
+    """Replace the second TS packet by a packet with a discontinuity_indicator."""
     field = bytes([PACKET - 5, 0x80]).ljust(PACKET - 4, b"\xff")
     return [packets[0], make_head(TELETEXT_PID, 0, ADAPTATION_ALONE) + field, *packets[2:]]
 
 
 def with_units(pes: bytes, data_unit_id: int) -> bytes:
-    """Replace the data_unit_id of the first data unit."""
+    """Replace the data_unit_id of the first data unit of a PES packet."""
     return pes[:46] + bytes([data_unit_id]) + pes[47:]
 
 
@@ -668,14 +666,14 @@ class Listings(Case):
     maxDiff = None
 
     def lines_of(self, data: bytes) -> list[str]:
-        """Return all lines except the first two, which are always the same."""
+        """Return the output for a recording without its first two lines."""
         status, lines = self.program("survey", self.write("one.ts", data))
         self.check("status", status, 0)
         self.check("first lines", lines[:2], ["survey 1", f"head {data[:11].hex()}".rstrip()])
         return lines[2:]
 
     def test_prints_all_lines_of_a_programme(self) -> None:
-        other = make_packet(7, 0, [0, 5, 0, 8, 0, 8, 1, 0], b" " * 32)  # page 750
+        other = make_packet(7, 0, [0, 5, 0, 8, 0, 8, 1, 0], b" " * 32)  # header of page 750
         decoded = "0b0b4869" + "20" * 36
         begun = f"pes 257 0 1 {FIRST} 0 heob/88080810 1 0"
         rows: dict[str, tuple[bytes, str]] = {
@@ -777,7 +775,7 @@ class Listings(Case):
             self.check(name, self.lines_of(data), wanted)
 
 
-# What the tools read from such lines.
+# How the tools read the output.
 
 class SurveyAnswers(Case):
     def test_accepts_a_last_line_only_with_its_status(self) -> None:
@@ -821,7 +819,7 @@ class SurveyAnswers(Case):
                    "PID 0x5: announced 888 eng subtitles in programme 1; subtitle pages sent: 210 "
                    f"211 212 213 214 215 216 217 218 219 220 221{more}"])
               for count, more in ((12, ""), (13, " and 1 more"), (14, " and 2 more"))),
-            # The PCR before a PMT is that of its PID, or of an earlier PID, of eight at most.
+            # A PMT takes the last PCR of its PCR PID, or of one of the last eight PCR PIDs.
             *((f"pcr 9 5; programme 1 9; pcr 9 8; {more}",
                lambda it: [one.after for one in it.programmes[1:]], wanted) for more, wanted in (
                    ("pcr 8 20; programme 1 8; programme 1 7; programme 2 7; programme 1 9",
@@ -845,7 +843,7 @@ class SurveyAnswers(Case):
              [(28, 0, 1, None), (29, 4, None, 7)]),
             ("strays 5 3 20:41,21:4243; strays 5 9 -", lambda it: on_5(it).stray_rows,
              [(3, ((20, b"A"), (21, b"BC"))), (9, ())]),
-            # A damaged space, and a row of spaces, change no text.
+            # Damaged spaces and rows of spaces do not change the text.
             ("pes 5 0 1 100 0 he/ 1 0; rows 5 0 20:2041a042; pes 5 1 3 200 50 o/ 1 0; "
              "rows 5 1 20:20412042,21:2020; rows 5 3 -; pes 5 4 1 9 0 o/ 1 0; rows 5 4 20:20412042"
              "; pes 5 5 1 10 0 o/ 1 0; rows 5 5 21:20412042",
@@ -893,7 +891,7 @@ class SurveyAnswers(Case):
                 before.append(pid)
 
     def fake_survey(self, lines: Sequence[str], status: int = 0) -> str:
-        """Return a program that prints these lines."""
+        """Write a program that prints these lines like `survey`, and return its path."""
         path = self.write("program", "\n".join([
             "#!/bin/sh", "echo survey 1", r"printf 'later \377\n'",
             "echo head $(printf %s \"$*\" | od -An -v -tx1 | tr -d ' \\n')",

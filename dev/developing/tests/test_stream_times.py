@@ -1,4 +1,4 @@
-"""Tables about the clocks of a recording: time bases, breaks, PCRs, unusual PTS, losses, ranges."""
+"""Test time bases, breaks, PCRs, unusual PTS, losses and ranges of a recording with tables."""
 from __future__ import annotations
 
 import itertools
@@ -25,7 +25,7 @@ from .parts import read_survey
 
 
 def packets_with(pts: Sequence[int | None], **more: Any) -> Packets:
-    """Return PES packets with these PTS; `None` for a gap marker."""
+    """Return PES packets with these PTS; `None` stands for a gap marker."""
     found = Packets(257, **more)
     found.runs = [PacketRun(number, 1, None if one is None else one % CLOCK, 0, "m" if one is None
                             else "h", "") for number, one in enumerate(pts)]
@@ -33,22 +33,22 @@ def packets_with(pts: Sequence[int | None], **more: Any) -> Packets:
 
 
 def clocked(before: int, ticks: int, counters: str, packets: int = 100) -> PCRStep:
-    """Return an unusual pair of PCRs, with 100 packets between them."""
+    """Return an unusual step between two PCRs, with 100 TS packets between them by default."""
     return PCRStep(before, before + 1, ticks, packets, SECOND // 10, 100, counters)
 
 
 def find_airings(numbers: set[int]) -> list[tuple[int, int]]:
-    """Join consecutive numbers into (first, last)."""
+    """Return the first and last number of each run of consecutive numbers."""
     firsts = sorted(one for one in numbers if one - 1 not in numbers)
     return list(zip(firsts, sorted(one for one in numbers if one + 1 not in numbers)))
 
 
 DAY = TICKS * FRAMES_OF_A_DAY
-BEFORE = (CLOCK - DAY) // 2  # ticks that a PTS of a day may be before its origin
+BEFORE = (CLOCK - DAY) // 2  # maximum number of ticks by which a PTS may precede its origin
 
 
 def all_over_the_clock(chance: random.Random) -> Iterator[tuple[int, int]]:
-    """Yield origins, each with distances over the 26.5 hours of the clock."""
+    """Yield origins, each with PTS distances from the complete range of the 33-bit clock."""
     for origin in (0, 1, TICKS, CLOCK // 2, CLOCK - 1,
                    *(chance.randrange(CLOCK) for _ in range(9))):
         for at in (0, TICKS, CLOCK // 2, DAY, CLOCK - BEFORE, CLOCK, *(
@@ -59,7 +59,7 @@ def all_over_the_clock(chance: random.Random) -> Iterator[tuple[int, int]]:
 
 
 def text_of(number: int, does: str) -> Texts:
-    """Return the rows after a PES packet: blank, the same, or a text of its own."""
+    """Return the rows decoded after a PES packet: none, an unchanged text, or a new text."""
     return () if "b" in does else ((20, b"same" if does[-1] == "y" else b"%d" % number),)
 
 
@@ -189,9 +189,9 @@ class ClockTables(unittest.TestCase):
                 ([(0, 0), (0, LEAST_GAP - 1)], [18]), ([(0, 0), (0, LEAST_GAP)], [9, 18]),
                 ([(0, 0), (1, 1)], [9, 18]), ([(0, 0), (1, -1)], [9, 18]),
                 ([(0, 0), (0, -five), (0, -2 * five)], [9, 18, 27]),
-                ([(0, 0), (0, -75), (0, -150)], [27]),  # two delays of three seconds
+                ([(0, 0), (0, -75), (0, -150)], [27]),  # two delays by three seconds
                 ([(0, 0), (0, -75), (0, -75 - five)], [18, 27]),
-                ([(0, 0), (0, 75), (0, 75 - five)], [27]),  # early, then late by two seconds
+                ([(0, 0), (0, 75), (0, 75 - five)], [27]),  # three seconds early, then two seconds late
                 ([(0, 0), (0, -five), (0, -1 - five)], [9, 27]),
                 ([(0, 0), (0, 5), (0, 0)], [27]), ([(0, 0), (0, 5), (0, -five)], [18, 27])):
             row: Any = [Stretch(SimpleNamespace(base=base, start=start),  # type: ignore[arg-type]
@@ -211,7 +211,7 @@ class ClockTables(unittest.TestCase):
                 ([SECOND, SECOND + 1], [("early", 1, SECOND + 1), ("changed", 2, SECOND - 999)]),
                 ([1000 + SECOND // 2], []), ([1001 + SECOND // 2] * 20, [("changed", 20, 45_001)]),
                 ([-45_000, 47_000], [("behind", 1, -45_000), ("changed", 2, -46_000)])]
-        # After the first minute, and before it if PTS wrap in it.
+        # Begin after the first minute, or before a PTS wrap within it.
         for begin, (more, wanted) in itertools.product((61, -100), rows):
             ahead = [*enumerate([30_000, *[1000] * 8]), *enumerate(more, begin)]
             samples = [(SECOND * (at - 3) % CLOCK, one) for at, one in ahead]
@@ -241,14 +241,14 @@ class ClockTables(unittest.TestCase):
                              wanted, (marks, several))
 
     def test_cuts_the_range_of_each_row(self) -> None:
-        """Table of ranges for frames 100 to 200.
+        """Test the range found for frames 100 to 200.
 
-        A PES packet is its frame and letters: header, erase, blank, open, closed, text change (`x`)
-        or the same text (`y`).
+        The table lists PES packets, each with its frame and letters for `h`eader, `e`rase,
+        `b`lank, `o`pen, `c`losed, a changed text (`x`) and an unchanged text (`y`).
         """
         whole, every, late = (100, 200), (100, 200, 25), (100, 200, 25, 2)
         rows: list[tuple[str, str, tuple[int, ...], tuple[int, int] | None, bool, bool, int]] = [
-            # Where it begins.
+            # The begin of the range.
             ("with the first header", "100 he, 200 he", whole, (0, 1), True, False, 2),
             ("behind rows", "100 -, 101 -, 120 he, 200 he", whole, (2, 3), True, False, 4),
             ("nowhere: no header", "100 -, 200 -", whole, None, False, False, 2),
@@ -301,7 +301,7 @@ class ClockTables(unittest.TestCase):
              late, (2, 4), True, False, 5),
             ("late: not where the page is blank for longer",
              "75 heb, 76 hey, 97 hebx, 100 hey, 200 heb", late, (2, 4), True, False, 5),
-            # Where it ends.
+            # The end of the range.
             ("with what is there", "100 he, 150 -", every, (0, 1), False, False, 2),
             ("back in the time", "100 he, 150 -, 120 -", every, (0, 2), False, False, 3),
             ("with a header at the last TCO", "100 he, 200 heb, 201 -, 202 -", every, (0, 1), True,
@@ -331,7 +331,7 @@ class ClockTables(unittest.TestCase):
              "100 heo, 101 c, 200 heob, 201 cb, 202 heob, 225 heob", late, (0, 3), True, True, 5),
             ("late: as late as may be", "100 he, 201 he, 202 he, 203 -", late, (0, 2), True, True,
              4),
-            # Which PES packets are in the time.
+            # PES packets outside the requested times.
             ("one behind alone", "100 he, 900 he, 150 he, 200 he, 201 -, 202 -", every, (0, 3),
              True, True, 5),
             ("two behind", "100 he, 900 he, 901 he, 200 he", every, (0, 0), False, True, 3),
@@ -377,7 +377,7 @@ class ClockTables(unittest.TestCase):
         made = Packets(257, [PacketRun(at, 1, TICKS * (100 + at), 0, "he", "") for at in range(9)])
         found = find_range(made, 100, 200, 0, 25, inside=(3, 5))
         self.assertEqual((found.range, found.came, found.read), ((3, 5), 103, 7))
-        # At the ends of the day.
+        # Ranges at the begin and end of the day.
         for frames, begin, end, wanted in (([0, 5], 0, 9, (0, 1)), ([-50, -20, 0, 1], -50, -20,
                                                                     (0, 1))):
             first, last = (one % FRAMES_OF_A_DAY for one in (begin, end))

@@ -1,7 +1,4 @@
-"""Subtitle files and their transmissions:
-
-page transmissions, PES packets, pipes, and faults in them.
-"""
+"""Write subtitle files and their transmissions, with and without faults, to files and pipes."""
 from __future__ import annotations
 
 import contextlib
@@ -20,20 +17,20 @@ from subtitles.common.times import CLOCK, TICKS
 from subtitles.formats.stl import NEW_LINE
 from .bench import Case
 
-Sent = list[tuple[int, list[bytes]]]  # PTS without wraps, and the Teletext packets with that PTS
+Sent = list[tuple[int, list[bytes]]]  # unwrapped PTS, and the Teletext packets with this PTS
 Change = Callable[[Sent], Sent]
-Shown = tuple[int, int, bytes]  # first frame, end frame and text of a subtitle
+Shown = tuple[int, int, bytes]  # first frame, end frame and text of a subtitle on screen
 PAGE = (0, 0x88)
-HEADER = make_packet(0, 0, [8, 8, 0, 8, 0, 8, 1, 0], b" " * 32)  # of page 888; with erase_page set
+HEADER = make_packet(0, 0, [8, 8, 0, 8, 0, 8, 1, 0], b" " * 32)  # header of page 888 with erase_page
 CLOSING = make_packet(0, 0, [15, 15, 15, 7, 15, 3, 0, 0], b" " * 32)
 
 
 def row_packet(number: int, text: bytes) -> bytes:
-    """Return a row packet of the magazine of page 888."""
+    """Return a packet with one row of page 888."""
     return make_packet(0, number, (), b"\x0b\x0b" + text.ljust(38))
 
 
-# Subtitle files, and transmissions of them by `schedule`.
+# Write subtitle files, and transmit them with `schedule`.
 
 def write_subtitle_file(case: Case, subtitles: Iterable[Shown], name: str = "one.stl",
                         first: int = 1,
@@ -54,7 +51,7 @@ def write_programme(case: Case, times: Sequence[tuple[int, int]], lines: int = 1
 
 
 def random_subtitles(seed: int) -> tuple[bytes, list[int]]:
-    """Return a random subtitle file with adjoining and repeated subtitles, and its cue frames."""
+    """Return a random subtitle file, with adjoining and repeated subtitles, and its cue frames."""
     chance = random.Random(seed)
     made: list[bytes] = []
     edges: list[int] = []
@@ -70,13 +67,13 @@ def random_subtitles(seed: int) -> tuple[bytes, list[int]]:
 
 
 def schedule_pages(case: Case, stl: str, *words: str, origin: int = 0, every: int = 25) -> Sent:
-    """Return the transmission that `schedule` makes of a subtitle file."""
+    """Return the transmission that `schedule` makes from a subtitle file."""
     return [(origin + decode_pts(one), get_teletext_packets(get_data_field(one)))
             for one in schedule_pes(case, stl, "--every", str(every), *words)]
 
 
 def schedule_pes(case: Case, stl: str, *words: str) -> list[bytes]:
-    """Return the PES packets that `schedule` makes of a subtitle file."""
+    """Return the PES packets that `schedule` makes from a subtitle file."""
     return packets(case.read(case.schedule(stl, "planned.pes", *words)))
 
 
@@ -91,7 +88,7 @@ def make_two_parts(case: Case) -> tuple[str, bytes]:
 
 
 def pes_file(sent: Sent) -> bytes:
-    """Return a transmission as a file of PES packets."""
+    """Return the contents of a PES file with a transmission."""
     return b"".join(make_pes_packet(pts % CLOCK, some) for pts, some in sent)
 
 
@@ -101,51 +98,49 @@ def packets(data: bytes) -> list[bytes]:
 
 
 def with_new_pts(data: bytes, new_pts: Callable[[int, int], int]) -> bytes:
-    """Return the file with new PTS, computed from each packet's number and old PTS."""
+    """Replace the PTS of each PES packet by `new_pts(number, old_pts)`."""
     return b"".join(one[:9] + encode_pts(new_pts(number, decode_pts(one)) % CLOCK) + one[14:]
                     for number, one in enumerate(packets(data)))
 
 
-# A programme of evenly spaced subtitles, with delays or in several parts.
+# Programmes with evenly spaced subtitles, with delays or pauses.
 
-EACH, LASTS = 100, 60  # frames from one TCI to the next, and from TCI to TCO
+EACH, LASTS = 100, 60  # distance between TCIs, and subtitle duration, in frames
 ORIGIN = 20_000 * TICKS + 7
-PAUSES = 880, 1680  # frames before the 9th and 17th subtitle, where parts begin
+PAUSES = 880, 1680  # first frames of the second and third part
 
 
 def subtitle_times(count: int) -> list[tuple[int, int]]:
-    """Return the first and end frames of `count` subtitles."""
+    """Return the first and end frames of evenly spaced subtitles."""
     return [(EACH * number, EACH * number + LASTS) for number in range(1, count + 1)]
 
 
 def delayed(by: int, first: int = 0, last: int = 1 << 40) -> Change:
-    """Delay everything sent from the PTS `first` to `last` by some frames."""
+    """Return a function that delays PES packets with a PTS from `first` to `last` by frames."""
     return lambda sent: [(pts + by * TICKS * (first <= pts <= last), some) for pts, some in sent]
 
 
 def delay_subtitle(number: int, by: int) -> Change:
-    """Delay the page transmissions of one subtitle by some frames."""
+    """Return a function that delays the page transmissions of one subtitle by frames."""
     begin = EACH * number * TICKS
     return delayed(by, begin, begin + LASTS * TICKS - 1)
 
 
 def with_pauses(sent: Sent, *shifts: int) -> Sent:
-    """Delay everything after each pause by that pause's number of frames."""
+    """Delay all PES packets after each pause by the number of frames given for this pause."""
     begun = [sum(pts >= pause * TICKS for pause in PAUSES[:len(shifts)]) for pts, _ in sent]
     return [(ORIGIN + pts + TICKS * (0, *shifts)[at], some) for at, (pts, some) in zip(begun, sent)]
 
 
-# Pipes.
-
 def write_pipe(case: Case, data: bytes, path: str = "") -> str:
-    """Write bytes to a new named pipe in the background; return its path."""
+    """Create a named pipe, write bytes to it in the background, and return its path."""
     path = path or case.path(f"feed{len(os.listdir(case.folder))}")
     start_feed(path, data)
     return path
 
 
 def start_feed(path: str, data: bytes) -> None:
-    """Write bytes to a named pipe at a path in the background."""
+    """Write bytes to an existing named pipe in the background."""
     os.mkfifo(path)
     threading.Thread(target=feed_pipe, args=(path, data), daemon=True).start()
 

@@ -1,7 +1,4 @@
-"""Random pairs with more faults and options than those of `scenario`:
-
-languages, damaged fields, damaged transport streams, pages that change their PID.
-"""
+"""Random pairs with more faults and options than the pairs of `scenario`."""
 from __future__ import annotations
 
 from typing import Callable
@@ -24,7 +21,7 @@ def pid_of(packet: bytes) -> int:
 
 
 class Wider(Scenario):
-    """A pair that uses the random numbers of `Scenario` first, then its own."""
+    """A random pair that extends a pair of `Scenario` with more faults and options."""
 
     def transmitted_subtitles(self) -> list[Written]:
         """Change the transmitted subtitles less often than `Scenario` does."""
@@ -32,8 +29,6 @@ class Wider(Scenario):
 
     def add_fault(self, sent: Sent) -> Sent:
         return super().add_fault(sent) if self.has_chance(40) else sent
-
-    # The subtitle file.
 
     def write(self, name: str, subtitles: list[Written]) -> None:
         """Write a subtitle file, sometimes with another language or a changed field."""
@@ -47,14 +42,14 @@ class Wider(Scenario):
                 file.write(data)
 
     def change(self, data: bytearray) -> None:
-        """Change one field of the GSI block or of a TTI block, or cut the file."""
+        """Change one field of the GSI block or of a TTI block, or truncate the file."""
         chance = self.chance
         block = GSI + TTI * chance.randrange((len(data) - GSI) // TTI)
         kind = chance.randrange(12)
         if kind < 4:
             data[14:16] = chance.choice(LANGUAGES)
         elif kind == 4:
-            data[238:243] = b"%05d" % chance.randrange(99)  # TNB
+            data[238:243] = b"%05d" % chance.randrange(99)  # the field TNB
         elif kind == 5:
             del data[-chance.choice((1, TTI, TTI + 7)):]
         else:
@@ -63,10 +58,8 @@ class Wider(Scenario):
                 (13, 0), (13, 24), (14, 0), (14, 3), (15, 1), (20, 0x9F), (24, 0xC8), (30, 0x1C)))
             data[block + at] = value
 
-    # The recording.
-
     def make_stream(self, sent: Sent, second: Sent) -> bytes:
-        """Return the recording after up to two more kinds of damage."""
+        """Return the transport stream with up to two more kinds of damage."""
         data = super().make_stream(sent, second)
         size = PACKET if data[:1] == b"\x47" or len(data) % 192 else 192
         packets = [data[at + size - PACKET:at + size] for at in range(0, len(data), size)]
@@ -78,21 +71,21 @@ class Wider(Scenario):
         for _ in range(self.chance.choice((0, 1, 1, 2))):
             packets = self.chance.choice(kinds)(packets) or packets
         data, place = b"".join(packets), self.chance.randrange(len(packets))
-        if self.has_chance(6):  # insert bytes that are no TS packet
+        if self.has_chance(6):  # insert bytes that do not form TS packets
             data = data[:place * PACKET] + b"\0" * self.chance.choice((1, 188, 3000)) \
                 + data[place * PACKET:]
         return with_packet_size(data,
                                 self.chance.choice((192, 204))) if self.has_chance(20) else data
 
     def random_run(self, packets: list[bytes], pid: int | None = None) -> range:
-        """Return the places of a run of packets that begins with a packet of a PID."""
+        """Return the indexes of consecutive packets, beginning with a packet of a PID."""
         pid = self.chance.choice(PIDS) if pid is None else pid
         own = [at for at, one in enumerate(packets) if pid_of(one) == pid] or [0]
         first = self.chance.choice(own)
         return range(first, min(len(packets), first + self.chance.choice((1, 30, 400, 9999))))
 
     def announce_jump(self, packets: list[bytes]) -> list[bytes]:
-        """Insert a packet with a discontinuity_indicator, and delete some packets after it."""
+        """Set discontinuity_indicator in an inserted packet; delete some packets after it."""
         at = self.random_run(packets)[0]
         one = packets[at]
         return [*packets[:at], one[:3] + bytes([0x20 | one[3] & 15, 183, 0x80]) + b"\xff" * 182,
@@ -104,7 +97,7 @@ class Wider(Scenario):
                 else one for at, one in enumerate(packets)]
 
     def flip_bits(self, packets: list[bytes]) -> list[bytes]:
-        """Flip bits, or set a transport_error_indicator."""
+        """Flip random bits, among them the transport_error_indicator, of some packets."""
         found = list(packets)
         for _ in range(self.chance.choice((1, 1, 5, 50))):
             at = self.random_run(found, self.chance.choice((TELETEXT_PID, TELETEXT_PID, None)))[0]
@@ -114,18 +107,18 @@ class Wider(Scenario):
         return found
 
     def delete_pid(self, packets: list[bytes]) -> list[bytes]:
-        """Delete the packets of one PID within a run."""
+        """Delete the packets of a random PID from a random range of the stream."""
         pid, run = self.chance.choice(PIDS), self.random_run(packets)
         return [one for at, one in enumerate(packets) if at not in run or pid_of(one) != pid]
 
     def repeat(self, packets: list[bytes]) -> list[bytes]:
-        """Repeat the packets of one PID within a run."""
+        """Send the packets of a random PID twice in a random range of the stream."""
         pid, run = self.chance.choice(PIDS), self.random_run(packets)
         return [one for at, packet in enumerate(packets)
                 for one in [packet] * (1 + (at in run and pid_of(packet) == pid))]
 
     def move_pid(self, packets: list[bytes]) -> list[bytes]:
-        """Move the page to another PID, with or without a new PMT."""
+        """Move the Teletext to another PID, with or without a new PMT."""
         first, is_told = self.random_run(packets, TELETEXT_PID)[0], self.has_chance(80)
         table = program_map(1, [(VIDEO_PID, MPEG_2, b""),
                                 (SECOND_PID, PRIVATE, teletext_descriptor())], VIDEO_PID)
@@ -141,25 +134,23 @@ class Wider(Scenario):
         return found
 
     def cut(self, packets: list[bytes]) -> list[bytes]:
-        """Cut the beginning or the end."""
+        """Delete the packets before or after a random place."""
         at = self.chance.randrange(len(packets))
         return packets[at:] if self.has_chance(50) else packets[:at]
 
     def clear_flags(self, packets: list[bytes]) -> list[bytes]:
-        """Clear every random_access_indicator of the video."""
+        """Clear the random_access_indicator in all video packets."""
         return [one[:5] + bytes([one[5] & 0xBF]) + one[6:] if pid_of(one) == VIDEO_PID
                 and one[3] & 0x20 and one[4] else one for one in packets]
 
     def swap_runs(self, packets: list[bytes]) -> list[bytes]:
-        """Swap two runs of packets."""
+        """Swap two adjoining runs of packets."""
         run, count = self.random_run(packets), self.chance.choice((1, 5, 40))
         first, middle, last = run[0], run[0] + count, run[0] + 2 * count
         return [*packets[:first], *packets[middle:last], *packets[first:middle], *packets[last:]]
 
-    # The options.
-
     def call(self) -> list[str]:
-        """Return the arguments of the call, with more options."""
+        """Return the arguments for qc, with more options than `Scenario` adds."""
         chance, words = self.chance, super().call()
         first, last = self.times[0][0], self.times[-1][1]
         begin, end = (time_of(chance.randrange(*several)) for several in (
