@@ -1,4 +1,4 @@
-"""A complete page of a verdict shows everything that is known."""
+"""Compare a report page that contains all kinds of details with its expected text."""
 from __future__ import annotations
 
 import itertools
@@ -39,8 +39,8 @@ class CompletePage(Case):
             TICKS * frame, [HEADER, CLOSING]) for frame in (75, 85, 87, 90)))
 
     def verdict(self, kinds: str, is_estimated: bool = False, is_read: bool = True) -> Verdict:
-        """Return a verdict with losses, notes and warnings on parts, the last with an estimated
-        clock."""
+        """Return a verdict on parts, with losses, notes and warnings; `is_estimated` gives the
+        last part an estimated clock."""
         parts = []
         for number, kind in enumerate(kinds, 1):
             given: dict[str, Any] = {

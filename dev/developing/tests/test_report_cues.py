@@ -1,4 +1,4 @@
-"""The cue list, the timeline, refused subtitles, and the box with the verdict."""
+"""Test the cue list, timeline, refused subtitles and verdict box of a report."""
 from __future__ import annotations
 
 from types import SimpleNamespace
@@ -23,12 +23,12 @@ from .test_judging_status import severity_of
 
 
 def page(text: bytes) -> Rows:
-    """Return a page with a text in row 20."""
+    """Return the rows of a page with a text in row 20."""
     return (*BLANK_PAGE[:19], text.ljust(40), *BLANK_PAGE[20:])
 
 
 def timeline_of_pages(*changes: tuple[int, Rows]) -> Timeline:
-    """Return a timeline of pages by their first frames, up to frame 1000."""
+    """Return a timeline of 1000 frames with pages decoded at these frames."""
     decoded = Timeline(Packets(PES), (0, 0x88), 0)
     decoded.first, decoded.last = 0, 1000
     for frame, rows in changes:
@@ -76,8 +76,8 @@ class CueVerdicts(Case):
         programme = ExpectedPages([subtitle], [page(b"one")])
         waived = severity_of("67 warning"), severity_of("72 warning"), severity_of("others warning")
         rows: list[tuple[str | None, list[int], int, list[str]]] = [
-            # cause, other numbers at its time, first trusted frame; severities: 67 a warning, 72 a
-            # warning, all warnings
+            # Cause, numbers of other faults, first clean frame, and the verdicts if fault 67, fault
+            # 72 or all faults are warnings.
             (None, [], 100, ["right", "right", "right"]),
             (None, [], 101, ["not known", "not known", "not known"]),
             (None, [67], 100, ["waived", "wrong", "waived"]),

@@ -1,4 +1,4 @@
-"""Teletext pages as a report draws them."""
+"""Test how a report draws Teletext pages."""
 from __future__ import annotations
 
 import itertools
@@ -17,13 +17,13 @@ SUBTITLE_HEADER, PLAIN_HEADER = bytes([8, 8, 0, 8, 0, 8, 1, 0]), bytes([8, 8, 0,
 
 
 def page(**rows: bytes) -> Rows:
-    """Return a page with some rows, by their numbers."""
+    """Return the rows of a page; a keyword such as `r20` gives the cells of row 20."""
     return tuple(rows.get(f"r{number}", b"").ljust(40) for number in range(1, 25))
 
 
 class Attributes(unittest.TestCase):
     def look(self, row: bytes, number: int = 20, is_boxed_page: bool = True) -> CellStyle:
-        """Return the style of the last cell of a row."""
+        """Return the display style of the last cell in a row."""
         return style_row(row, number, 0, is_boxed_page)[-1]
 
     def test_applies_each_spacing_attribute_until_it_ends(self) -> None:
@@ -128,7 +128,7 @@ class Drawings(unittest.TestCase):
                               (page(r20=b"Abd"), [(20, 0), (20, 2), (22, 0)]),
                               (page(r20=b"abc\xa0", r22=b"\xf8"), [])):
             self.assertEqual(find_differences(one, other), wanted, other)
-        for row, column in itertools.product(range(24), range(40)):  # each cell alone
+        for row, column in itertools.product(range(24), range(40)):
             cells = bytearray(one[row])
             cells[column] ^= 1
             other = (*one[:row], bytes(cells), *one[row + 1:])

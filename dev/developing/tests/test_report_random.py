@@ -1,4 +1,4 @@
-"""Random reports, compared with the output of the program."""
+"""Compare the reports of random pairs with the output of the program."""
 from __future__ import annotations
 
 import os
@@ -22,18 +22,18 @@ from .bench import BENCH, example_bytes
 from .judged import JudgedPair, judge_files_with
 
 
-COUNT, EACH = 240, 8  # reports, and reports for each test
+COUNT, EACH = 240, 8  # number of reports, and number of reports in each test
 TEXTS = [b"Good evening.", b"Here is the news.", b"No! <&>", b"Thank you, Anne."]
 HTML = "{http://www.w3.org/1999/xhtml}"
 FOREIGN = re.compile(r"<script|<link|<img|<iframe|@import|\burl\(|\bsrc=|\bon\w+="
                      r"|https?://(?!www\.w3\.org/1999/xhtml)")
 BYTES = {3: (0, 0xF0, 0xFE, 7), 4: (1, 9), 5: (24,), 8: (25, 0), 9: (0, 23), 10: (60, 1),
          13: (0, 23, 24), 14: (4,), 15: (1, 2), 19: (0x61, 0xC2, 0x8A, 0x0E), 2: (1,),
-         22: (0x81, 0x8A, 0x0D)}  # bytes of a TTI block and wrong values for them
+         22: (0x81, 0x8A, 0x0D)}  # offset in a TTI block: invalid values
 
 
 class RandomPair:
-    """The files and the request of a random report."""
+    """A random pair, with its files and the options with which it is judged."""
 
     def __init__(self, number: int, folder: str) -> None:
         self.chance = chance = random.Random(number)
@@ -49,7 +49,7 @@ class RandomPair:
         self.stl = self.subtitle_file()
 
     def subtitle_file(self) -> bytes:
-        """Return subtitles, some adjoining, with a comment and user data."""
+        """Return a random subtitle file, sometimes with faults."""
         chance, frame, made = self.chance, self.begin, list[bytes]()
         count = chance.choice((60, 300)) if self.is_long else chance.choice((2, 1, 3, 3, 5, 8))
         gaps = (0, 20, 1000) if self.is_long else (0, 0, 5, 40, 120, 700)
@@ -72,20 +72,20 @@ class RandomPair:
         return head + b"".join(made)
 
     def wrong_block(self, block: bytes) -> bytes:
-        """Damage a block sometimes."""
+        """Replace up to two bytes of a TTI block by invalid values."""
         data = bytearray(block)
         for at in self.chance.choices(list(BYTES), k=self.chance.choice((0, 1, 1, 2))):
             data[at] = self.chance.choice(BYTES[at])
         return bytes(data)
 
     def transmission(self) -> bytes:
-        """Return the transmission by `schedule`, with faults."""
+        """Return the PES packets that `schedule` makes, with random faults."""
         words = ["--every", str(self.every), "--origin", str(self.origin), "--option", self.option,
                  "--page", page_name(*self.page)]
         subprocess.run([BENCH.program, "schedule", self.path_of_stl, self.path_of_pes, *words],
                        check=False, stdout=subprocess.DEVNULL)
         with open(self.path_of_pes, "rb") as file:
-            # An empty subtitle file gives no transmission.
+            # `schedule` writes no PES packets for an empty subtitle file.
             pes = split_complete_packets(file.read() or example_bytes("hello.pes"))
         kinds: list[Callable[[list[bytes], int], None]] = [
             self.lose, self.stop_reading, self.move, self.hit, self.swap, self.send_late, self.cut,
@@ -99,17 +99,17 @@ class RandomPair:
         del pes[at:at + self.chance.choice((1, 1, 3))]
 
     def stop_reading(self, pes: list[bytes], at: int) -> None:
-        """Damage some PES packets in a row."""
+        """Damage up to two consecutive PES packets so that they cannot be decoded."""
         byte = self.chance.choice((6, 7, 8, 45, 47, 48))
         for number in range(at, min(at + self.chance.choice((1, 1, 2)), len(pes))):
             pes[number] = pes[number][:byte] + b"\5" + pes[number][byte + 1:]
 
     def move(self, pes: list[bytes], at: int) -> None:
-        """Change the PTS of one PES packet."""
+        """Shift the PTS of one PES packet by up to a frame."""
         self.shift(pes, at, self.chance.choice((-90, 5, 1800, TICKS)), 1)
 
     def send_late(self, pes: list[bytes], at: int) -> None:
-        """Shift some PES packets, or all from one on."""
+        """Shift the PTS of two PES packets, or of all PES packets from one on, by frames."""
         self.shift(pes, at, TICKS * self.chance.choice((-2, 1, 3, 40)),
                    self.chance.choice((2, len(pes))))
 
@@ -119,7 +119,7 @@ class RandomPair:
                               for one in pes[at:at + count]]
 
     def hit(self, pes: list[bytes], at: int) -> None:
-        """Flip one or two bits of an address, a header or a row."""
+        """Flip one or two bits in an address, a header or a row of a PES packet."""
         if pes:
             data = bytearray(pes[at])
             unit = DATA + UNIT * self.chance.randrange(3)
@@ -128,7 +128,7 @@ class RandomPair:
             pes[at] = bytes(data)
 
     def send_elsewhere(self, pes: list[bytes], at: int) -> None:
-        """Replace the first row."""
+        """Replace the first row in a PES packet by another row of the page."""
         if pes:
             sent = make_packet(self.page[0], self.chance.choice((1, 2, 24)), (),
                                b"\x0b\x0bElsewhere".ljust(40))
@@ -139,12 +139,12 @@ class RandomPair:
         pes[at:at + 2] = pes[at:at + 2][::-1]
 
     def cut(self, pes: list[bytes], at: int) -> None:
-        """Truncate the file."""
+        """Truncate the transmission at a PES packet or within it."""
         pes[at:] = [one[:self.chance.choice((20, 100))] for one in pes[at:at + self.chance.choice(
             (0, 1))]]
 
     def words(self) -> list[str]:
-        """Write the files; return the arguments of the call."""
+        """Write the files of the pair, and return the arguments for qc."""
         chance = self.chance
         with open(self.path_of_stl, "wb") as file:
             file.write(self.stl)
@@ -161,7 +161,7 @@ class RandomPair:
 
 
 def run(*words: str) -> list[str]:
-    """Return the output lines of the program."""
+    """Run the program, and return its output lines."""
     return subprocess.run([BENCH.program, *words], stdin=subprocess.DEVNULL, check=False,
                           stdout=subprocess.PIPE, text=True).stdout.splitlines()
 
@@ -171,7 +171,7 @@ def text_of(item: tree.Element) -> str:
 
 
 def report_made(number: int, folder: str) -> tuple[JudgedPair, str]:
-    """Return the judged pair of a seed and its report, or ""."""
+    """Judge the random pair of a seed, and return it with its report ("" if there is none)."""
     out = os.path.join(folder, "out")
     found = judge_files_with(BENCH.program, *RandomPair(number, folder).words(), "-o", out)
     path = os.path.join(out, "one.html")
@@ -182,30 +182,28 @@ def report_made(number: int, folder: str) -> tuple[JudgedPair, str]:
 
 
 class CueRow(NamedTuple):
-    """A row of the cue list."""
+    """A subtitle's row in the cue list of a report."""
 
     position: int
     classes: set[str]
     cells: list[str]
 
     def frame(self, at: int) -> int | None:
-        """Return the frame of a time in the row."""
+        """Return the frame of the time code in a cell, or `None` if it has no time code."""
         return frame_of(self.cells[at])
 
 
 def cue_rows(page: tree.Element) -> list[CueRow]:
-    """Return the rows of the cue list."""
+    """Return the rows in the cue list of a report."""
     return [CueRow(int(row.get("id", "")[1:]), set(row.get("class", "").split()),
                    [text_of(cell) for cell in row])
             for row in page.iter(HTML + "tr") if re.fullmatch(r"s\d+", row.get("id", ""))]
 
 
 class Reports(unittest.TestCase):
-    """Reports that qc makes of pairs at random."""
-
     def check_page(self, page: str) -> None:
-        """Check that a page is well-formed, fetches and runs nothing, has unique anchors, valid
-        links, scopes of headers, and texts for pictures and links."""
+        """Check that a report is well-formed XML without scripts or external resources, and that
+        its anchors are unique, its links valid, and its headers and links accessible."""
         items = list(tree.fromstring(page).iter())
         self.assertIsNone(FOREIGN.search(page))
         names = [item.get("id") for item in items if item.get("id")]
@@ -221,8 +219,8 @@ class Reports(unittest.TestCase):
                 self.assertTrue("".join(item.itertext()).strip())
 
     def check_rows(self, found: JudgedPair, told: list[FaultLine], rows: list[CueRow]) -> None:
-        """Check that each judged subtitle has a row, and that rows are right only without faults at
-        their time."""
+        """Check that each judged subtitle has a row, and that no fault was reported while a
+        subtitle with the verdict `right` was expected."""
         part = found.verdict.parts[0]
         judged = [one.index for one in part.expected_pages().subtitles]
         self.assertLessEqual(set(judged), {row.position for row in rows})
@@ -237,15 +235,15 @@ class Reports(unittest.TestCase):
             self.assertEqual(set[str]().union(*(row.classes for row in rows)), {"ok"})
 
     def check_counts(self, found: JudgedPair, page: tree.Element) -> None:
-        """Check that the table has each number with its count."""
+        """Check that the report's table has each fault number with its count."""
         table = {row.get("id"): text_of(row[1]) for row in page.iter(HTML + "tr")
                  if re.fullmatch(r"n\d+", row.get("id", ""))}
         self.assertEqual(table, {f"n{number}": f"{count:,}" for number, count in
                                  found.verdict.parts[0].check_output.counts_by_number.items()})
 
     def check_times(self, found: JudgedPair, rows: list[CueRow]) -> None:
-        """Check that the expected page is displayed from the actual in-cue up to the out-cue, and
-        another page just outside."""
+        """Check that the expected page is displayed at the actual in-cue, and another page in the
+        frame before it and at the actual out-cue."""
         request = found.verdict.request
         receiver = ["--origin", str(request.origin), "--page", page_name(*request.page)]
         due = request.stl + ".due"
@@ -269,7 +267,7 @@ class Reports(unittest.TestCase):
                 self.assertNotEqual(held(request.recording or "", end, *within), page, row)
 
     def check_report(self, number: int, folder: str) -> None:
-        """Check the report of a seed."""
+        """Judge the random pair of a seed, and check its report."""
         found, page = report_made(number, folder)
         out = os.path.join(folder, "out")
         if not page:
@@ -290,7 +288,7 @@ class Reports(unittest.TestCase):
 
 
 def reports_from(first: int) -> Callable[[Reports], None]:
-    """Return the test of some reports."""
+    """Return a test method for `EACH` reports, beginning with a seed."""
 
     def test(self: Reports) -> None:
         for number in range(first, first + EACH):

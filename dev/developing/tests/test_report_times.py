@@ -1,4 +1,4 @@
-"""The actual times of subtitles in a report, compared with the times of the transmission."""
+"""Compare the reported actual times of subtitles with the times at which they were sent."""
 from __future__ import annotations
 
 import csv
@@ -11,13 +11,13 @@ from .bench import Case
 from .judged import JudgedPair, judge_files
 from .transmissions import schedule_pes, write_subtitle_file
 
-COUNT, SEEDS, EACH = 50, 20, 5  # subtitles, programmes, and programmes for each test
+COUNT, SEEDS, EACH = 50, 20, 5  # subtitles in a programme, programmes, programmes in a test
 ORIGIN = 900_000
 SYLLABLES = ("ba", "ke", "lo", "mi", "nu", "ra", "se", "to", "vi", "wo")
 
 
 class Timed(NamedTuple):
-    """A subtitle of a file: first frame, end frame, text."""
+    """A subtitle with its first frame, end frame and text."""
 
     begin: int
     end: int
@@ -25,7 +25,7 @@ class Timed(NamedTuple):
 
 
 def random_programme(chance: random.Random) -> list[Timed]:
-    """Return subtitles with different texts, some of which adjoin."""
+    """Return random subtitles with different texts, some of them adjoining."""
     subtitles, begin = list[Timed](), 900_050
     for _ in range(COUNT):
         end = begin + chance.randint(40, 90)
@@ -36,7 +36,7 @@ def random_programme(chance: random.Random) -> list[Timed]:
 
 
 def edited(subtitles: list[Timed], chance: random.Random) -> list[Timed]:
-    """Move or misspell a quarter of the subtitles, but not the first and the last."""
+    """Move or misspell a quarter of the subtitles, except the first and last subtitle."""
     changed = [*subtitles]
     for place in chance.sample(range(1, COUNT - 1), COUNT // 4):
         (begin, end, text), before, after = changed[place], changed[place - 1], changed[place + 1]
@@ -51,12 +51,12 @@ def edited(subtitles: list[Timed], chance: random.Random) -> list[Timed]:
 
 class ActualTimes(Case):
     def sent(self, subtitles: list[Timed]) -> list[bytes]:
-        """Return the PES packets of a transmission of some subtitles."""
+        """Return the PES packets in which `schedule` transmits some subtitles."""
         return schedule_pes(self, write_subtitle_file(self, subtitles, "sent.stl"), "--every", "25",
                          "--origin", str(ORIGIN))
 
     def judge(self, packets: list[bytes], expected: list[Timed], *words: str) -> JudgedPair:
-        """Judge PES packets by some subtitles."""
+        """Judge PES packets with a subtitle file that contains the expected subtitles."""
         return judge_files(self, write_subtitle_file(self, expected), self.write(
             "one.pes", b"".join(packets)), "--origin", str(ORIGIN), *words)
 
@@ -99,7 +99,7 @@ class ActualTimes(Case):
 
 
 def programmes_from(first: int) -> Callable[[ActualTimes], None]:
-    """Return the test of some programmes."""
+    """Return a test method for `EACH` programmes, beginning with a seed."""
 
     def test(self: ActualTimes) -> None:
         for seed in range(first, first + EACH):

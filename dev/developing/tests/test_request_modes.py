@@ -1,4 +1,4 @@
-"""The mode of a call, and wrong arguments."""
+"""Test which options each mode of tools/qc accepts, and how tools refuse wrong arguments."""
 from __future__ import annotations
 
 import argparse
@@ -32,12 +32,12 @@ from .bench import Case, Done, example, is_python, import_script, tool_path
 from .parts import default_options
 
 
-# The options of each mode of tools/qc; parser and error messages agree.
+# Each mode of tools/qc accepts its options and refuses all other options.
 
 CALLS: dict[Mode, list[str]] = {
     PAIR: ["a.stl", "a.ts"], ALONE: ["a.stl"], BATCH: ["--batch", "in"], WATCH: ["--watch", "in"],
     COLLECT: ["--collect", "in"], MEASURE: ["--measure", "a.stl", "a.ts"]}
-# A value of each option that has one.
+# A valid value for each option that takes a value.
 VALUES = {"--page": "801", "--every": "25", "--within": "1", "--option": "german", "--origin": "7",
           "--start": "tcp", "--breaks": "1", "--pes": "2-9", "--pid": "0x101", "--severity": "file",
           "-o": "out", "--json": "x", "--csv": "x", "--junit": "x", "-p": "none",
@@ -49,14 +49,14 @@ MODE_OPTIONS = {"--batch", "--watch", "--collect", "--measure", "--help", "-h", 
 
 
 def option_arguments(name: str, folder: str) -> list[str]:
-    """Return an option with its value; write the profile that it needs."""
+    """Return an option with a valid value, as arguments."""
     if name == "--profile":
         return [name, os.path.join(folder, "house")]
     return [name, VALUES[name]] if name in VALUES else [name]
 
 
 def refusal(mode: Mode, name: str, folder: str) -> str | None:
-    """Return the error message about an option in a mode, or `None`."""
+    """Return the error message about an option in a mode, or `None` if the mode accepts it."""
     try:
         if mode is LINE:
             make_line_request(["a.stl", "a.ts", *option_arguments(name, folder)], default_options())
@@ -92,7 +92,7 @@ class Modes(Case):
                 ("--jobs 2 --settled 3", BATCH,
                  "--settled may be given with --watch, not with --batch"),
                 ("--every 25 --breaks 1", COLLECT, "--every may be given with"),
-                # also if the value is the default
+                # Defaults given by the user are refused, too.
                 ("--pes=1-2", ALONE, "--pes may be given with"),
                 ("--breaks 0", ALONE, "--breaks may be given with"),
                 ("--breaks=0", ALONE, "--breaks may be given with"),
@@ -209,7 +209,7 @@ class PartialCommandLines(unittest.TestCase):
                 self.assertRaises(argparse.ArgumentTypeError, taken, word)
 
 
-# Wrong arguments and files: one line on standard error, status 2, nothing written.
+# With wrong arguments, tools print one line on standard error, return 2 and write no file.
 
 STL, PES = example("hello.stl"), example("hello.pes")
 WRONG: dict[str, list[list[str]]] = {
@@ -238,7 +238,7 @@ WRONG: dict[str, list[list[str]]] = {
 
 
 def tool_names() -> list[str]:
-    """Return the names of all tools in tools/ and dev/."""
+    """Return the names of all executable files in tools/ and dev/."""
     listed = {name for folder in ("tools", "dev") for name in os.listdir(os.path.join(TOP, folder))}
     return [name for name in sorted(listed)
             if os.access(tool_path(name), os.X_OK) and os.path.isfile(tool_path(name))]
@@ -246,12 +246,12 @@ def tool_names() -> list[str]:
 
 @functools.lru_cache(None)
 def tool_module(name: str) -> Any:
-    """Import a tool once for this process."""
+    """Import a Python tool as a module, and cache the module."""
     return import_script(name)
 
 
 def call_in_process(name: str, words: Sequence[str]) -> Done:
-    """Call a Python tool in this process."""
+    """Run a Python tool in this process, and return its status and output."""
     module, out, errors = tool_module(name), io.StringIO(), io.StringIO()
     with mock.patch.object(sys, "argv", [tool_path(name), *words]), \
             contextlib.redirect_stdout(out), contextlib.redirect_stderr(errors):

@@ -1,4 +1,4 @@
-"""The table of options, profiles, and the options of a list's lines."""
+"""Test the table of options, profiles, and options in the lines of a list."""
 from __future__ import annotations
 
 import argparse
@@ -27,7 +27,7 @@ from .parts import request_for, call_arguments, default_options
 from .transmissions import write_subtitle_file
 
 
-# Add two options to the table before it is used, and print all that depends on them.
+# Program that adds two options to the table of options, and prints everything derived from them.
 ADDED = """
 import dataclasses, json, sys, developing
 from subtitles.common.shapes import Flag, Maybe, Text
@@ -81,7 +81,7 @@ print(json.dumps({
                  taken("--collect", "x", "--new-one", "5")],
     "line": REQUEST.made(make_line_request([*pair, *given], default_options()))}))
 """
-# An option with its value, and its member of a result.
+# Options, their values, and their values in a JSON result.
 ROWS: list[tuple[str, str, Any]] = [
     ("--page", "8A1", "8A1"), ("--every", "7", 7), ("--option", "german", "german"),
     ("--origin", "0", 0), ("--pid", "0x101", 257), ("--severity", "a file", "a file"),
@@ -201,7 +201,7 @@ class OptionRows(Case):
             self.must(text, remove_markup(text) == wanted, remove_markup(text))
 
 
-# Profiles: their lines, overriding options, and their paths.
+# Profiles: the lines of the file, its path, and options that override it.
 
 STORY, RECORDING = example("story.stl"), example("recording.ts")
 MAY = "--page, --every, --option, --origin, --complete, --no-complete, --pid, --allow-lost, " \
@@ -301,7 +301,7 @@ class ProfileFiles(Case):
 
 class Overrides(Case):
     def request(self, call: str, line: str | None) -> Request:
-        """Return the request of a call, or of a line of its list."""
+        """Return the request made from arguments, or from a line in a list of pairs."""
         words = default_options(*call.split())
         return request_for("a.stl", "a.ts", *call.split()) if line is None else \
             make_line_request(["a.stl", "a.ts", *line.split()], words, self.folder)

@@ -1,4 +1,4 @@
-"""JSON results that are written, read back and collected."""
+"""Test that JSON results are written, read back, validated and collected correctly."""
 from __future__ import annotations
 
 import argparse
@@ -33,15 +33,14 @@ from .results import (
     violations)
 
 
-# The schema follows from the table, all results match it, and any file that is read back is a valid
-# result or an unjudged pair.
+# All results match the schema, and a file that does not match it is read as an unjudged pair.
 
 SEED, CHANGES = 20261128, 900
 STRANGE: list[Any] = [
     None, True, False, -1, 0, 1, 80, 5.5, 1 << 53, 1 << 62, "", "x", "refused 72 X", "\x1b[31m",
     "\ud800", "\udce9", "<script>alert(1)</script>", "=1+1", "99:99:99:99", "x" * 70_000, "\n", [],
     {}, [[]], [{}], {"a": 1}, "accepted", "refused", "not judged", "2026-99-99T99:99:99Z"]
-# File contents, and why each is no result.
+# Contents of invalid result files, and the reported reasons.
 TEXTS = {
     b"[" * 100_000: "it is nested too deeply", b'{"a":' * 100_000: "it is nested too deeply",
     b'{"verdict": ' + b"9" * 5_000 + b"}": "is not a number",
@@ -52,7 +51,7 @@ TEXTS = {
 
 
 def changed(known: Any, chance: random.Random) -> Any:
-    """Replace, delete or add one value of a result."""
+    """Return a copy of a result in which one value is replaced, deleted or added."""
     made = copy.deepcopy(known)
     places = [*places_in(made)]
     holder, key = chance.choice(places)
@@ -71,7 +70,7 @@ def changed(known: Any, chance: random.Random) -> Any:
 
 
 def places_in(value: Any) -> Iterator[tuple[Any, Any]]:
-    """Yield each list or object with each of its places."""
+    """Yield each container within a JSON value with each of its keys or indexes."""
     keys: Sequence[Any] = list(value) if isinstance(value, dict) else \
         range(len(value)) if isinstance(value, list) else ()
     for key in keys:
@@ -101,7 +100,7 @@ class WrittenResults(Case):
         self.must("no more", find_misfit(found) == ".faults[0].new")
 
     def judge(self) -> dict[str, Any]:
-        """Return the result of a recording with four faults."""
+        """Judge a recording with faults, and return its JSON result."""
         stl = self.write("story.stl", example_bytes("story.stl"))
         return judge_files(self, stl, self.write("x.pes", example_bytes("five-faults.pes"))).result
 
@@ -172,13 +171,13 @@ class UntrustedResults(Case):
         self.must("some of each", CHANGES // 20 < fitting < CHANGES // 2, fitting)
 
     def known(self) -> dict[str, Any]:
-        """Return a result with all kinds of values."""
+        """Judge a recording with faults, and return a result with values of all types."""
         stl = self.write("story.stl", example_bytes("story.stl"))
         ts = self.write("x.pes", example_bytes("five-faults.pes"))
         return judge_files(self, stl, ts, "--every", "25").result
 
     def words(self, **more: Any) -> argparse.Namespace:
-        """Return the arguments of a call on a folder of results."""
+        """Return the parsed arguments for a folder of results."""
         for name in ("in", "out"):
             os.makedirs(self.path(name), exist_ok=True)
         words = argparse.Namespace(**vars(default_options()))
@@ -189,7 +188,7 @@ class UntrustedResults(Case):
         return words
 
     def all_read(self) -> list[dict[str, Any]]:
-        """Return the messages of each mode that reads results, and the names of all pairs."""
+        """Collect the results in a folder, and return the pairs of the JSON output."""
         words, typed = self.words(), CommandPaths("tools/qc", self.bench.program)
         with contextlib.redirect_stdout(io.StringIO()), contextlib.redirect_stderr(io.StringIO()):
             status = collection.collect(words)
@@ -272,7 +271,7 @@ class CollectedResults(Case):
         self.must("one", list(collection.format_summary(self.ROWS[:1]))[-1] == "1 pair: 1 accepted")
 
     def end(self, **outputs: str) -> tuple[int, str, str]:
-        """Return status, output and error output for all rows."""
+        """Collect all rows, and return the exit status, the output and the error output."""
         words = argparse.Namespace(csv=None, junit=None, json=None)
         vars(words).update(outputs)
         paths = [self.path(f"{one.name}.json") for one in self.ROWS]
@@ -308,7 +307,7 @@ class CollectedResults(Case):
 
     def test_ignores_a_closed_output(self) -> None:
         class Gone(io.StringIO):
-            """A pipe without a reader."""
+            """An output stream whose reader has gone."""
 
             def write(self, text: str) -> int:
                 raise BrokenPipeError

@@ -1,7 +1,4 @@
-"""How far apart PES packets come:
-
-the estimated pace, and losses of all lengths in regular and irregular streams.
-"""
+"""Test the estimated interval between PES packets (the pace), and the losses found with it."""
 from __future__ import annotations
 
 import collections
@@ -20,13 +17,13 @@ from .judged import JudgedPair, ProgrammeCase, judge_files
 from .streams import Packet, Shape, TELETEXT_PID, make_multiplex, stream_bytes, delete_between
 from .transmissions import Sent, write_pipe, write_programme, schedule_pages
 
-BEGIN = 900_000  # the first frame
-LONG = range(5000)  # frames; five may be exceptions
-FOUR = range(400)  # three may be exceptions
+BEGIN = 900_000  # frame number of the first TCI
+LONG = range(5000)  # frames; up to five losses among them are exceptions
+FOUR = range(400)  # frames; up to three losses among them are exceptions
 
 
 class Row(NamedTuple):
-    """Frames of PES packets, the kind of their pace, and its value if there is one."""
+    """A test case: the frames of PES packets, and the kind and value of the expected pace."""
 
     name: str
     rows: Sequence[Sequence[int]]
@@ -40,23 +37,23 @@ class Row(NamedTuple):
 
 
 def holed(frames: Sequence[int], *holes: tuple[int, int]) -> list[int]:
-    """Delete some frames after given ones."""
+    """Return the frames without `count` frames after each frame of `holes`."""
     missing = {frame for first, count in holes for frame in range(first + 1, first + 1 + count)}
     return [frame for frame in frames if frame not in missing]
 
 
 def without_frames(count: int) -> list[int]:
-    """Return two PES packets in each of 400 frames, without some in a row."""
+    """Return the frames of two PES packets a frame, except `count` consecutive empty frames."""
     return [at // 2 for at in range(800) if not 200 <= at // 2 < 200 + count]
 
 
 def silent_twice(steps: int) -> list[int]:
-    """Return consecutive frames with two silences, and some PES packets between them."""
+    """Return consecutive frames with two pauses that are `steps` PES packets apart."""
     return holed(range(800 + steps), (299, 100), (399 + steps, 100))
 
 
 def repeated(steps: Sequence[int], times: int) -> list[int]:
-    """Return frames with repeated steps."""
+    """Return frames whose distances repeat these steps."""
     found = [0]
     for step in [*steps] * times:
         found.append(found[-1] + step)
@@ -65,16 +62,13 @@ def repeated(steps: Sequence[int], times: int) -> list[int]:
 
 def regular(name: str, *rows: Sequence[int], frames: int = 2, each: int = 1, every: int = 250,
             pauses: Pauses = (), closer: int = 0) -> Row:
-    """Return a row of a regular stream:
-
-    if two PES packets are lost, the third comes a frame later.
-    """
+    """Return a test case with a regular stream."""
     return Row(name, rows, REGULAR, frames, each, every, pauses, closer)
 
 
 def of_pes(name: str, *rows: Sequence[int], frames: int = 1, every: int = 250, pauses: Pauses = (),
            closer: int = 0) -> Row:
-    """Return a row of a regular file: the PES packet after a missing one comes later."""
+    """Return a test case with a regular file of PES packets."""
     return Row(name, rows, REGULAR, frames, 1, every, pauses, closer, False)
 
 
@@ -87,9 +81,9 @@ TABLE = [
     Row("few, over the bound", [range(0, 990, 10)], BY_EVERY, every=29),
     Row("few, one far", [[0, 1, 2, 3, 999]], TOO_FEW),
     Row("three", [[0, 300, 600]], TOO_FEW), Row("four", [[0, 100, 200, 300]], BY_EVERY),
-    # At least two PES packets are lost, whatever their size.
+    # Streams with PES packets of one to nine TS packets.
     *(regular(f"{each} TS packets", FOUR, each=each) for each in range(1, 10)),
-    # By the interval.
+    # Streams with longer intervals, up to and over the limit.
     regular("each fifth frame", repeated([5], 200), frames=14),
     regular("once a second", repeated([25], 200), frames=74, each=2),
     regular("up to the bound", repeated([25], 200), frames=74, every=75),
@@ -97,7 +91,7 @@ TABLE = [
     regular("over the bound nearly everywhere", repeated([*[25] * 300, 1, 1, 1], 1), frames=74,
             every=74, closer=3),
     regular("four in three frames", repeated([1, 1, 0, 1], 100), frames=1),
-    # Three in one or two frames: a frame more than usual.
+    # Streams with two or more PES packets in some frames.
     regular("two in a frame", repeated([0, 1], 200), closer=398),
     regular("three in two frames", repeated([0, 1, 1, 0, 1], 200), closer=998),
     regular("all in one frame", [5] * 400, closer=397),
@@ -106,7 +100,7 @@ TABLE = [
     regular("one frame of 200 without", repeated([*[0, 1] * 198, 0, 2], 5), closer=1979),
     regular("one frame of 10 without", repeated([*[0, 1] * 8, 0, 2], 50), frames=3, closer=898),
     Row("one frame of 40 without", [repeated([*[0, 1] * 38, 0, 2], 25)], IRREGULAR),
-    # Jitter of a frame, changes between repeats, bursts at changes.
+    # Streams with jitter, with changes between repetitions, or with bursts.
     regular("jitter", repeated([1, 1, 2, 1, 1], 100)),
     regular("more jitter", repeated([1, 1, 2, 0, 1], 100), frames=3, closer=398),
     regular("a frame of three", repeated([1, 1, 3, 1, 0], 100), frames=4, each=9, closer=298),
@@ -114,12 +108,12 @@ TABLE = [
     Row("bursts", [repeated([1] * 20 + [100], 50)], IRREGULAR),
     regular("bursts of two TS packets", repeated([1] * 10 + [60], 50), frames=61, each=2,
             closer=400),
-    # As close as any three, or as all but a few if that is too close.
+    # Streams with few bursts, which are treated as exceptions.
     regular("few bursts", repeated([*[25] * 300, 1, 1, 1], 1), frames=74, each=2, closer=3),
     regular("one burst of two", repeated([*[25] * 300, 1, 1, *[25] * 100], 1), frames=26),
     regular("one of five", repeated([*[25] * 100, *[1] * 5, *[25] * 100], 1), frames=26, closer=3),
     regular("one of six", repeated([*[25] * 100, *[1] * 6, *[25] * 100], 1), frames=26, closer=4),
-    # Few losses: first, middle, last; long ones; the maximum.
+    # Streams with few losses at different places, up to the allowed number.
     *(regular(f"a hole of {count} behind {first}", holed(LONG, (first, count)))
       for first in (0, 2500, 4700) for count in (1, 15, 16, 17, 32, 160, 249)),
     regular("a hole just before the end", holed(LONG, (4990, 5))),
@@ -128,7 +122,7 @@ TABLE = [
     regular("five of 6000", holed(range(6000), *((1000 * at, 20) for at in range(5)))),
     Row("six of 6000", [holed(range(6000), *((900 * at, 20) for at in range(6)))], IRREGULAR),
     regular("as many as a pace allows", holed(FOUR, *((9 * at, 1) for at in range(40)))),
-    # Pauses of the programme, without any PES packet.
+    # Pauses of the programme in which no PES packet is sent.
     *(Row(f"a pause to {end}", [holed(LONG, (999, 100))], PAUSED, pauses=[(999, end)])
       for end in (1095, 1100, 1105)),
     *(regular(f"no pause to {end}", holed(LONG, (999, 100)), pauses=[(999, end)])
@@ -140,7 +134,7 @@ TABLE = [
     regular("before its end", holed(LONG, (999, 100)), pauses=[(0, 500), (1000, None)]),
     Row("before the first", [holed(LONG, (999, 100))], PAUSED, pauses=[(None, 1095), (1500, 1600)]),
     Row("long before it", [holed(LONG, (999, 100))], PAUSED, pauses=[(None, 3000)]),
-    # Another page of the PID ends, and the rest is rare.
+    # Streams that are regular only up to or from some frame, and streams with two losses.
     *(Row(f"seldom at {at}", [[*range(at), *range(at, at + 500, 100), *range(at + 400, 5000)]],
           PAUSED) for at in (1, 2500, 4599)),
     Row("three by three", [[*range(2500), *(2600 + 100 * at + one for at in range(3)
@@ -150,7 +144,7 @@ TABLE = [
     *(Row(f"two, {steps - less} steps of {each} TS packets between", [silent_twice(steps - less)],
           PAUSED if less else REGULAR, None if less else 2, each)
       for each, steps in enumerate((17, 9, 6, 5, 4, 3, 3, 3, 3), 1) for less in (0, 1)),
-    # Most of them.
+    # Streams without PES packets in most pauses of the programme, or only in some of them.
     regular("in one pause of two that are as long", holed(LONG, (999, 100)),
             pauses=[(999, 1100), (2999, 3100)]),
     Row("in both", [holed(LONG, (999, 100), (2999, 100))], PAUSED,
@@ -163,7 +157,7 @@ TABLE = [
     regular("one of two", holed(LONG, (999, 100), (2999, 100)), pauses=[(999, 1100)]),
     Row("two of three", [holed(LONG, (999, 100), (1999, 100), (2999, 100))], PAUSED,
         pauses=[(999, 1100), (2999, 3100)]),
-    # Pauses that a longer limit allows.
+    # Pauses with a longer limit on the interval.
     regular("300 frames by the usual bound", holed(LONG, (999, 299))),
     *(Row(f"{count + 1} frames of {every}", [holed(LONG, (999, count))], PAUSED, every=every)
       for count, every in ((299, 300), (250, 1500), (1499, 1500), (1999, 9000))),
@@ -280,24 +274,24 @@ class PaceDecisions(Case):
                   [(None, 5), (9, 20), (30, None)])
 
 
-# A programme of one minute: a PES packet in each frame, or for a second from each cue on.
+# First and end frames of the subtitles in a programme of one minute.
 TIMES = [(BEGIN + 250 * at, BEGIN + 250 * at + 200) for at in range(6)]
 
 
 def filled(sent: Sent) -> Sent:
-    """Insert a PES packet without Teletext into each other frame."""
+    """Insert a PES packet without Teletext into each frame that has no PES packet."""
     known = dict(sent)
     return [(pts, known.get(pts, [])) for pts in range(sent[0][0], sent[-1][0] + 1, TICKS)]
 
 
 def in_bursts(sent: Sent, times: Sequence[tuple[int, int]]) -> Sent:
-    """Insert PES packets for a second from each cue on."""
+    """Keep only the PES packets in the second after each cue."""
     return [(pts, some) for pts, some in sent if any(
         edge * TICKS <= pts < (edge + 25) * TICKS for both in times for edge in both)]
 
 
 def without_pid(made: list[Packet], first: int, count: int) -> list[Packet]:
-    """Delete some TS packets of the PID from one on."""
+    """Delete `count` TS packets of the Teletext PID, beginning with its packet `first`."""
     own = [at for at, one in enumerate(made) if one.pid == TELETEXT_PID][first:first + count]
     missing = {*own}
     return [one for at, one in enumerate(made) if at not in missing]
@@ -320,7 +314,7 @@ class Losses(ProgrammeCase):
                                                          every=1), times))
 
     def check_faults(self, name: str, told: JudgedPair, word: str, *lines: str) -> None:
-        """Check the verdict and the faults."""
+        """Check the verdict and the reported faults of a judged pair."""
         faults = [line for line in told.listed if line.startswith("refused")]
         self.must(name, told.word == word and faults == [f"refused {line}" for line in lines],
                   (told.word, told.listed, told.told))

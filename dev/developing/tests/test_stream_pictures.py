@@ -1,4 +1,4 @@
-"""Pictures that depart from the Teletext, and announced jumps."""
+"""Test the search for video timestamps that jump against the Teletext (departures)."""
 from __future__ import annotations
 
 import itertools
@@ -21,17 +21,17 @@ from .streams import Programme, TELETEXT_PID, multiplex_programmes
 from .transmissions import write_programme, schedule_pes, subtitle_times
 
 
-# Departures by the lines of `survey`, in tables.
+# Test tables of departures with `lead` lines of `survey`.
 
 PID, VIDEO = 0x101, 0x200
-SECOND = 25  # frames
+SECOND = 25  # frames in a second
 
 
 def leads_of(leads: Sequence[float], steps: Mapping[int, float] = {}, first: int = 0,
              each: int = SECOND) -> list[VideoLead]:
-    """Return lines at regular intervals with these leads in frames.
+    """Return `lead` lines at regular intervals with these leads in frames.
 
-    `steps` has the lines at which decoding times jump by some frames.
+    `steps` maps the index of a line to the frames by which decoding times jump there.
     """
     found, missing = list[VideoLead](), 0.0
     for at, ahead in enumerate(leads):
@@ -44,7 +44,7 @@ def leads_of(leads: Sequence[float], steps: Mapping[int, float] = {}, first: int
 
 class PictureDepartures(Case):
     def ticks_of(self, leads: Sequence[VideoLead]) -> list[int | None] | None:
-        """Return the ticks of each departure, or `None` if no step is usual."""
+        """Return the ticks of each departure, or `None` if intervals are irregular."""
         departures = locate_departures(leads)
         return None if departures is None else [one.ticks for one in departures]
 
@@ -104,18 +104,18 @@ class PictureDepartures(Case):
         chance = random.Random(1)
         steps = {at: float(chance.randrange(-9, 9)) for at in range(40)}
         self.check("at random", locate_departures(leads_of([6.0] * 40, steps)), None)
-        for each in (1, 12.5, 50):  # pictures a second; most lines have the usual step
+        for each in (1, 12.5, 50):  # pictures per second
             steady = [lead._replace(number=round(each * at))
                       for at, lead in enumerate(leads_of([6.0] * 40))]
             self.check(f"{each} a second", locate_departures(steady), [])
 
 
-# Judged departures: what is early or late for viewers.
+# Test which departures are reported as faults or notes.
 
 def lines_of(steps: Sequence[tuple[float, int]], origin: int = 0, video: int = VIDEO,
              jitter: int = 0) -> list[str]:
-    """Return the lines of a recording from frame 500 to 2500 whose pictures step by some frames;
-    `jitter` shortens every second lead."""
+    """Return the `lead` lines of frames 500 to 2500, with pictures that jump by `steps`; `jitter`
+    shortens every second lead."""
     found = []
     for frame in range(500, 2500, SECOND):
         away = sum(by for by, at in steps if at <= frame)
@@ -125,8 +125,8 @@ def lines_of(steps: Sequence[tuple[float, int]], origin: int = 0, video: int = V
 
 
 def survey_with(lines: Sequence[str] = ()) -> Survey:
-    """Return a survey with a PMT whose second video departs, others that stay, and another
-    programme that departs."""
+    """Return a survey of two programmes: the first with the video of these lines and a second,
+    steady video, the other with a video that jumps."""
     quiet, others = 0x300, 0x302
     survey = Survey()
     for line in [f"programme 1 {VIDEO}", f"stream {PID} 6", f"programme 2 {others}",
@@ -141,7 +141,7 @@ class DepartureFaults(Case):
     def faults_and_notes(self, steps: Sequence[tuple[float, int]], within: int = 0,
                          source: str = GIVEN,
               origin: int = 0) -> tuple[list[tuple[str | None, str | None, str]], list[str]]:
-        """Return times and direction of each fault, and the notes."""
+        """Return begin, end and direction of each fault, and all notes."""
         faults, notes = find_desync(survey_with(lines_of(steps, origin)), PID, TimedPart(
             1000, 2000, Clock(origin, source)), within, 1)
         self.check("kinds", {(one.name, one.part) for one in faults} - {(PICTURES_LEFT, 1)}, set())
@@ -218,7 +218,7 @@ class Pairs(Case):
             line = f" on subtitles are {way} for viewers: the video's timestamps jump"
             self.must(f"{frames} {words}", found.word == word and (not way or any(
                 line in one for one in found.said)), found.said)
-            several = [time_of(begin + 1500 + frame) for frame in range(-25, 26)]  # to a second
+            several = [time_of(begin + 1500 + frame) for frame in range(-25, 26)]  # within a second
             self.must(f"{frames} {words}: line", word == "accepted" or found.result["line"] in [
                 f"refused pictures left frame {time}" for time in several], found.result["line"])
 

@@ -1,4 +1,4 @@
-"""Losses in transport streams, options of --pace, and reading lists of specifications."""
+"""Test losses in transport streams, the option --pace, and reading lists of specifications."""
 from __future__ import annotations
 
 import argparse
@@ -33,10 +33,10 @@ from .parts import request_for, call_arguments
 from .transmissions import write_programme, schedule_pes
 
 
-# Losses, and how late PTS are.
+# The places of losses, and the lateness of PTS.
 
-Jump = Tuple[int, int]  # the PTS around a jump
-Around = Tuple[Optional[int], Optional[int]]  # the PTS around a loss
+Jump = Tuple[int, int]  # PTS before and after a clock jump
+Around = Tuple[Optional[int], Optional[int]]  # PTS before and after a loss
 
 
 class LossPlaces(Case):
@@ -115,15 +115,15 @@ class LatePts(Case):
                     (first + ahead) % CLOCK, 90_000 - late))
 
 
-# Losses that the counters of the PID don't show, and clock jumps.
+# Losses that the continuity counters of the PID do not show, and clock jumps.
 
-BEGIN, COUNT = 900_000, 8  # the first frame, and the number of subtitles
+BEGIN, COUNT = 900_000, 8  # first frame, and number of subtitles
 PAGE = 0, 0x88
 
 
 class StreamLosses(Case):
     def programme(self, every: int = 1) -> list[bytes]:
-        """Return PES packets of a programme of eight seconds."""
+        """Return the PES packets of a programme that lasts eight seconds."""
         stl = write_programme(self, [(begin, begin + 20) for begin in range(
             BEGIN, BEGIN + 25 * COUNT, 25)], text=box_line(b"Number %d"), name="story.stl")
         return schedule_pes(self, stl, "--every", str(every))
@@ -202,7 +202,7 @@ class StreamLosses(Case):
                           reported)
 
 
-# The value of --pace in a call, in a list, and in a result that is resumed.
+# The value of --pace in arguments, lists and earlier results.
 
 
 class PaceOptions(Case):
@@ -252,7 +252,7 @@ class PaceOptions(Case):
             self.must(f"{one.pace}: of an earlier tool", not is_current(known, one, program))
 
 
-# tools/reading-list: what a definition or clause depends on, in a repository of two crates.
+# Run tools/reading-list in a repository with two crates.
 
 FILES = {
     "crates.txt": "# name: what it stands on\nlow:\nhigh: low\n",

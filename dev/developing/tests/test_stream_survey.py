@@ -607,7 +607,7 @@ class PesLines(Case):
             for name, more, skipped in (
                     ("alone", made, 0), ("before", bytes(1000) + made, 1000),
                     ("in it", made[:size * 1000] + bytes(100) + made[size * 1000:], 100),
-                    ("behind", made + made[:100], 96 if size == 192 else 100)):  # a time stamp has 4 bytes
+                    ("behind", made + made[:100], 96 if size == 192 else 100)):  # less a time stamp
                 lines = lines_of_kinds(self, more, "pes", "end", "over")
                 self.must(f"{size} {name}", lines == [
                     f"pes {TELETEXT_PID} {run}", f"end {TELETEXT_PID} 1500 0 1500 0 0 0 {last}",

@@ -191,7 +191,7 @@ class ClockTables(unittest.TestCase):
                 ([(0, 0), (0, -five), (0, -2 * five)], [9, 18, 27]),
                 ([(0, 0), (0, -75), (0, -150)], [27]),  # two delays by three seconds
                 ([(0, 0), (0, -75), (0, -75 - five)], [18, 27]),
-                ([(0, 0), (0, 75), (0, 75 - five)], [27]),  # three seconds early, then two seconds late
+                ([(0, 0), (0, 75), (0, 75 - five)], [27]),  # early, then late
                 ([(0, 0), (0, -five), (0, -1 - five)], [9, 27]),
                 ([(0, 0), (0, 5), (0, 0)], [27]), ([(0, 0), (0, 5), (0, -five)], [18, 27])):
             row: Any = [Stretch(SimpleNamespace(base=base, start=start),  # type: ignore[arg-type]

@@ -17,7 +17,7 @@ from subtitles.common.times import CLOCK, TICKS
 from subtitles.formats.stl import NEW_LINE
 from .bench import Case
 
-Sent = list[tuple[int, list[bytes]]]  # unwrapped PTS, and the Teletext packets with this PTS
+Sent = list[tuple[int, list[bytes]]]  # unwrapped PTS, and the packets with this PTS
 Change = Callable[[Sent], Sent]
 Shown = tuple[int, int, bytes]  # first frame, end frame and text of a subtitle on screen
 PAGE = (0, 0x88)
