@@ -1,13 +1,13 @@
-"""Programmes of a feed that never ends, judged by their times of air.
+"""Record a feed that never ends, and judge its programmes by their times of air.
 
-segments    the segments in a folder, and stretches of them in which nothing is missing
-recorder    appends segments, and deletes the oldest
+segments    the segments in a folder, and continuous parts of the feed
+recorder    appending segments, and deleting the oldest
 schedule    when each programme is on air, and how it is judged
-check       judges a programme from a stretch of the feed, in a process of its own
-decision    which result a programme gets
-state       the state, for monitoring
-judge       works on the schedule, the segments and the results
+check       judging a programme from a continuous part of the feed, in a forked process
+decision    choosing the result of a programme
+state       the state for monitoring
+judge       judging the programmes of a schedule
 main        the command line of tools/air
 
-Recorder and judge keep no other state: a result in the folder of results marks what is done.
+Recorder and judge keep no other state: a JSON result in the output folder ends a programme's tries.
 """

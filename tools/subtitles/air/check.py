@@ -1,5 +1,5 @@
-"""Judges a programme from a stretch of the feed, as `qc STL RECORDING` does, in a process of its
-own: one that fails, is killed or hangs costs nothing but another try."""
+"""Judge a programme from a continuous part of the feed, as `qc STL RECORDING` does. A forked
+process judges it, so that a crash or a hang only costs another try."""
 from __future__ import annotations
 
 import contextlib
@@ -25,22 +25,22 @@ from ..stream.survey import survey
 from .schedule import RECORDING
 from .segments import Unbroken
 
-LEAST_SECONDS, BYTES_PER_SECOND = 60.0, 2_000_000  # for judging; one more for each so many bytes
-WORK = ".work-"  # begins the name of the folder in which a programme is judged
-HEAD = "head.ts"  # in it: the recording up to a time
-SPARE = 1 << 20  # bytes of the disk that are left to others
-QUIET = 1.0  # seconds within which a PMT comes, so that PES packets are seen
+LEAST_SECONDS, BYTES_PER_SECOND = 60.0, 2_000_000  # time limit: 60 s, plus 1 s for each 2 MB
+WORK = ".work-"  # prefix of the temporary folder in which a programme is judged
+HEAD = "head.ts"  # file in the temporary folder: the beginning of the recording
+SPARE = 1 << 20  # bytes of disk space to leave free
+QUIET = 1.0  # maximum seconds until a PMT comes, without which PES packets are not found
 PTS_SECOND = FRAMES_A_SECOND * TICKS
-CORRECT = {ACCEPTED, WAIVED, RELATIVE}  # the verdicts that find no error
-# Exit statuses of the process that judges, beside 0 to 3 of qc: the machine failed; something is
-# refused, and the programme had not ended where the stretch ends.
+CORRECT = {ACCEPTED, WAIVED, RELATIVE}  # verdicts without errors
+# Exit statuses of the judging process, in addition to 0 to 3 of qc: a system error occurred; the
+# pair is refused, but the recorded part ends before the programme.
 FAILED, UNFINISHED = 101, 102
 
 
 class Outcome(NamedTuple):
-    """What came of judging a programme once: its JSON result, or `None` if the machine failed, so
-    that it has to be tried again; the reason, or the line of `check`. `is_finished` is false if a
-    refusal may only mean that the programme goes on after the stretch."""
+    """The outcome of one try to judge a programme. `result` is its JSON result, or `None` after a
+    system error; `reason` is the reason, or the line of `check`. `is_finished` is false if a
+    refusal may only mean that the programme continues after the recorded part."""
 
     result: dict[str, Any] | None
     reason: str
@@ -61,8 +61,8 @@ class Outcome(NamedTuple):
 
 
 class BeginCheck(NamedTuple):
-    """Checks when a programme began: within `margin` seconds of its time of air. `first` is when
-    the recording begins; `packets_by` returns how many PES packets of a PID had come by a time."""
+    """A check that a programme began within `margin` seconds of its time of air. The recording
+    begins at `first`; `packets_by` counts the PES packets of each PID up to a time."""
 
     air_time: float
     margin: float
@@ -70,8 +70,8 @@ class BeginCheck(NamedTuple):
     packets_by: Callable[[float], Mapping[int, int]]
 
     def examine(self, verdict: Verdict) -> None:
-        """Note in a verdict that the programme began in time. `Unclear` if it did not, or if
-        something is refused and the beginning may be missing."""
+        """Add a note to the verdict if the programme began in time. Raise `Unclear` if it did not,
+        or if the pair is refused and the beginning may be missing."""
         if not verdict.parts or verdict.word == NOT_JUDGED:
             return
         part, words = verdict.parts[0], f"{self.margin:g} s of {single.now(self.air_time)}"
@@ -90,7 +90,7 @@ class BeginCheck(NamedTuple):
 
 
 def begin_number(part: Part) -> int:
-    """Return the number of the PES packet with which the first subtitle is due."""
+    """Return the number of the PES packet at which the first subtitle is expected."""
     _, alignment = part.judged_recording
     begin, (first, _) = pts_of(alignment.begin, alignment.origin), part.pes or (0, 0)
     earlier = itertools.takewhile(lambda pts: ticks_between(begin, pts) < 0, part.list_pts())
@@ -98,7 +98,7 @@ def begin_number(part: Part) -> int:
 
 
 def seconds_before_first(part: Part) -> float:
-    """Return how long the first subtitle was due before the page's first PES packet, or below 0."""
+    """Return the seconds from the first TCI to the page's first PES packet."""
     recording, alignment = part.judged_recording
     begin = pts_of(alignment.begin, alignment.origin)
     first = next(recording.packets.pts(alignment.packets), begin)
@@ -106,18 +106,18 @@ def seconds_before_first(part: Part) -> float:
 
 
 def exit_status(verdict: Verdict) -> int:
-    """Return the exit status of the process that has judged."""
+    """Return the exit status of the judging process for a verdict."""
     if not verdict.is_final:
         return FAILED
-    part = verdict.parts[-1] if verdict.parts else None  # it has ended if a PES packet comes later
+    part = verdict.parts[-1] if verdict.parts else None  # finished if PES packets follow
     is_finished = part and (part.pes is None or part.packets.count > part.pes[1] + 1)
     return UNFINISHED if verdict.status == 1 and not is_finished else verdict.status
 
 
 @dataclasses.dataclass
 class Checker:
-    """Judges into a folder `work`, which it makes in `place` for each try, so that a process left
-    by an earlier call finds its own folder gone. Reports name the folder `out`."""
+    """Judges programmes in a folder `work`, which is created in `place` for each try, so that a
+    process left by an earlier run finds its folder deleted. Reports name the folder `out`."""
 
     program: str | None
     program_name: str
@@ -128,13 +128,13 @@ class Checker:
     work: str = ""
 
     def clear(self) -> None:
-        """Delete what the last try, or an earlier call, has left."""
+        """Delete the temporary folders of earlier tries."""
         for name in os.listdir(self.place):
             if name.startswith(WORK):
                 shutil.rmtree(os.path.join(self.place, name), ignore_errors=True)
 
     def check(self, request: Request, name: str, air_time: float, stretch: Unbroken) -> Outcome:
-        """Judge a programme of a time of air from a stretch."""
+        """Judge the programme on air at `air_time` from a continuous part of the feed."""
         self.clear()
         self.work = make_temporary_name(self.place, WORK)
         first = max(stretch.begin, air_time - self.margin)
@@ -160,7 +160,7 @@ class Checker:
         return Outcome(result, result["reason"] or result["worst_fault"], status != UNFINISHED)
 
     def judge(self, request: Request, name: str, air_time: float, stretch: Unbroken) -> int:
-        """Judge a programme in this process; return its exit status."""
+        """Judge a programme in the current process and return the exit status."""
         recording, first = os.path.join(self.work, RECORDING), air_time - self.margin
 
         def packets_by(time: float) -> Mapping[int, int]:
@@ -179,14 +179,14 @@ class Checker:
                 file.writelines(stretch.read(first, math.inf))
             request = dataclasses.replace(request, recording=recording)
             return exit_status(single.judge_and_report(request, call, self.program_name))
-        except (OSError, MemoryError) as reason:  # as if a segment was deleted just now
+        except (OSError, MemoryError) as reason:  # for example if a segment was deleted
             print_stderr(format_error(reason))
             return FAILED
 
 
 def run_forked(function: Callable[[], int], longest: float) -> tuple[int, list[str]]:
-    """Run a function in a process of its own; return its exit status and its lines on standard
-    error. `Stop` if it takes longer than so many seconds. Nothing of it goes on afterwards."""
+    """Run a function in a forked process; return its exit status and its lines on standard error.
+    Raise `Stop` after `longest` seconds. The process is killed on any exception."""
     with hold_signals():
         process = ForkedProcess(function)
     try:

@@ -1,5 +1,5 @@
-"""Decides which result a programme gets from what is recorded and what came of judging it: pure
-functions, of times in seconds since the epoch."""
+"""Decide which result a programme gets, from the recorded segments and the outcomes of judging. All
+times are in seconds since the epoch."""
 from __future__ import annotations
 
 from typing import NamedTuple, Sequence
@@ -9,20 +9,20 @@ from ..results.files import make_unjudged
 from .check import Outcome
 from .segments import Unbroken
 
-SOON = 10.0  # seconds after its end, and its window, at which it is tried: the recorder may lag
-SLACK = 1.0  # seconds by which a stretch may seem shorter than the programme in it
-MAX_GAPS = 3  # that a result names
+SOON = 10.0  # seconds to wait after the end of a programme, since the recorder may lag
+SLACK = 1.0  # seconds by which a recording may seem shorter than the programme in it
+MAX_GAPS = 3  # maximum number of gaps listed in a result
 
 
 class Window(NamedTuple):
-    """When a programme should be on air, and from when to when it is looked for: by the margin
-    earlier and later. `length` is that of its subtitle file."""
+    """The scheduled begin and end of a programme, which is searched for up to `margin` seconds
+    earlier and later. `length` is the duration of its subtitle file in seconds."""
 
     begin: float
     end: float
     length: float
     margin: float
-    more: float = 0.0  # seconds for a programme that has begun in time and not ended yet
+    more: float = 0.0  # extra seconds for a programme that began in time but has not ended yet
 
     @property
     def first(self) -> float:
@@ -33,13 +33,13 @@ class Window(NamedTuple):
         return self.end + self.margin + self.more
 
     def may_hold(self, stretch: Unbroken) -> bool:
-        """Return whether the programme fits into a stretch, and can begin there in time."""
+        """Return whether a recorded part is long enough and begins early enough."""
         has_room = stretch.end - stretch.begin >= self.length - SLACK
         return has_room and stretch.begin < self.begin + self.margin
 
 
 def gaps_in(window: Window, stretches: Sequence[Unbroken], longest_pause: float) -> list[str]:
-    """Return from when to when parts of a window were not recorded, or have been deleted."""
+    """Describe the periods of a window that were not recorded, or were deleted later."""
     ends = [window.first, *(stretch.end for stretch in stretches)]
     begins = [*(stretch.begin for stretch in stretches), window.last]
     return [f"{date(end)} to {date(begin)}" for number, (end, begin) in enumerate(zip(ends, begins))
@@ -48,13 +48,13 @@ def gaps_in(window: Window, stretches: Sequence[Unbroken], longest_pause: float)
 
 def decide(name: str, outcomes: Sequence[Outcome], gaps: Sequence[str], has_passed: bool,
            failure: str = "") -> Outcome | None:
-    """Return the outcome that a programme keeps, by the outcomes of all stretches that may hold it;
-    `None` while later segments may change it. `failure` is why it could not be judged before."""
+    """Return the final outcome of a programme from the outcomes of all recorded parts that may
+    contain it; `None` while later segments may change it. `failure` is the last system error."""
     failed = next((one for one in outcomes if one.result is None), None)
     final = failed or next((one for one in outcomes if one.is_final), None)
     if final or not has_passed:
         return final
-    if outcomes and not gaps:  # of the only stretch, which has all of the window
+    if outcomes and not gaps:  # the complete window was recorded
         return outcomes[0]
     shown = ", ".join(gaps[:MAX_GAPS]) or "some seconds"
     more = f" and {len(gaps) - MAX_GAPS} more" if len(gaps) > MAX_GAPS else ""
@@ -65,6 +65,6 @@ def decide(name: str, outcomes: Sequence[Outcome], gaps: Sequence[str], has_pass
 
 
 def seconds_to_next_try(window: Window, now: float) -> float:
-    """Return when to try again what may still be on air: twice as long after its end as now, and in
-    any case once its window has passed."""
+    """Return the seconds until the next try to judge a programme that may still be on air. Each try
+    doubles the time since its scheduled end, until the window has passed."""
     return min(max(now - window.end, SOON), max(window.last + SOON - now, 0.0))

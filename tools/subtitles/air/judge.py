@@ -1,5 +1,5 @@
-"""The judge of programmes on air. It keeps only retry times in memory, and everything else on disk,
-so it may be killed and restarted at any time."""
+"""Judge programmes after they were on air. Only retry times are in memory and everything else is on
+disk, so the process may be killed and restarted at any time."""
 from __future__ import annotations
 
 import argparse
@@ -21,20 +21,20 @@ from .schedule import Programme, Schedule, length_of, read_schedule
 from .segments import segments_between, stretches_in
 from .state import Monitor, write_state
 
-RETRY, MAX_RETRY = 2.0, 60.0  # seconds until the next try after a system error
-SHARE = 10  # failing programmes get at most one part in ten of the judge's time
-HOOK_SECONDS = 10  # time limit of the site's command
+RETRY, MAX_RETRY = 2.0, 60.0  # minimum and maximum delay in seconds after a system error
+SHARE = 10  # failing programmes get at most a tenth of the time
+HOOK_SECONDS = 10  # time limit of the command of --on-result
 
 
 class Tries:
-    """The time of the next try, the number of system errors, and the last reason."""
+    """The time of the next try to judge a programme, the number of system errors, and the last."""
 
     def __init__(self) -> None:
         self.next, self.failures, self.reason = 0.0, 0, ""
 
 
 class Judge:
-    """Judges the programmes that are over."""
+    """Judges the programmes of a schedule after their end."""
 
     def __init__(self, args: argparse.Namespace, program_name: str) -> None:
         self.args, self.segments, self.out = args, args.segments, args.out
@@ -46,8 +46,8 @@ class Judge:
         self.monitor = Monitor()
 
     def look(self, now: float) -> bool:
-        """Judge the first programme that can be judged now, and write the state. Return whether
-        there was one."""
+        """Judge the first programme that is ready, and write the state file. Return whether any
+        programme was ready."""
         self.read_schedule()
         waiting = self.waiting()
         tried = next((one for one in waiting if self.attempt(one, now)), None)
@@ -68,18 +68,18 @@ class Judge:
             self.monitor.schedule_faults = [format_error(reason)]
 
     def waiting(self) -> list[Programme]:
-        """Return the programmes that have no result, earliest first."""
+        """Return the programmes without a result, earliest first."""
         files = {*os.listdir(self.out)}
         return sorted((one for one in self.schedule.programmes if one.name + ENDING not in files),
                       key=lambda one: one.begin)
 
     def is_late(self, programme: Programme, now: float) -> bool:
-        """Return whether a result is overdue."""
+        """Return whether the result of a programme is overdue."""
         margin: float = self.args.margin
         return now > programme.begin + 2 * margin and now > self.window(programme).last + margin
 
     def attempt(self, programme: Programme, now: float) -> bool:
-        """Judge a programme if it is time. Return whether judging was tried."""
+        """Judge a programme if it is over; return whether judging was tried."""
         tries, started = self.tries.setdefault(programme.name, Tries()), time.monotonic()
         if now < max(tries.next, programme.begin + SOON):
             return False
@@ -89,7 +89,7 @@ class Judge:
                 return False
             outcome = self.judge(programme, window, now)
             if outcome and outcome.result and not outcome.is_finished:
-                window = window._replace(more=window.length)  # it has begun, perhaps with breaks
+                window = window._replace(more=window.length)  # breaks may delay its end
                 outcome = self.judge(programme, window, now)
             if outcome is None:
                 tries.next = now + seconds_to_next_try(window, now)
@@ -102,8 +102,8 @@ class Judge:
         return True
 
     def window(self, programme: Programme) -> Window:
-        """Return the window in which a programme is searched. If its subtitle file is missing, its
-        length is 0. An END earlier than that of the subtitle file is ignored."""
+        """Return the window in which a programme is searched. Its length is 0 if the subtitle file
+        is missing. An END before the end of the subtitle file is ignored."""
         length = 0.0
         with contextlib.suppress(OSError):
             length = length_of(programme.request)
@@ -111,7 +111,7 @@ class Judge:
         return Window(programme.begin, end, length, self.args.margin)
 
     def judge(self, programme: Programme, window: Window, now: float) -> Outcome | None:
-        """Judge the stretches that may contain a programme, until a result is final."""
+        """Judge each recorded part that may contain a programme, until a result is final."""
         name, has_passed = programme.name, now >= window.last + SOON
         segments = segments_between(self.segments, window.first, window.last)
         if not os.path.exists(programme.request.stl):
@@ -127,7 +127,7 @@ class Judge:
         return decide(name, outcomes, gaps, has_passed, self.tries[name].reason)
 
     def retry(self, programme: Programme, now: float, started: float, reason: str) -> None:
-        """Try a programme again later, after a system error; report each reason once."""
+        """Schedule another try after a system error, and report each reason once."""
         tries, spent = self.tries[programme.name], time.monotonic() - started
         if reason != tries.reason:
             line, *_ = reason.split("\n")
@@ -138,7 +138,7 @@ class Judge:
         self.monitor.last_error = f"{programme.name}: {reason}"
 
     def publish(self, name: str, outcome: Outcome) -> None:
-        """Store the files of a result, the JSON result last: it marks the programme as done."""
+        """Store the result files, the JSON result last, since it marks the programme as judged."""
         assert outcome.result is not None
         work, main = self.checker.work, name + ENDING
         files = sorted(os.listdir(work)) if "request" in outcome.result else []
@@ -158,19 +158,19 @@ class Judge:
         self.call_hook(os.path.join(self.out, main), outcome.result["verdict"])
 
     def call_hook(self, *words: str) -> None:
-        """Call the site's command, if there is one. A failure of it is ignored."""
+        """Run the command of --on-result, if any, and ignore its failure."""
         if self.args.on_result:
             with contextlib.suppress(OSError, subprocess.SubprocessError):
                 subprocess.run([self.args.on_result, *words], timeout=HOOK_SECONDS, check=False)
 
 
 def judge_schedule(args: argparse.Namespace, program_name: str) -> int:
-    """Judge a schedule, once or until a signal; return the exit status."""
+    """Judge the programmes of a schedule, once or until a signal; return the exit status."""
     handle_signals()
     os.makedirs(args.work or args.out, exist_ok=True)
     with hold_lock(args.out, "air", "another run of air is judging into "):
         for name in os.listdir(args.out):
-            if name.startswith(TEMPORARY_PREFIX):  # an earlier run was killed while writing it
+            if name.startswith(TEMPORARY_PREFIX):  # left by a killed run
                 os.unlink(os.path.join(args.out, name))
         judge = Judge(args, program_name)
         judge.checker.clear()

@@ -17,7 +17,7 @@ megabytes_word = make_number_parser("megabytes", 0, 999_999_999)
 
 
 def record_parser() -> ToolParser:
-    """Return the parser of `record`."""
+    """Return the argument parser of the command `record`."""
     parser = ToolParser("Record a feed in segments that are named by time, and delete the oldest.")
     parser.add_argument("segments", metavar="SEGMENTS", help="write segments to this folder")
     parser.add_argument("--length", metavar="S", type=read_seconds, default=10,
@@ -30,7 +30,7 @@ def record_parser() -> ToolParser:
 
 
 def judge_parser() -> ToolParser:
-    """Return the parser of `judge`."""
+    """Return the argument parser of the command `judge`."""
     parser = ToolParser("Judge the programmes of a schedule from segments of a feed, each once it "
                         "is over.")
     parser.add_argument("schedule", metavar="SCHEDULE", help="read the times of air from this file")
@@ -58,7 +58,7 @@ def judge_parser() -> ToolParser:
 
 
 def main(text: str, words: list[str]) -> int:
-    """Do what the command line asks for; return the exit status."""
+    """Run a command line of tools/air and return the exit status."""
     mode, *line = words or [""]
     if mode == "record":
         args = record_parser().parse_args(line)

@@ -1,4 +1,4 @@
-"""The recorder writes segments named by time, and deletes the oldest. It knows no programmes, and
+"""Record a feed in segments that are named by time, and delete the oldest segments. The recorder
 may be killed and restarted at any time."""
 from __future__ import annotations
 
@@ -14,15 +14,15 @@ from ..cli.single import hold_lock
 from ..common.command_line import print_stderr
 from .segments import names_in, segment_name
 
-MAX_READ = 1 << 18  # bytes at a time
-PIPE_SIZE = 1 << 20  # bytes that a pipe holds: a quarter of a second of 40 Mbit/s
-# Seconds between tries to write to a full disk, and until bytes that can't be written are lost.
+MAX_READ = 1 << 18  # maximum bytes per read
+PIPE_SIZE = 1 << 20  # pipe buffer in bytes: 0.2 seconds at 40 Mbit/s
+# Seconds between writes to a full disk, and seconds after which unwritten bytes are dropped.
 WRITE_RETRY, WRITE_PATIENCE = 0.1, 5.0
-MAX_DELETED = 50  # segments at a time, so that a full folder does not hold up the feed
+MAX_DELETED = 50  # maximum number of segments per call, so that deleting does not delay the feed
 
 
 class Limits(NamedTuple):
-    """The length of a segment and how long it is kept, in seconds; the bytes to leave free."""
+    """The length and retention time of segments in seconds, and the disk space to leave free."""
 
     length: float
     kept: float
@@ -30,17 +30,17 @@ class Limits(NamedTuple):
 
 
 class Recorder:
-    """Writes a feed. It never writes to a segment once the next one has begun."""
+    """Writes a feed to segments. A segment does not change after the next segment has begun."""
 
     def __init__(self, folder: str, limits: Limits) -> None:
         self.folder, self.limits = folder, limits
         self.file: int | None = None
-        self.is_new = True  # something may be missing before the next segment
-        self.begun = self.latest = 0.0  # begin of the segment, by the clock and by its name
+        self.is_new = True  # data before the next segment may be missing
+        self.begun = self.latest = 0.0  # begin of the current segment, by the clock and by its name
 
     def take(self, data: bytes) -> None:
         """Write bytes. If the disk is full, delete the oldest segments. Bytes that still can't be
-        written are lost, and the name of the next segment is marked."""
+        written are dropped, and the name of the next segment shows the loss."""
         left, until = memoryview(data), time.monotonic() + WRITE_PATIENCE
         while left:
             try:
@@ -57,8 +57,8 @@ class Recorder:
                     time.sleep(WRITE_RETRY)
 
     def current_file(self) -> int:
-        """Return the segment to write to: a new one if that is long enough, or the clock was set.
-        """
+        """Return the open segment. Begin a new segment if it is long enough or the clock was
+        set."""
         now = time.time()
         if self.file is None or not 0 <= now - self.begun < self.limits.length:
             self.close()
@@ -68,7 +68,7 @@ class Recorder:
         return self.file
 
     def open_segment(self, now: float) -> int:
-        """Open a new segment. Its name comes after all others, also if the clock was set back."""
+        """Open a new segment, named so that it sorts last even if the clock was set back."""
         last = names_in(self.folder)[-1:]
         self.latest = max(now, self.latest + 0.001, *(begin + 0.001 for begin, _ in last))
         if self.latest > now + 1:
@@ -80,13 +80,13 @@ class Recorder:
         return file
 
     def close(self) -> None:
-        """Close the segment. A thread stores it: the feed does not wait for the disk."""
+        """Close the segment. A thread syncs the file, since the feed can't wait for the disk."""
         if self.file is not None:
             threading.Thread(target=store_and_close, args=(self.file,)).start()
             self.file = None
 
     def make_room(self, now: float) -> None:
-        """Delete segments that are too old, and more until enough bytes are free."""
+        """Delete old segments, and more segments until enough disk space is free."""
         while self.delete_oldest(MAX_DELETED, now - self.limits.kept):
             pass
         for _ in range(MAX_DELETED):
@@ -95,8 +95,8 @@ class Recorder:
                 break
 
     def delete_oldest(self, most: int, before: float | None = None) -> bool:
-        """Delete some of the oldest segments that begin before a time, but never the last segment.
-        Return whether there was one to delete."""
+        """Delete up to `most` of the oldest segments that begin before a time, but never the last
+        segment. Return whether any segment was deleted."""
         oldest = [name for begin, name in names_in(self.folder)[:-1]
                   if before is None or begin < before][:most]
         for name in oldest:
@@ -106,15 +106,15 @@ class Recorder:
 
 
 def store_and_close(file: int) -> None:
-    """Store a file, so that it outlasts a power failure, and close it."""
+    """Sync a file, so that it survives a power failure, and close the file."""
     with contextlib.suppress(OSError):
         os.fsync(file)
     os.close(file)
 
 
 def record(source: int, folder: str, limits: Limits) -> None:
-    """Record a feed up to its end."""
-    with contextlib.suppress(OSError):  # it is no pipe
+    """Record a feed until it ends."""
+    with contextlib.suppress(OSError):  # not a pipe
         fcntl.fcntl(source, getattr(fcntl, "F_SETPIPE_SZ", 1031), PIPE_SIZE)
     with hold_lock(folder, "recorder", "another feed is being recorded in "):
         recorder = Recorder(folder, limits)

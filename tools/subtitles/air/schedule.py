@@ -1,4 +1,4 @@
-"""The schedule, or an as-run log: when each programme is on air, and how it is judged."""
+"""Read a schedule or an as-run log: when each programme is on air, and how it is judged."""
 from __future__ import annotations
 
 import argparse
@@ -18,14 +18,14 @@ from ..request.lines import Line, split_lines, read_list, make_line_request
 from ..request.request import Request
 
 TIME = re.compile(r"\d{4}-\d\d-\d\dT\d\d:\d\d:\d\d(\.\d{1,6})?(Z|[+-]\d\d:\d\d)", re.ASCII)
-FORMATS = "%Y-%m-%dT%H:%M:%S%z", "%Y-%m-%dT%H:%M:%S.%f%z"  # without and with a fraction
+FORMATS = "%Y-%m-%dT%H:%M:%S%z", "%Y-%m-%dT%H:%M:%S.%f%z"  # without and with a fraction of a second
 EXAMPLE = "2026-11-29T20:15:00Z"
-RECORDING = "recording.ts"  # the name under which a line's recording will be judged
+RECORDING = "recording.ts"  # file name of the recording that is judged
 
 
 class Programme(NamedTuple):
     """A programme in the schedule: the name of its result, and its time of air in seconds since the
-    epoch. If `end` is `None`, its length is that of the subtitle file."""
+    epoch. If `end` is `None`, the programme is as long as its subtitle file."""
 
     name: str
     begin: float
@@ -34,7 +34,7 @@ class Programme(NamedTuple):
 
 
 class Schedule(NamedTuple):
-    """The programmes of a schedule, a message for each line that is wrong, and the text itself."""
+    """The programmes of a schedule, a message for each faulty line, and the complete text."""
 
     programmes: Sequence[Programme] = ()
     faults: Sequence[str] = ()
@@ -42,7 +42,7 @@ class Schedule(NamedTuple):
 
 
 def time_of_air(text: str) -> float:
-    """Parse a date and time with its zone to seconds since the epoch; raise `Stop` if it is
+    """Return a date and time with time zone in seconds since the epoch; raise `Stop` if the text is
     invalid."""
     found = TIME.fullmatch(text)
     with contextlib.suppress(ValueError, OverflowError):
@@ -54,7 +54,7 @@ def time_of_air(text: str) -> float:
 
 
 def times_of_air(word: str) -> tuple[float, float | None]:
-    """Parse the first word of a line, `BEGIN` or `BEGIN/END`."""
+    """Parse the times at the beginning of a line, `BEGIN` or `BEGIN/END`."""
     first, slash, last = word.partition("/")
     begin, end = time_of_air(first), time_of_air(last) if slash else None
     if end is not None and end <= begin:
@@ -69,7 +69,7 @@ def result_name(begin: float, stl: str) -> str:
 
 
 def read_schedule(path: str, options: argparse.Namespace, known: Schedule = Schedule()) -> Schedule:
-    """Read a schedule file up to its last line feed: the rest may not be complete yet. Return
+    """Read a schedule up to its last line feed, since the last line may be incomplete. Return
     `known` if the file has not changed."""
     text = read_list(path)
     text = text[:text.rfind("\n") + 1]
@@ -77,7 +77,7 @@ def read_schedule(path: str, options: argparse.Namespace, known: Schedule = Sche
 
 
 def parse_schedule(text: str, folder: str, options: argparse.Namespace) -> Schedule:
-    """Return the schedule in a text; the names of its files are relative to a folder."""
+    """Parse the text of a schedule. File names in it are relative to `folder`."""
     programmes, faults = dict[str, Programme](), list[str]()
     lines = dict[str, int]()
     for line in split_lines(text):
@@ -95,7 +95,7 @@ def parse_schedule(text: str, folder: str, options: argparse.Namespace) -> Sched
 
 
 def parse_line(line: Line, folder: str, options: argparse.Namespace) -> Programme:
-    """Return the programme of a line: a time of air, a subtitle file, and options."""
+    """Parse a line of a schedule: a time of air, a subtitle file, and options."""
     if line.fault:
         raise Stop(line.fault)
     begin, end = times_of_air(line.arguments[0])
@@ -110,15 +110,15 @@ def parse_line(line: Line, folder: str, options: argparse.Namespace) -> Programm
 
 
 def length_of(request: Request) -> float:
-    """Return how many seconds it is from the first TCI to the last TCO; 0 if the subtitle file
-    can't be read, since `check` will refuse it. `OSError` if the file is not there."""
+    """Return the seconds from the first TCI to the last TCO; 0 if the subtitle file can't be read,
+    since `check` will refuse it. Raise `OSError` if there is no such file."""
     about = os.stat(request.stl)
     return length_in(request.stl, about.st_mtime_ns, about.st_size, request.between)
 
 
 @functools.lru_cache(maxsize=10_000)
 def length_in(path: str, _modified: int, _size: int, between: Between) -> float:
-    """Return the length of a subtitle file as it is now."""
+    """Return the length of a subtitle file in seconds, cached until the file changes."""
     times = list[tuple[int, int]]()
     with contextlib.suppress(Damaged, Stop):
         for subtitle in read_stored_subtitles(read_stl(path)):

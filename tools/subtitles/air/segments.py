@@ -13,19 +13,19 @@ from typing import Iterable, Iterator, NamedTuple, Sequence
 
 from ..common.times import ticks_between
 
-# As 20261129T201500.250Z.ts, news-20261129-201500.ts or feed_2026-11-29_20-15-00.ts.
+# Names such as 20261129T201500.250Z.ts, news-20261129-201500.ts, feed_2026-11-29_20-15-00.ts.
 NAME = re.compile(r"(?:.*\D)?(\d{4})-?(\d\d)-?(\d\d)[T_-]?(\d\d)[-.:]?(\d\d)[-.:]?(\d\d)"
                   r"(\.\d{1,6})?Z?(?:-new)?\.(?:ts|m2ts|mts|trp)", re.ASCII | re.DOTALL)
-NEW = "-new.ts"  # ends the name of a segment if something may be missing before it
-BLOCK = 1 << 19  # bytes to read at a time, and to compare at the end and beginning of segments
+NEW = "-new.ts"  # end of a segment's name if data before the segment may be missing
+BLOCK = 1 << 19  # bytes per read, and bytes to compare on each side of a segment boundary
 PACKET_SIZES, SYNC = (188, 192, 204), 0x47
-LEAST_PACKETS = 5  # sync bytes needed to find the beginning of the TS packets
-Sides = tuple[list[int], list[int]]  # numbers before and after the middle
+LEAST_PACKETS = 5  # number of sync bytes needed to find where TS packets begin
+Sides = tuple[list[int], list[int]]  # numbers before and after a segment boundary
 
 
 class Segment(NamedTuple):
-    """A segment: its file, its size in bytes, and the times of its first and its last byte, in
-    seconds since the epoch. `is_new`: its name says that something may be missing before it."""
+    """A segment with its path, its size in bytes, and the times of its first and last byte in
+    seconds since the epoch. `is_new` says that data before the segment may be missing."""
 
     path: str
     size: int
@@ -34,7 +34,7 @@ class Segment(NamedTuple):
     is_new: bool = False
 
     def offset_at(self, time: float) -> int:
-        """Return how many of its bytes came before a time, assuming a constant rate."""
+        """Return the number of bytes written before a time, assuming a constant rate."""
         if time <= self.begin or time >= self.end:
             return 0 if time <= self.begin else self.size
         return int(self.size * (time - self.begin) / (self.end - self.begin))
@@ -48,7 +48,7 @@ def segment_name(time: float, is_new: bool = False) -> str:
 
 @functools.lru_cache(maxsize=100_000)
 def begin_in(name: str) -> float | None:
-    """Return when the segment with a name begins; `None` for the name of any other file."""
+    """Return the time at which a segment begins, from its name; `None` for other files."""
     if found := NAME.fullmatch(name):
         *numbers, fraction = found.groups("0")
         with contextlib.suppress(ValueError):
@@ -58,23 +58,22 @@ def begin_in(name: str) -> float | None:
 
 
 def names_in(folder: str) -> list[tuple[float, str]]:
-    """Return when each segment of a folder begins, with its name, earliest first. Other files are
-    skipped."""
+    """Return the begin times and the names of the segments in a folder, earliest first."""
     timed = ((begin_in(name), name) for name in os.listdir(folder))
     return sorted((begin, name) for begin, name in timed if begin is not None)
 
 
 def segments_between(folder: str, begin: float, end: float) -> list[Segment]:
-    """Return the segments that overlap a period, earliest first, without empty segments, which a
-    power failure may leave where bytes were lost."""
+    """Return the segments that overlap a period, earliest first. Skip empty segments, which a power
+    failure may leave."""
     names = names_in(folder)
-    first = max(bisect.bisect_left(names, (begin, "")) - 1, 0)  # it may last beyond `begin`
+    first = max(bisect.bisect_left(names, (begin, "")) - 1, 0)  # it may overlap the period
     found = (segment_at(folder, name, time) for time, name in names[first:] if time < end)
     return [segment for segment in found if segment and segment.size and segment.end >= begin]
 
 
 def segment_at(folder: str, name: str, begin: float) -> Segment | None:
-    """Return the segment with a name; `None` if it was deleted."""
+    """Return the segment with a file name, or `None` if the file was deleted."""
     path = os.path.join(folder, name)
     with contextlib.suppress(FileNotFoundError):
         about = os.stat(path)
@@ -83,7 +82,7 @@ def segment_at(folder: str, name: str, begin: float) -> Segment | None:
 
 
 class Unbroken(NamedTuple):
-    """A stretch of the feed: segments between which nothing is missing."""
+    """A continuous part of the feed: segments with no missing data between them."""
 
     segments: tuple[Segment, ...]
 
@@ -96,13 +95,13 @@ class Unbroken(NamedTuple):
         return self.segments[-1].end
 
     def size(self, begin: float, end: float) -> int:
-        """Return how many bytes came from one time to another."""
+        """Return the number of bytes between two times."""
         return sum(max(segment.offset_at(end) - segment.offset_at(begin), 0)
                    for segment in self.segments)
 
     def read(self, begin: float, end: float) -> Iterator[bytes]:
-        """Yield the bytes that came from one time to another, but one if they begin in a TS packet
-        as PES packets do: they would be taken for these."""
+        """Yield the bytes between two times. Skip the first byte if the data begins like a PES
+        packet, since the copy would then be read as PES packets instead of TS packets."""
         data = (block for one in self.segments if one.begin < end and one.end > begin
                 for block in read_range(one.path, one.offset_at(begin), one.offset_at(end)))
         block = next(data, b"")
@@ -111,7 +110,7 @@ class Unbroken(NamedTuple):
 
 
 def read_range(path: str, first: int, end: int) -> Iterator[bytes]:
-    """Yield the bytes of a file from one place to another; `OSError` if the file is shorter."""
+    """Yield the bytes of a file from one offset to another; raise `OSError` at an early end."""
     with open(path, "rb") as file:
         file.seek(first)
         while first < end:
@@ -124,10 +123,10 @@ def read_range(path: str, first: int, end: int) -> Iterator[bytes]:
 
 @functools.lru_cache(maxsize=10_000)
 def is_continued(before: Segment, after: Segment) -> bool | None:
-    """Return whether no TS packet is missing between two segments, by the continuity counters that
-    go on before and after, and the PCR: `False` if most do not, or one and a PCR; else `None`."""
+    """Return whether the TS packets continue from one segment to the next, by the continuity
+    counters and the PCR: `False` if packets are missing, `None` if this is unclear."""
     middle, data = min(before.size, BLOCK), b""
-    with contextlib.suppress(OSError):  # one of them has been deleted
+    with contextlib.suppress(OSError):  # a segment was deleted
         data = b"".join((*read_range(before.path, before.size - middle, before.size),
                          *read_range(after.path, 0, min(after.size, BLOCK))))
     size, first = next(((size, first) for size in PACKET_SIZES for first in range(size)
@@ -139,7 +138,7 @@ def is_continued(before: Segment, after: Segment) -> bool | None:
     counters, clocks = dict[int, Sides](), dict[int, Sides]()
     for number, packet in enumerate(packets):
         pid = int.from_bytes(packet[1:3], "big") & 0x1FFF
-        if packet[3] & 0x10:  # it has a payload, so its counter goes on
+        if packet[3] & 0x10:  # only packets with payload are counted
             counters.setdefault(pid, ([], []))[number >= count].append(packet[3] & 15)
         if packet[3] & 0x20 and packet[4] > 6 and packet[5] & 0x10:
             pcr = int.from_bytes(packet[6:11], "big") >> 7
@@ -156,16 +155,16 @@ def is_continued(before: Segment, after: Segment) -> bool | None:
 
 
 def is_usual(before: Sequence[int], after: Sequence[int]) -> bool:
-    """Return whether the step between two groups of PCR is about as long as steps within them."""
+    """Return whether the PCR step from one segment to the next is as short as other PCR steps."""
     step, *steps = (ticks_between(first, second) for pcrs in (
         [before[-1], after[0]], before, after) for first, second in zip(pcrs, pcrs[1:]))
     return 0 <= 2 * step <= 3 * max(steps)
 
 
 def stretches_in(segments: Iterable[Segment], longest_pause: float) -> Iterator[Unbroken]:
-    """Divide segments at places where something may be missing: a name says so, the next segment
-    begins more than some seconds after the last byte though the TS packets do not continue, or the
-    TS packets do not continue. In the last case the first segment was cut, so it is omitted."""
+    """Divide segments into continuous parts of the feed: where TS packets are missing, or where a
+    name or a pause of more than `longest_pause` seconds says so and the TS packets may not
+    continue. If only the TS packets show the gap, the segment before it was cut, and is omitted."""
     stretch = list[Segment]()
     for one in segments:
         is_next = is_continued(stretch[-1], one) if stretch else None

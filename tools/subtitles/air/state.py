@@ -1,4 +1,4 @@
-"""The state for monitoring: a JSON file that the tools only write."""
+"""Write the state for monitoring to a JSON file, which these tools never read."""
 from __future__ import annotations
 
 import contextlib
@@ -14,10 +14,10 @@ from ..stream.survey import survey
 from .segments import names_in, segment_at
 
 NAME = "state.json"
-SILENCE = 10.0  # seconds without a byte
-PAGE_SILENCE = 600.0  # seconds without a header of a page
-PAGES_EVERY, NEWEST = 60.0, 3  # seconds between searches for pages, and segments to search
-LEAST_FREE = 100_000_000  # bytes
+SILENCE = 10.0  # seconds without a byte until the alarm `silence`
+PAGE_SILENCE = 600.0  # seconds without a page header until the alarm for the page
+PAGES_EVERY, NEWEST = 60.0, 3  # seconds between searches for pages; segments to search
+LEAST_FREE = 100_000_000  # bytes of free disk space below which the alarm `disk` is active
 
 
 class Monitor:
@@ -51,7 +51,7 @@ class Monitor:
                 self.look_for_pages(os.path.join(segments, name), program)
 
     def look_for_pages(self, path: str, program: str) -> None:
-        """Search a segment for headers of all pages."""
+        """Search a segment for headers of the scheduled pages."""
         for page in self.headers:
             with contextlib.suppress(OSError, Stop):
                 found = survey(program, path, page)
@@ -70,7 +70,7 @@ class Monitor:
         return [name for name, is_on in alarms.items() if is_on] + pages
 
     def state(self) -> dict[str, Any]:
-        """Return the contents of the file."""
+        """Return the contents of the state file."""
         return {
             "date": date(self.now), "alarms": self.alarms(),
             "last_byte": date_or_none(self.last_byte), "oldest": date_or_none(self.oldest),
@@ -82,12 +82,12 @@ class Monitor:
 
 
 def date_or_none(time: float) -> str | None:
-    """Return a time as text in UTC; `None` for 0, which means never."""
+    """Format a time in UTC; return `None` for 0, which means never."""
     return date(time) if time else None
 
 
 def free_bytes(folder: str) -> int:
-    """Return the free bytes on the disk of a folder; 0 if the folder does not exist."""
+    """Return the free disk space of a folder in bytes; 0 if the folder does not exist."""
     with contextlib.suppress(OSError):
         about = os.statvfs(folder)
         return about.f_bavail * about.f_frsize
@@ -95,6 +95,6 @@ def free_bytes(folder: str) -> int:
 
 
 def write_state(folder: str, state: dict[str, Any]) -> None:
-    """Write the file. If that fails, monitoring sees its old date."""
+    """Write the state file. Errors are ignored: monitoring then sees an old date in the file."""
     with contextlib.suppress(OSError), open_result(os.path.join(folder, NAME)) as file:
         file.write(json.dumps(state, indent=1).encode() + b"\n")

@@ -25,14 +25,14 @@ ALLOWED_VALUES = {"strip": "codes 00 to 1F, each once",
                   "before": "up to 6 codes 01 to 0D and one * at most",
          "after": "up to 4 codes 01 to 0D", "left": "0 to 39", "right": "0 to 39",
          "free": "1, 2 or 3", "row": "-22 to 22"}
-CACHE_SIZE = 1 << 14  # texts
+CACHE_SIZE = 1 << 14  # maximum number of cached texts
 NUMBER = re.compile(r"[0-9]{1,2}")
 HEX = re.compile(r"(?:[0-9A-Fa-f]{2})*")
 
 
 class Layout(NamedTuple):
-    """The items of a layout. `before` is put before the leading codes of a line, `behind` after
-    them."""
+    """A layout for drawing the lines of subtitles. `before` is put before the leading codes of a
+    line, `behind` after them."""
 
     strip: bytes = b""
     before: bytes = b"\x0b\x0b"
@@ -77,14 +77,14 @@ class DrawnLine(NamedTuple):
 
 
 def parse_codes(text: str, most: int, allowed: Sequence[int]) -> bytes | None:
-    """Parse hexadecimal digits as codes; return `None` if they are not allowed."""
+    """Parse hexadecimal digits as codes; return `None` if any code is not allowed."""
     codes = bytes.fromhex(text) if HEX.fullmatch(text) else None
     fits = codes is not None and len(codes) <= most and all(code in allowed for code in codes)
     return codes if fits else None
 
 
 def parse_item(name: str, value: str | None) -> dict[str, object] | None:
-    """Parse an item of a layout; return `None` if there is no such item or value."""
+    """Parse an item of a layout; return `None` if its name or value is invalid."""
     if name in FLAGS:
         return {name: True} if value is None else None
     if value is None:
@@ -124,8 +124,7 @@ def parse_layout(text: str) -> Layout | None:
 
 
 def find_layout_fault(text: str) -> str | None:
-    """Return the message about the first invalid item of a layout's TEXT; `None` if all are valid.
-    """
+    """Return a message about the first invalid item of a layout's TEXT, or `None`."""
     names = set[str]()
     for word in text.split(","):
         name, equals, value = word.partition("=")
@@ -153,7 +152,7 @@ def list_items(layout: Layout) -> list[str]:
 
 
 def format_layout(layout: Layout) -> str:
-    """Return the TEXT of a layout; empty for the default layout."""
+    """Format a layout as the TEXT of `--layout`; an empty text for the default layout."""
     return ",".join(list_items(layout))
 
 
@@ -166,7 +165,7 @@ def complexity_key(layout: Layout) -> tuple[int, int, str]:
 @functools.lru_cache(maxsize=CACHE_SIZE)
 def make_cell_lines(text: bytes, option: NationalOption, strip: bytes = b"") \
         -> tuple[bytes, ...] | TextFault:
-    """Return the lines of a text as cells, or the first character without a cell."""
+    """Return the lines of a text as cells, or the fault of its first character without a cell."""
     lines = [bytearray()]
     for at, byte, cell in split_cells(text, option):
         if byte == NEW_LINE:
@@ -216,7 +215,7 @@ def find_start_column(cells: bytes, justify: int, layout: Layout) -> int:
 
 
 def find_column(cells: bytes, justify: int, layout: Layout) -> int:
-    """Return the start column of a line of 1 to 40 cells."""
+    """Return the start column of a line of 1 to 40 cells, moved so that the line fits the row."""
     return min(max(find_start_column(cells, justify, layout), 0), COLUMNS - len(cells))
 
 
@@ -233,14 +232,14 @@ def assign_rows(lines: Sequence[bytes], first: int, layout: Layout) -> list[int]
 
 def draw_text(text: bytes, first: int, justify: int, layout: Layout, option: NationalOption
           ) -> list[DrawnLine] | TextFault:
-    """Draw the lines of a subtitle's text that are not empty, or return its first fault."""
+    """Draw the lines of a subtitle's text, except empty lines, or return its first fault."""
     cells = make_cell_lines(text, option, layout.strip)
     return cells if isinstance(cells, TextFault) else draw_lines(cells, first, justify, layout)
 
 
 def draw_lines(cells: Sequence[bytes], first: int, justify: int, layout: Layout
                 ) -> list[DrawnLine] | TextFault:
-    """Draw lines of cells that are not empty, or return their first fault."""
+    """Draw lines of cells, except empty lines, or return their first fault."""
     lines = [prepare_line(one, layout) for one in cells]
     placed: list[DrawnLine] = []
     above = b""  # the previous line
@@ -260,7 +259,7 @@ def draw_lines(cells: Sequence[bytes], first: int, justify: int, layout: Layout
 
 
 def make_page_rows(lines: Sequence[DrawnLine]) -> tuple[bytes, ...]:
-    """Return rows 1 to 24 of the page with drawn lines."""
+    """Return rows 1 to 24 of the page that has the given lines."""
     rows = [b" " * COLUMNS] * 24
     for line in lines:
         rows[line.row - 1] = (b" " * line.column + line.cells).ljust(COLUMNS)
@@ -268,15 +267,15 @@ def make_page_rows(lines: Sequence[DrawnLine]) -> tuple[bytes, ...]:
 
 
 def find_text_letters(text: bytes, option: NationalOption) -> bytes | None:
-    """Return the cells of a text without spaces and attributes, which are the same in each layout;
-    `None` if a character has no cell."""
+    """Return the cells of a text without spaces and attributes: they are the same in each layout.
+    Return `None` if a character has no cell."""
     lines = make_cell_lines(text, option, bytes(range(0x20)))
     return None if isinstance(lines, TextFault) else bytes(
         cell for line in lines for cell in line if cell > SPACE)
 
 
 def find_page_letters(rows: Sequence[bytes]) -> bytes:
-    """Return the cells of a page without spaces and attributes, row by row."""
+    """Return all cells of a page, row by row, without spaces and attributes."""
     return bytes(cell for row in rows for cell in row if cell > SPACE)
 
 
@@ -304,7 +303,7 @@ def trim_line(cells: bytes) -> bytes:
 
 
 def remove_codes(cells: bytes, strip: Iterable[int]) -> bytes:
-    """Remove the codes `strip` from a line."""
+    """Remove the codes in `strip` from a line."""
     return cells.translate(None, bytes(strip))
 
 

@@ -1,4 +1,4 @@
-"""Lines of `check`, and what the manual says about fault numbers."""
+"""Parse the output lines of `check`, and look up fault numbers in the manual."""
 from __future__ import annotations
 
 import os
@@ -29,16 +29,16 @@ FAULT_LINE = re.compile(
     r"(?: block (?P<block>\d+)(?: at (?P<at>\d+))?| pes (?P<pes>\d+)"
     r"| frame (?P<time>[\d:]+)(?: packet (?P<packet>\d+)"
     r"| row (?P<row>\d+) column (?P<column>\d+))?)?")
-EMPTY = 60  # no PES packet
+EMPTY = 60  # there is no PES packet
 DISPLAY = 13  # display standard code (DSC)
 EMPTY_TIME, OUT_OF_ORDER = 21, 56  # decreasing times in a subtitle file
 OFF_FRAME, GAP = 61, 73
-UNDECIDED = 78  # frames whose expected page is unknown, next to refused subtitles
+UNDECIDED = 78  # frames next to refused subtitles, whose expected page is unknown
 STL_FAULTS = {*range(10, 26), *range(50, 58)}
 SKIPPED_PACKETS = {*range(33, 41), 45, 61}  # PES packets that are unreadable or have no frame
-ENDS_READING = {30, 31, 32, 44}  # the recording was not read further
+ENDS_READING = {30, 31, 32, 44}  # `check` stopped reading the recording
 LOST_PACKETS = 45  # TS packets are missing
-SILENT = 79  # too long without a PES packet
+SILENT = 79  # no PES packet for too long
 LOSSES = {LOST_PACKETS, SILENT}
 REFUSED, ENDED, FAULT = "refused", "ended", "fault"
 CONTENT, CHARACTER, LETTERS, CONTROL, PARITY, CHANGED = 72, 50, (50, 51), 67, 68, 69
@@ -48,7 +48,7 @@ INCOMPLETE = 77
 
 
 class FaultLine(NamedTuple):
-    """A line `refused`, `ended`, `fault` or `usage`, with its number, name and place."""
+    """A line `refused`, `ended`, `fault` or `usage`, with its fault number, name and place."""
 
     line: str
     word: str
@@ -64,7 +64,7 @@ class FaultLine(NamedTuple):
 
     @property
     def frame(self) -> int | None:
-        """The frame of `time`."""
+        """The frame of the line's time, or `None`."""
         frame: int | None = frame_of(self.time) if self.time else None
         return frame
 
@@ -74,7 +74,7 @@ class FaultLine(NamedTuple):
 
 
 class Accepted(NamedTuple):
-    """A line `accepted`."""
+    """A line `accepted`, which accepts a pair."""
 
     frames: int
     transmissions: int
@@ -88,7 +88,7 @@ class Trusted(NamedTuple):
 
 
 def parse_fault_line(line: str) -> FaultLine | None:
-    """Parse a line with a fault number; return `None` for another line."""
+    """Parse a line with a fault number; return `None` for any other line."""
     match = FAULT_LINE.fullmatch(line)
     if not match:
         return None
@@ -99,30 +99,30 @@ def parse_fault_line(line: str) -> FaultLine | None:
 
 
 def parse_optional(digits: str | None) -> int | None:
-    """Parse a number that a line may lack."""
+    """Parse an optional number; return `None` if it is missing."""
     return None if digits is None else int(digits)
 
 
 def parse_accepted_line(line: str) -> Accepted | None:
-    """Parse a line `accepted`; return `None` for another line."""
+    """Parse a line `accepted`; return `None` for any other line."""
     match = ACCEPTED.fullmatch(line)
     return Accepted(int(match[1]), int(match[2])) if match else None
 
 
 def parse_trusted_line(line: str) -> Trusted | None:
-    """Parse a line `trusted`; return `None` for another line."""
+    """Parse a line `trusted`; return `None` for any other line."""
     match = TRUSTED.fullmatch(line)
     return Trusted(match[1], match[2]) if match else None
 
 
 def parse_count_line(line: str) -> int | None:
-    """Parse the number of faults in the last line of a list; return `None` for another line."""
+    """Parse the last line of a list, the number of faults; return `None` for any other line."""
     match = COUNT.fullmatch(line)
     return int(match[1]) if match else None
 
 
 def is_check_line(line: str) -> bool:
-    """Return whether a line is one that `check` can print."""
+    """Return whether a line has the format of a line that `check` prints."""
     return any(parse(line) is not None for parse in (parse_fault_line, parse_trusted_line,
                                                      parse_accepted_line, parse_count_line))
 
@@ -130,18 +130,18 @@ def is_check_line(line: str) -> bool:
 # Faster parsing: a list may have a line for each frame of a day.
 
 def split_line(line: str) -> list[str]:
-    """Split a line into word, number, name, kind of place, value of the place, and the rest."""
+    """Split a line into its word, fault number, fault name, kind of place, place, and rest."""
     return line.split(" ", 5)
 
 
 def parse_fault_number(line: str) -> int | None:
-    """Parse the fault number of a line `refused`; return `None` for another line."""
+    """Parse the fault number of a line `refused`; return `None` for any other line."""
     digits = line.split(" ", 2)[1] if line.startswith(REFUSED + " ") else ""
     return int(digits) if digits.isascii() and digits.isdecimal() else None
 
 
 def parse_place_time(time: str) -> int:
-    """Parse the time in a place to its frame."""
+    """Return the frame of the time in a fault's place."""
     hours, minutes, seconds, frames = map(int, time.split(":"))
     return ((hours * 60 + minutes) * 60 + seconds) * FRAMES_A_SECOND + frames
 
@@ -149,14 +149,14 @@ def parse_place_time(time: str) -> int:
 # Faults that only qc finds. They have names instead of numbers.
 
 NEVER_SENT = "never sent"  # the PMT announces the page, but it was not sent
-PICTURES_LEFT = "pictures left"  # the PTS of the video jump, those of the subtitles do not
-NOT_SHOWN = "not shown"  # no receiver shows a row of the subtitle file
+PICTURES_LEFT = "pictures left"  # the video PTS jump, but not the subtitle PTS
+NOT_SHOWN = "not shown"  # no receiver shows a row of a subtitle
 FAULT_NAMES = (NEVER_SENT, PICTURES_LEFT, NOT_SHOWN)
 
 
 class NamedFault(NamedTuple):
-    """A fault with a name instead of a number. It has the first and last time in the recording, or
-    a TTI block of the subtitle file."""
+    """A fault with a name instead of a number. Its place is the first and last time in the
+    recording, or a TTI block of the subtitle file."""
 
     name: str
     text: str
@@ -173,13 +173,13 @@ class NamedFault(NamedTuple):
         return f"{REFUSED} {self.name}{place}"
 
 
-# The meanings of refusals, from the tables of the manual.
+# Meanings of faults, from the tables of the manual.
 
 REFUSALS_PATH = os.path.join(TOP, "docs", "manual", "refusals.md")
 
 
 class Meaning(NamedTuple):
-    """What the manual says about a fault."""
+    """The row about a fault in the manual."""
 
     name: str
     meaning: str
@@ -187,7 +187,7 @@ class Meaning(NamedTuple):
 
 
 def read_meanings() -> dict[int, Meaning]:
-    """Read the manual's rows by fault number; return none if the manual is not installed."""
+    """Return the manual's rows by fault number; no rows if the manual is not installed."""
     by_number: dict[int, Meaning] = {}
     last = ""
     if not os.path.isfile(REFUSALS_PATH):
@@ -196,14 +196,14 @@ def read_meanings() -> dict[int, Meaning]:
         for line in file:
             cells = [cell.strip() for cell in line.strip().strip("|").split("|")]
             if len(cells) >= 4 and cells[0].isdecimal():
-                name, meaning, remedy = cells[1:4]  # the next cell has options that accept it
+                name, meaning, remedy = cells[1:4]  # the fifth cell lists options
                 last = remedy.replace("the same", last) if remedy.startswith("the same") else remedy
                 by_number[int(cells[0])] = Meaning(name, meaning, last)
     return by_number
 
 
 def read_named_meanings() -> dict[str, Meaning]:
-    """Read the manual's rows about faults without a number, by name."""
+    """Return the manual's rows about faults without a number, by fault name."""
     by_name: dict[str, Meaning] = {}
     if not os.path.isfile(REFUSALS_PATH):
         return by_name
@@ -222,13 +222,13 @@ def remove_markup(text: str) -> str:
 
 
 def make_cell_markup(text: str) -> Markup:
-    """Return a cell of the manual as HTML: text in backquotes as code, links as their text."""
+    """Return a cell of the manual as HTML: backquoted text as code, links as their text."""
     parts = re.sub(r"\[([^]]*)\]\([^)]*\)", r"\1", text).split("`")
     return join_markup(markup("<code>{}</code>", part) if at % 2 else part
                        for at, part in enumerate(parts))
 
 
 def make_number_link(line: str) -> Markup:
-    """Return a line `refused NUMBER Name PLACE` as HTML, with number and name as a link."""
+    """Return a line `refused NUMBER Name PLACE` as HTML, with a link on number and name."""
     _, number, name, *place = line.split(" ")
     return join_markup([markup('<a href="#n{}">{} {}</a>', number, number, name), *place], " ")

@@ -19,14 +19,14 @@ from .teletext import ACCENTS, BY_WORD, encode_line, decode_text
 
 GSI, TTI, TEXT = 1024, 128, 112  # sizes of the blocks and of a TTI block's text field
 USER_DATA, LAST_BLOCK = 0xFE, 0xFF  # extension block numbers (EBN)
-MAX_STL = GSI + TTI * 99_999 + 1  # `check` refuses a larger file
+MAX_STL = GSI + TTI * 99_999 + 1  # in bytes; `check` refuses a larger file
 UNUSED, NEW_LINE = b"\x8f", b"\x8a"
 LAST_CONTINUED = 0xEF  # the highest EBN of a block that is not the last of its subtitle
 
 
 class StoredSubtitle(NamedTuple):
-    """A subtitle as stored. `begin` and `end` are the four bytes of TCI and TCO; `text` is joined
-    from all of its blocks."""
+    """A subtitle as stored in a file. `begin` and `end` are the four bytes of TCI and TCO; `text`
+    is joined from all of its blocks."""
 
     number: int
     begin: bytes
@@ -37,8 +37,8 @@ class StoredSubtitle(NamedTuple):
 
 
 def read_stored_subtitles(data: bytes) -> Iterator[StoredSubtitle]:
-    """Yield the subtitles of a file, without comments and user data. Raise `Damaged` if a block
-    can't be read."""
+    """Yield the stored subtitles of a file, without comments and user data. Raise `Damaged` if a
+    block can't be read."""
     if len(data) < GSI or data[3:8] not in (b"STL25", b"STL30"):
         raise Damaged("not an EBU STL file: its GSI block is too short, or its DFC is not STL25.01")
     if data[3:8] == b"STL30":
@@ -74,13 +74,13 @@ def subtitle_times(subtitle: StoredSubtitle) -> tuple[int | None, int | None]:
 
 
 def read_stl(path: str) -> bytes:
-    """Return the bytes of a subtitle file, or of a pipe, up to the size that `check` accepts."""
+    """Read a subtitle file or a pipe, up to the maximum size that `check` accepts."""
     return read_first_bytes(path, MAX_STL, may_be_pipe=True)
 
 
 def read_until_damage(name: str, data: bytes) -> Iterator[StoredSubtitle]:
-    """Yield the subtitles before the first damaged block, and report the damage. Raise `Stop` if
-    there are none."""
+    """Yield the subtitles before the first damaged block, and report the damage. Raise `Stop` if no
+    subtitle comes before it."""
     is_empty = True
     try:
         for stored in read_stored_subtitles(data):
@@ -93,20 +93,20 @@ def read_until_damage(name: str, data: bytes) -> Iterator[StoredSubtitle]:
 
 
 def page_letter_codes(text: bytes, option: str) -> bytes:
-    """Return the codes of a text on a page, without spaces and characters that have no code."""
+    """Return the codes of a text on a page, omitting spaces and characters that have no code."""
     return bytes(code for code in encode_line(text, BY_WORD[option])
                  if code is not None and code > 0x20)
 
 
 # Texts of a GSI block (EBU Tech 3264).
 
-CODE_PAGE = slice(0, 3)  # CPN
-ORIGINAL, TRANSLATED = slice(16, 48), slice(80, 112)  # programme titles, OPT and TPT
+CODE_PAGE = slice(0, 3)  # code page number (CPN)
+ORIGINAL, TRANSLATED = slice(16, 48), slice(80, 112)  # programme titles (OPT, TPT)
 CODE_PAGES = {"437", "850", "860", "863", "865"}
 
 
 def read_titles(path: str) -> list[str]:
-    """Return the original and the translated programme title of a subtitle file, without empty and
+    """Return the original and the translated programme title of a subtitle file, omitting empty and
     equal titles."""
     block = read_first_bytes(path, GSI)
     number = block[CODE_PAGE].decode("latin-1")
@@ -120,7 +120,7 @@ def read_titles(path: str) -> list[str]:
     return titles
 
 
-# Subtitles as `show` prints them.
+# Subtitles in the output of `subttx show`.
 
 SHOW_LINE = re.compile(r"(?P<number>\d{5}) (?P<begin>[\d:]+) (?P<end>[\d:]+) vp (?P<row>\d+) "
                    r"jc (?P<justify>\d+) text (?P<text>-|[\da-f]+)")
@@ -152,8 +152,8 @@ def subtitle_name(position: int, number: int) -> str:
 
 
 def parse_subtitles(lines: Sequence[str]) -> list[Subtitle]:
-    """Parse the subtitles in the output of `show`, which has those before the fault if the file is
-    refused."""
+    """Parse the output of `show`. If the file is refused, the output has only the subtitles before
+    the fault."""
     subtitles = [parse_subtitle(index, line) for index, line in enumerate(lines[:-1], 1)]
     last = "".join(lines[-1:])
     fault = parse_fault_line(last)
@@ -174,7 +174,7 @@ def decode_subtitles(data: bytes) -> list[Subtitle]:
 
 
 def parse_subtitle(index: int, line: str) -> Subtitle:
-    """Parse a line of `show`."""
+    """Parse a line of the output of `show`."""
     match = SHOW_LINE.fullmatch(line)
     begin, end = (frame_of(match[name]) if match else None for name in ("begin", "end"))
     if not match or begin is None or end is None:
@@ -185,15 +185,14 @@ def parse_subtitle(index: int, line: str) -> Subtitle:
 
 
 class SubtitleList:
-    """Subtitles in order of time. Their places count from 0."""
+    """Subtitles sorted by time. Places in the list count from 0."""
 
     def __init__(self, subtitles: Iterable[Subtitle]) -> None:
         self.subtitles = list(subtitles)
         self.begins = [subtitle.begin for subtitle in self.subtitles]
 
     def find_place(self, frame: int) -> int:
-        """Return the place of the last subtitle that begins at or before a frame; -1 if none does.
-        """
+        """Return the place of the last subtitle that begins at or before a frame, or -1."""
         return bisect.bisect_right(self.begins, frame) - 1
 
     def count_begun(self, frame: int) -> tuple[int, bool]:
@@ -208,16 +207,16 @@ class SubtitleList:
         return self.subtitles[count - 1] if is_due else None
 
     def before(self, place: int) -> int:
-        """Return the TCO of the subtitle before a place, or 0."""
+        """Return the TCO of the subtitle before a place; 0 for the first place."""
         return self.subtitles[place - 1].end if place > 0 else 0
 
     def after(self, place: int) -> int:
-        """Return the TCI of the subtitle after a place, or the end of the day."""
+        """Return the TCI of the subtitle after a place; the end of the day for the last place."""
         is_last = place + 1 == len(self.subtitles)
         return FRAMES_OF_A_DAY if is_last else self.begins[place + 1]
 
     def find_nearest(self, places: Sequence[int], frame: int) -> int:
-        """Return the one of some places whose subtitle begins nearest to a frame."""
+        """Return the place among `places` whose subtitle begins nearest to a frame."""
         at = count_until(places, lambda place: self.begins[place] >= frame)
         return min(places[max(at - 1, 0):at + 1], key=lambda one: abs(self.begins[one] - frame))
 
@@ -231,7 +230,7 @@ class SubtitleList:
 
 # Subtitles of a file by block and by frame.
 
-COMMENT = 1  # CF
+COMMENT = 1  # value of the comment flag (CF) in a comment
 
 
 class NamedSubtitle(NamedTuple):
@@ -284,7 +283,7 @@ class SubtitleFile:
                              time_of_code(tti[9:13]))
 
     def is_outside(self, block: int) -> bool:
-        """Return whether a block's subtitle is outside the judged range."""
+        """Return whether the subtitle of a block is outside the judged range."""
         begin = frame_of_code(self.block(self.first_blocks[block])[5:9])
         return begin is not None and not self.between.has(begin)
 
@@ -293,15 +292,14 @@ class SubtitleFile:
         return len(self.first_blocks) - 1
 
     def count_ended(self) -> tuple[int, int]:
-        """Return how many subtitles have a last block: without and with comments."""
+        """Count the subtitles that have a last block: without comments, and with comments."""
         own = sum(1 for _ in self.list_last_blocks())
         lasts = sum(self.block(number)[3] == LAST_BLOCK for number in
                     range(1, len(self.first_blocks)))
         return own, lasts
 
     def find_previous_first(self, block: int) -> int | None:
-        """Return the first block of the subtitle before that of a block; `None` if there is none.
-        """
+        """Return the first block of the previous subtitle; `None` for the first subtitle."""
         at = bisect.bisect_left(self.blocks, self.first_blocks[block])
         return self.blocks[at - 1] if at else None
 
@@ -322,13 +320,13 @@ class SubtitleFile:
         return self.find_by_block(block) if end is not None and frame < end else None
 
     def text(self, block: int) -> bytes:
-        """Return the text of a subtitle, up to a block."""
+        """Return the text of a subtitle up to the given block."""
         blocks = (self.block(one) for one in range(self.first_blocks[block], block + 1))
         return b"".join(one[16:].split(UNUSED)[0] for one in blocks
                         if one[3] != USER_DATA and one[15] != COMMENT)
 
     def list_last_blocks(self) -> Iterator[int]:
-        """Yield the number of the last block of each subtitle."""
+        """Yield the block number of the last block of each subtitle."""
         for number in range(1, len(self.first_blocks)):
             tti = self.block(number)
             if tti[3] == LAST_BLOCK and tti[15] != COMMENT and not self.is_outside(number):

@@ -9,13 +9,13 @@ from typing import Iterator, NamedTuple
 # Bytes of Teletext packets (EN 300 706).
 
 CODE_WORDS = bytes.fromhex("1502495E6473382FD0C78C9BA1B6FDEA")  # Hamming 8/4 codes of 0 to F
-# The number that each byte encodes; `None` if more than one bit is wrong.
+# The number that each byte encodes (Hamming 8/4); `None` if more than one bit is wrong.
 NUMBER: list[int | None] = [None] * 256
 for number, word in enumerate(CODE_WORDS):
     for wrong in (0, 1, 2, 4, 8, 16, 32, 64, 128):
         NUMBER[word ^ wrong] = number
 
-# For each control bit C4 to C14: the index in a header's eight numbers, and the bit there.
+# For each control bit C4 to C14: the index of its number in a page header, and its bit there.
 CONTROL_BITS = {4: (3, 8), 5: (5, 4), 6: (5, 8), **{7 + bit: (6, 1 << bit) for bit in range(4)},
                 **{11 + bit: (7, 1 << bit) for bit in range(4)}}
 ERASE, NEWSFLASH, SUBTITLE, SUPPRESS, INHIBIT = 4, 5, 6, 7, 10
@@ -29,7 +29,7 @@ def is_odd(byte: int) -> bool:
 
 
 def has_bit(header: bytes, bit: int) -> bool:
-    """Return whether control bit 4 to 14 is set in a header's eight numbers."""
+    """Return whether control bit C4 to C14 is set in the eight numbers of a page header."""
     place, value = CONTROL_BITS[bit]
     return header[place] & value != 0
 
@@ -57,12 +57,12 @@ NO_LETTER = "\ufffd"
 
 
 def decode_byte(byte: int) -> str:
-    """Return the character of a byte; 24 is a dollar, as in the program."""
+    """Return the character of a byte. Byte 24 is a dollar sign, as in the program."""
     return chr(byte) if 0x20 <= byte <= 0x7E else UPPER.get(byte, NO_LETTER)
 
 
 def decode_text(text: bytes) -> str:
-    """Decode a text in code table 00, which has an accent before its letter."""
+    """Decode a text in code table 00, in which an accent comes before its letter."""
     decoded, at = "", 0
     while at < len(text):
         accent = ACCENTS.get(text[at], " ")
@@ -130,10 +130,10 @@ OPTIONS = (ENGLISH, GERMAN, SWEDISH, ITALIAN, FRENCH, SPANISH, CZECH)
 OPTION_WORDS = tuple(one.word for one in OPTIONS)
 BY_WORD = {one.word: one for one in OPTIONS}
 BY_BITS = {one.bits: one for one in OPTIONS}
-RESERVED = 7  # C12, C13 and C14 are set in no option of the default region
+RESERVED = 7  # value of C12 to C14 that no option of the default region uses
 # Languages in a PMT for which receivers use another region.
 OTHER_REGIONS = ("ara bul ell est gre heb hrv lit pol ron rum rus scc scr slv srp ukr").split()
-UNKNOWN_CHARACTER = "\u25a1"  # a character of an unknown option
+UNKNOWN_CHARACTER = "\u25a1"  # shown for a character of an unknown option
 ACCENT_BYTES = {byte for byte, mark in ACCENTS.items() if mark != " "}  # diacritical marks
 
 def option_for_language(language: bytes) -> NationalOption:
@@ -161,8 +161,8 @@ def option_cells(option: NationalOption) -> dict[bytes, int]:
 
 
 def split_cells(text: bytes, option: NationalOption) -> Iterator[tuple[int, int, int | None]]:
-    """Yield the offset, first byte and code of each character in a text; `None` if it has no code.
-    """
+    """Yield the offset, first byte and code of each character in a text. The code is `None` if the
+    option lacks the character."""
     own, at = option_cells(option), 0
     while at < len(text):
         size = 2 if text[at:at + 2] in own and text[at] in ACCENT_BYTES else 1
@@ -171,7 +171,7 @@ def split_cells(text: bytes, option: NationalOption) -> Iterator[tuple[int, int,
 
 
 def encode_line(text: bytes, option: NationalOption) -> list[int | None]:
-    """Return the code of each character in a line; `None` if it has no code."""
+    """Return the code of each character in a line; `None` for a character without a code."""
     return [cell for _, _, cell in split_cells(text, option)]
 
 
@@ -182,13 +182,13 @@ def has_characters(text: bytes, option: NationalOption) -> bool:
 
 
 def character_bytes(text: bytes, at: int) -> bytes:
-    """Return the byte at an offset; if it is an accent, also the letter after it."""
+    """Return the byte at an offset; for an accent, also the letter after it."""
     is_pair = text[at] in ACCENT_BYTES and text[at + 1:at + 2].isalpha()
     return text[at:at + 1 + is_pair]
 
 
 def find_options(letter: bytes) -> list[NationalOption]:
-    """Return the options that have a character."""
+    """Return the national options that have a character."""
     if len(letter) == 1 and letter[0] in COMMON:
         return list(OPTIONS)
     return [option for option in OPTIONS if letter in option_cells(option)]
@@ -203,7 +203,7 @@ def decode_character(letter: bytes) -> str | None:
 
 
 # Characters of codes 20 to 7F in each national option (EN 300 706, Latin G0).
-BLOCK = "\u25a0"  # code 7F
+BLOCK = "\u25a0"  # character of code 7F
 
 
 @functools.lru_cache(maxsize=None)
