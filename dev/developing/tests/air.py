@@ -93,7 +93,6 @@ class Air(Case):
         return made
 
     def write_schedule(self, *lines: str) -> None:
-        """Write a schedule."""
         self.write("schedule", "".join(f"{line}\n" for line in lines).encode())
 
     def put_segment(self, begin: float, end: float, data: bytes = b"", is_new: bool = False

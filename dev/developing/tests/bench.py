@@ -43,7 +43,6 @@ class Done(NamedTuple):
 
 class Bench:
     """Settings of a test run:
-
     the program, the folder of the tests, whether to measure speed or to update stored outputs, and
     which tests this machine skips.
     """
@@ -150,7 +149,6 @@ class Case(unittest.TestCase):
                     done.stderr.decode("utf-8", "surrogateescape").splitlines())
 
     def tool(self, name: str, *words: str, data: bytes | None = None) -> Done:
-        """Run one of the tools."""
         return self.call([tool_path(name), *words], data)
 
     def program(self, *words: str) -> tuple[int, list[str]]:
@@ -233,7 +231,6 @@ def import_script(name: str) -> Any:
 
 
 def example(name: str) -> str:
-    """Return the path of an example."""
     return os.path.join(EXAMPLES, name)
 
 

@@ -35,7 +35,6 @@ class LineRecorder(SilentPrinter):
 
 class JudgedPair(NamedTuple):
     """A judged pair:
-
     its verdict, printed lines, JSON result, the fault lists of its parts, and the files that
     printed commands may name.
     """

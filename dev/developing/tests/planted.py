@@ -34,7 +34,6 @@ SENTENCES = {
 
 class Inserter(NamedTuple):
     """How an inserter sends:
-
     possible delays of in-cues and out-cues in frames, frames between repeats, whether repeats keep
     the page, PES packets a frame, and which frames have none.
     """
@@ -73,7 +72,6 @@ INSERTERS = [Inserter(name, begins, ends, 12 if keeps else 25, keeps, each, is_l
 
 class Fault(NamedTuple):
     """A fault of the subtitle at a place:
-
     by how many frames, or swapped with which other subtitle.
     """
 
@@ -112,8 +110,6 @@ class Programme:
                  for _ in range(self.chance.choice((1, 1, 2)))]
         lines[0] = f"{at} {lines[0]}" if self.chance.randrange(10) else lines[0]
         return (NEW_LINE * 2).join(line.encode() for line in lines)
-
-    # The fault.
 
     def plant(self, kind: str) -> bool:
         """Plant a fault of a kind that exceeds the tolerance; return whether some subtitle has room
@@ -193,8 +189,6 @@ class Programme:
                 sent += [(frame * TICKS + TICKS // inserter.each * at, packets * (not at))
                          for at in range(inserter.each)]
         return sent
-
-    # The expected sentence.
 
     def is_named(self, sentence: str) -> bool:
         """Return whether a sentence names the subtitle and the kind of fault."""

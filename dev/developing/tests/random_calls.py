@@ -120,7 +120,6 @@ NAMED = {
 
 
 def run_named_call(name: str, program: str) -> CallOutput:
-    """Run a named call; return its output."""
     with in_folder(), contextlib.ExitStack() as stack:
         os.mkdir("in")
         for pair, stl, recording in PAIRS:

@@ -53,8 +53,6 @@ class Folder:
         found = self.chance.sample(OPTIONS, self.chance.choice((0, 0, 1, 1, 2)))
         return [word for one in found for word in one.split()]
 
-    # ---- input files
-
     def put_pair(self, name: str) -> None:
         """Add a pair, or half of one; it may have several recordings."""
         stl, recording = self.chance.choice(PAIRS)
@@ -120,8 +118,6 @@ class Folder:
         else:
             with open(path, "w", encoding="utf-8") as file:
                 file.write((json.dumps(OLD), "somebody's own", "{}")[kind - 2])
-
-    # ---- calls
 
     def call(self) -> CallOutput:
         """Make one more call; return its output, and the files that are new or changed."""

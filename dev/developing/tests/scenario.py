@@ -1,5 +1,4 @@
 """Random pairs, each made by a seed:
-
 a programme, its transmission and recording, its faults, and the options of a call.
 """
 from __future__ import annotations
@@ -124,8 +123,6 @@ class Scenario:
         with open(name, "wb") as file:
             file.write(data[:256] + code + data[264:] + blocks)
 
-    # The transmission and its faults.
-
     def scheduled(self, name: str, *words: str) -> Sent:
         """Return the transmission that `schedule` makes."""
         subprocess.run([self.program, "schedule", "sent.stl", name, "--every", str(self.every),
@@ -171,7 +168,6 @@ class Scenario:
 
     def split(self, sent: Sent, first: int, last: int, kind: int) -> Sent:
         """Split PES packets in two:
-
         the header first, the rest later; or delete their first or last packet.
         """
         later = self.chance.choice((TICKS, TICKS, TICKS // 2, 3 * TICKS))
@@ -246,8 +242,6 @@ class Scenario:
             return name
         start_feed(os.path.abspath("feed"), data)
         return "feed"
-
-    # The options.
 
     def call(self) -> list[str]:
         """Return the arguments of the call."""

@@ -184,7 +184,6 @@ class Programme(NamedTuple):
 
 def multiplex_programmes(programmes: Sequence[Programme], frames: int) -> Maker:
     """Make a stream of several programmes:
-
     for each frame a PCR, a picture, and the PES packets of Teletext up to that time.
     """
     maker, waiting = Maker([]), [{pid: [*pes] for pid, pes in one.pes.items()}
@@ -211,7 +210,6 @@ def multiplex_programmes(programmes: Sequence[Programme], frames: int) -> Maker:
 def multiplex_frames(pes: list[bytes], begin: int, count: int, rounds: int = 66,
               page: int = 0x88) -> Iterator[bytes]:
     """Yield a multiplex frame by frame:
-
     a PCR, the PES packets of Teletext, and 16 video packets in each of `rounds` (66 make 40
     Mbit/s).
     """
@@ -281,8 +279,6 @@ def filler(pid: int, counters: dict[int, int]) -> Packet:
 FILLERS = {pid: [Packet(pid, make_head(pid, 0, PAYLOAD | counter) + b"\x55" * (PACKET - 4))
                  for counter in range(16)] for pid in (VIDEO_PID, AUDIO_PID, NULL_PID)}
 
-
-# A multiplex from the first PES packet to the last, with a given shape.
 
 class Shape(NamedTuple):
     """A multiplex:
@@ -360,8 +356,6 @@ def delete_between(made: list[Packet], first: int, count: int) -> list[Packet]:
     own = [at for at, one in enumerate(made) if one.pid == TELETEXT_PID]
     return made[:own[first]] + made[own[first + count]:]
 
-
-# PES packets with only PCRs, on the PID that the PMT names or on others.
 
 OLD, NEW = TELETEXT_PID, 0x111
 # The PES packets, with PIDs, that replace a PES packet.

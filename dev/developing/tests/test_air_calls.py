@@ -208,7 +208,6 @@ class Calls(Feeds):
                                 stdout=subprocess.DEVNULL, stderr=subprocess.DEVNULL)
 
     def start_judge(self) -> subprocess.Popen[bytes]:
-        """Start the judge."""
         return self.start(subprocess.DEVNULL, *self.judge_command(
             "--margin", "120", "--pause", "60", "--every-seconds", "1")[1:])
 

@@ -40,7 +40,6 @@ def date(second: int) -> str:
 
 
 def random_day(chance: random.Random) -> Day:
-    """Return a random day."""
     lines, times, sent, at = list[str](), dict[str, int](), dict[str, Sent](), 200
     for number in range(5):
         at += chance.randint(40, 200)

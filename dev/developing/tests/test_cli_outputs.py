@@ -116,7 +116,6 @@ class Testcases(unittest.TestCase):
                     [{0: "system-out", 1: "failure", 2: "error"}[status]] * (verdict != "accepted")
                     for verdict, status in self.CASES[:count]])
 
-
     def test_has_name_time_and_first_lines(self) -> None:
         for verdict, status, tag in (("refused", 1, "failure"), ("not judged", 2, "error"),
                                      ("waived", 0, "system-out"), ("accepted", 0, None)):

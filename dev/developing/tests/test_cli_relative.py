@@ -63,8 +63,6 @@ class Clocks(Feeds):
             kinds[kind](f"{seed}, {kind}", chance, given)
         self.air(f"{seed}, air", chance) if seed % 3 == 0 else None
 
-    # The pairs.
-
     def make_pairs(self, chance: random.Random) -> dict[str, int]:
         """Write pairs into a folder; return the origin of each by its name."""
         shutil.rmtree(self.path("in"), ignore_errors=True)
@@ -96,8 +94,6 @@ class Clocks(Feeds):
         """Return the two files of a pair."""
         return [self.path(f"in/{one}") for one in sorted(os.listdir(self.path("in")), key=lambda
                 one: not one.endswith(".stl")) if one.startswith(f"{name}.")]
-
-    # The calls.
 
     def qc(self, *words: str) -> tuple[int, list[str]]:
         """Run qc in this process; return its status and output lines."""

@@ -41,7 +41,6 @@ class UnjudgedPairs(Case):
             self.write(name, b"1")
 
     def runner(self) -> PairRunner:
-        """Return a runner of pairs."""
         return PairRunner(CommandPaths("tools/qc", self.bench.program), self.path("temporary"),
                      self.path("out"), False)
 

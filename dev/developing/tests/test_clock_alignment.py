@@ -1,5 +1,4 @@
 """How cues agree with page changes:
-
 repeated pages, delays, drifts, repeated programmes, and PTS wraps.
 """
 from __future__ import annotations
@@ -29,9 +28,6 @@ from .parts import make_part
 from .transmissions import pes_file, delayed, write_programme, schedule_pages
 from .test_clock_delays import FIRST, evenly_spaced
 from .test_clock_properties import find_origin, packets_of, page_changes, random_programme
-
-
-# Cues, and pages that are erased and sent again.
 
 TEXT, OTHER = ((20, b"text"),), ((20, b"other"),)
 
@@ -80,7 +76,6 @@ class RepeatedPages(Case):
             self.must(f"{origin}, behind another", find_repeat(changes, 0, 5) == 3)
             self.must(f"{origin}, not blank", find_repeat(changes, 2, 5) is None)
 
-
     def test_counts_a_repeated_page_only_if_it_is_expected(self) -> None:
         for due, away in itertools.product(range(1, 9), repeat=2):
             cues = find_expected_cues([ExpectedSubtitle(100, 130, 1, b"text"),
@@ -95,9 +90,6 @@ class RepeatedPages(Case):
             self.must(f"{due} {away}", [*base.changes] == frames, base.changes)
             self.must("some", [*base.copy_between(cues, 100, 160).changes] == frames[1:-1])
 
-
-# Delays of cues: the clock found with and without known delays; a drifting clock; repeated
-# programmes.
 
 Inserter = Callable[[random.Random, bool], int]  # returns the delay of a begin or an end
 # Correct inserters, each with its tolerance: a frame for all rows or for each, none for an erasing
@@ -338,14 +330,11 @@ class JudgedPairs(Case):
                                                   "times"), one.said)
 
 
-# PTS wrap at 2^33 in each comparison and conversion.
-
 # The first PTS of a case: nothing, then values after which PTS wrap.
 SHIFTS = (0, CLOCK - 150 * TICKS, CLOCK - 10 * TICKS, CLOCK - TICKS // 2, CLOCK - 1, 5 * TICKS)
 
 
 def shift_pts(pts: int, shift: int) -> int:
-    """Return a shifted PTS."""
     return (pts + shift) % CLOCK
 
 

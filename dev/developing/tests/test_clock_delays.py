@@ -294,7 +294,6 @@ ENCODERS = {"mpeg2video": ["-bf", "2", "-g", "15"],
 
 def compare_with_ffprobe(case: Case, name: str, stl: str, data: bytes, is_closed: bool) -> None:
     """Compare the first picture of a stream with ffprobe:
-
     the one with the flag, or the smallest PTS if its group is closed or `survey` can't tell.
     """
     path = case.write("cut.ts", data)

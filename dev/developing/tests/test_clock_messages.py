@@ -25,9 +25,6 @@ from .streams import HEVC, H_264, MPEG_2
 from .parts import request_for
 from .transmissions import Sent, delayed, write_programme, schedule_pages
 
-
-# The lines about an origin: agreement of a part, delays, breaks.
-
 ORIGIN = CLOCK - 5 * TICKS
 
 
@@ -235,8 +232,6 @@ class OriginLines(unittest.TestCase):
             self.assertEqual((len(found), words in found), (20 + (left > 0), left > 0), found)
             self.assertTrue(found[-1].startswith(f"from 00:{count:02}:00:00"), found)
 
-
-# The first picture of a recording by the lines of `survey`, or why there is none.
 
 TELETEXT, VIDEO = 0x101, 0x200
 # Order of transmission of I B B P B B P B B, by frames.

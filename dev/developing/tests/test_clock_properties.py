@@ -32,7 +32,6 @@ def random_programme(chance: random.Random, count: int | None = None) -> list[Ex
 
 
 def page_changes(cues: Sequence[ExpectedCue], origin: int) -> list[Sending]:
-    """Return the page changes of cues, by an origin."""
     return [(origin + TICKS * cue.frame, cue.letters) for cue in cues]
 
 

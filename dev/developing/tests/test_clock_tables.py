@@ -1,5 +1,4 @@
 """Tables of decisions about a clock:
-
 time bases, agreement of cues, stretches, parts, and repeats.
 """
 from __future__ import annotations

@@ -388,7 +388,6 @@ class Signals(Case):
             self.must("nothing is left", os.listdir(self.folder) == ["file"],
                       os.listdir(self.folder))
 
-
     def test_removes_a_temporary_folder(self) -> None:
         for place in ("os.mkdir", "shutil.rmtree", ""):
             def interrupted(path: str, *words: Any, **more: Any) -> None:

@@ -184,11 +184,8 @@ def paces() -> Iterator[Recording]:
                     "--every", "40", "--no-complete", *(["--within", "1"] if each == 2 else [])])
 
 
-# Streams.
-
 class Service(NamedTuple):
     """A programme of a multiplex:
-
     its number, and PID, type and number of the pages that it announces.
     """
 
@@ -256,8 +253,6 @@ def services() -> Iterator[Recording]:
 
         yield Recording(PROGRAMMES, name, made, ["--every", "40", "--no-complete"])
 
-
-# Breaks, and repeated programmes.
 
 def broken(*lengths: int) -> Callable[[Case], tuple[str, str]]:
     """Return a programme in parts of twenty subtitles, with breaks of some frames."""
@@ -335,7 +330,6 @@ def airings() -> Iterator[Recording]:
 
 
 def recordings() -> list[Recording]:
-    """Return all recordings."""
     return [*inserters(), *paces(), *breaks(), *services(), *airings()]
 
 

@@ -15,9 +15,6 @@ from ..proved import Proved, compute_digest, parse_proved, format_proved
 from ..trial import ANOTHER_USER, Trial
 from .bench import Case, Done, SECONDS
 
-
-# ./subttx in a clone without a built program, and dev/release with a log of the prover.
-
 PACKET = ["packet", "00"]
 SOURCE = os.path.join("crates", "ttx_packet", "src", "parity.rt")
 VERSION = "a toolchain"
@@ -299,8 +296,6 @@ class Clones(Case):
         done = clone.release("--compare")
         self.must("damage", done.status == 1 and b"is not the program" in done.out, done)
 
-
-# ./subttx in a clone without a matching program: tools/prove with a fake prover.
 
 # It logs the crate, runs FIRST, and proves the crate if its dependencies are there, except FAILS.
 PROVER = """#!/bin/sh

@@ -1,5 +1,4 @@
 """The documents:
-
 links, quoted sources, lists of tools, man pages, and bodies without a contract.
 """
 from __future__ import annotations
@@ -98,8 +97,6 @@ class AllDocuments(Case):
                   and struct.unpack(">II", head[16:]) == (1000, 800), head)
         self.must("a new one", self.call([*tool, "--compare", made]).status == 0)
 
-
-# Man pages and completion by dev/make-pages.
 
 USAGE = """usage: subttx COMMAND FILES [options]
 
@@ -201,8 +198,6 @@ class GeneratedParts(unittest.TestCase):
             pages.replace_parts(text, {"two": ""})
 
 
-# The lists of tools and modules are complete, and have no other rows.
-
 # The folders whose scripts and packages CONTRIBUTING lists, and the section's heading.
 FOLDERS = [("tools", "subtitles", "Tools"),
            ("dev", None, "For developers of this repository")]
@@ -217,7 +212,6 @@ LINE = re.compile(r"^([a-z_]+) +\S", re.M)  # a line of the module list in __ini
 
 def entries(folder: str) -> list[str]:
     """Return the names in a folder as lists write them:
-
     modules without ending, folders with a slash.
     """
     return sorted(name.removesuffix(".py") + "/" * os.path.isdir(os.path.join(folder, name))

@@ -115,8 +115,6 @@ class Counts(unittest.TestCase):
                 self.assertEqual(read_counts(printed, status), wanted)
 
 
-# The second implementation: the status of a last line, and properties of recordings.
-
 SEEDS = 150
 
 
@@ -151,8 +149,6 @@ class RecordingProperties(unittest.TestCase):
                 most = max(most, row)
         self.assertEqual(most, MAX_UNSEEN_PACKETS - 1)
 
-
-# The selection of tests by name, or by module or script of the tools.
 
 class SelectedTests(Case):
     def test_finds_a_module_by_any_of_its_names(self) -> None:

@@ -13,9 +13,6 @@ from subtitles.common.program import TOP
 from subtitles.common.times import CLOCK, ticks_between, wrap_pts
 from .bench import Case, SECONDS
 
-
-# Packages import only those below them, and some tasks belong to one module.
-
 ORDER = ["common", "formats", "request", "stream", "clock", "recording", "judging", "results",
          "report", "cli", "air"]  # the packages of users, lowest first
 LONGEST_LINE = 100
@@ -202,8 +199,6 @@ class Imports(Case):
             self.must(f"from {first} to {second}", found == wanted, found)
 
 
-# Type hints of tools/, dev/ and bench/, by mypy --strict.
-
 TOOLS, DEV, BENCH = (os.path.join(TOP, name) for name in ("tools", "dev", "bench"))
 PACKAGES = [os.path.join(TOOLS, "subtitles"), os.path.join(DEV, "developing")]
 
@@ -238,7 +233,6 @@ def scripts() -> list[str]:
 @contextlib.contextmanager
 def cache_of(case: Case) -> Iterator[str]:
     """Return a folder for mypy's cache:
-
     one of the user that no other call uses, or an empty one in the gate.
     """
     home = os.environ.get("XDG_CACHE_HOME") or os.path.expanduser("~/.cache")

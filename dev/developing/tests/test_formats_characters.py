@@ -30,10 +30,6 @@ from .results import check_schema
 from .transmissions import packets
 from .test_cli_pairs import STORY, lines_of, qc
 
-
-# National options, compared with tables of an outside decoder; the advice for an unsupported
-# character.
-
 VECTORS = os.path.join(TOP, "dev", "vectors", "national")
 
 
@@ -296,8 +292,6 @@ class Transmissions(Case):
                 shown = receiver.row(found, one.row)[2:3] if found else character
                 self.must(f"{option.word} {one.text.hex()} {character}", shown == character, shown)
 
-
-# Character sets in packets X/28 and M/29, languages in a PMT, and the warnings about both.
 
 PAGE = (0, 0x88)
 ASKED = Request(stl="a.stl", recording="a.ts", page=PAGE, every=250, option="english", origin=0,

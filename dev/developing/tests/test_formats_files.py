@@ -189,7 +189,6 @@ class Files(Case):
                                                         0x7F <= byte
                                                  < 0xA0 else decode_text(bytes([byte]))), byte)
 
-
     def test_reads_one_byte_more_than_check_accepts(self) -> None:
         most, path = GSI + 128 * 99_999 + 1, self.path("long.stl")
         for more in (-1, 0, 1):

@@ -29,9 +29,6 @@ from .parts import request_for, markup_text, survey_packets, make_part, shell_sc
 from .transmissions import CLOSING, HEADER, PAGE, write_pipe, write_programme
 from .test_judging_verdicts import verdict_of
 
-
-# Answers of `check --all` line by line; advice for times at midnight; options of a list's line.
-
 FIRST, SECOND = "refused 72 Content frame 00:00:05:00 row 20 column 1", \
     "refused 38 UnitLength pes 7"
 GOOD, TRUSTED, ENDED = "accepted 10 frames 2 transmissions", \
@@ -207,8 +204,6 @@ class LineOptions(Case):
         for path in ("none.stl", self.folder, self.write("two.stl", b"850STL25.01100")):
             self.assertEqual(request_for(path, "a.ts", "--option", "auto").option, "english", path)
 
-
-# Cases that no other test covers.
 
 STORY = example("story.stl")
 

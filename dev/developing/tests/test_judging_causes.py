@@ -24,9 +24,6 @@ from .judged import JudgedPair, ProgrammeCase
 from .streams import Shape, make_multiplex, teletext_places
 from .transmissions import CLOSING, HEADER, PAGE, Sent, row_packet
 
-
-# Faults of the sender: another text in a pause, a header without rows.
-
 BEGIN = 900_000
 TIMES = [(BEGIN + 100 * at, BEGIN + 100 * at + 50) for at in range(6)]
 
@@ -133,7 +130,6 @@ END = 1600  # frames that are examined
 
 def page_of(name: str) -> Rows:
     """Return a page by its name:
-
     two lines of a subtitle; `-` is blank. After a comma, one line is replaced, moved, coloured or
     deleted.
     """
@@ -160,7 +156,6 @@ def steady(decoded: Timeline) -> None:
 
 def fake_answer(spans: list[tuple[int, int]], *edges: tuple[int, int]) -> Any:
     """Return what `check` reported:
-
     frames with refused content, and other faults by number and frame.
     """
     firsts = {number: parse_fault_line(f"refused {number} Edge frame {time_of(frame)}")

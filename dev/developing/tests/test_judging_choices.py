@@ -28,9 +28,6 @@ from .transmissions import (
     write_subtitle_file, subtitle_times)
 from .test_judging_reasons import KEEPING_HEADER
 
-
-# Each choice of qc is in the JSON result with the printed evidence; given values are not.
-
 TS = example("story.stl"), example("recording.ts")
 PES = example("story.stl"), example("story.pes")
 RECORDING_PID = "PID 0x101: page 888 has a header in 7 of 7 PES packets, on no other PID"
@@ -148,8 +145,6 @@ class Choices(Case):
             self.must(f"--{option}", f"`--{option}`" in rule, rule)
 
 
-# The requested page, and a PID that later carries something else.
-
 WORDS = "--origin", "0", "--every", "100"
 
 
@@ -217,8 +212,6 @@ class ForeignPackets(ProgrammeCase):
         self.must("nothing", found.word == "not judged" and
                   "no PES packets of private_stream_1" in found.told[0], found.told)
 
-
-# --measure: proposals for correct recordings, and what is never proposed.
 
 FIRST, EACH, LASTS = 900_000, 100, 60  # frames: first TCI, from one to the next, length of each
 LINES = ("Good evening.", "Here", "is the news of today", "Thank you, Anne.", "Yes", "No no no")

@@ -268,6 +268,7 @@ class ProgramCalls(Case):
                           f"{''.join(lines[-1:])}", reason.reason)
             self.must(f"{lines} {status}", found == (lines if is_right else None), found)
 
+
 class Versions(Case):
     def test_finds_the_prover_line_of_this_program(self) -> None:
         os.makedirs(self.path("top/bin"))

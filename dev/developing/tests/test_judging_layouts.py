@@ -27,9 +27,6 @@ from .parts import decode_packets
 from .transmissions import CLOSING, HEADER, Sent, pes_file, row_packet, schedule_pages
 from .test_stream_layouts import HOUSES, line
 
-
-# Recordings with another layout, and files of open subtitles.
-
 FIRST, EACH, LASTS = 3000, 60, 45  # frames: first TCI, from one to the next, length of each
 DSC = slice(11, 12)
 FAULTS = [
@@ -173,7 +170,6 @@ Said = tuple[bytes, int]  # a text with its justification code
 
 def altered(printed: Said, kind: int) -> Said:
     """Return the file's text if this text is transmitted:
-
     with more codes than an inserter draws, or other characters.
     """
     text, justify = printed
@@ -185,7 +181,6 @@ def altered(printed: Said, kind: int) -> Said:
 
 class Programme(NamedTuple):
     """A pair of a seed:
-
     the file's texts, the transmitted texts and their layout, how PES packets come and how many are
     lost where, the kind of recording, and whether a wrong page was sent in the loss.
     """
@@ -223,7 +218,6 @@ class Programme(NamedTuple):
 
 
 def programme_of(seed: int) -> Programme:
-    """Return the programme of a seed."""
     some = random.Random(seed)
     has_codes, leaves_room, text = some.choice(HOUSES)
     between = b"\x8a\x8a" if leaves_room else b"\x8a"
@@ -316,8 +310,6 @@ class RandomProgrammes(Case):
 
 
 def test_of(seed: int) -> Callable[[RandomProgrammes], None]:
-    """Return the test of a seed."""
-
     def test(self: RandomProgrammes) -> None:
         one, judged = judge(self, seed)
         self.must(f"seed {seed}", is_correct(one, judged), (one, judged.said))

@@ -1,5 +1,4 @@
 """A wrong page within a loss is never accepted:
-
 the pace reveals the loss, or a note says that none was measured.
 """
 from __future__ import annotations

@@ -1,5 +1,4 @@
 """Pairs judged from the recording to the verdict:
-
 unreadable packets, losses, and the sentences about them.
 """
 from __future__ import annotations

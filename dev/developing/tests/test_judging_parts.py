@@ -201,8 +201,6 @@ class SeveralParts(ProgrammeCase):
             self.must(count, judge_files(self, self.stl, whole, "--breaks", count).word == word)
 
 
-# Correct transmissions that take several frames.
-
 def in_fields(sent: Sent) -> Sent:
     """Send the header in the first field of a frame and the rows in the second."""
     return [one for pts, some in sent for one in ((pts, some[:1]), (pts + TICKS // 2, some[1:]))]

@@ -32,8 +32,6 @@ from .transmissions import (
     subtitle_times)
 
 
-# The reported reason is the sender's fault.
-
 WORDS = "--every", "100"
 OTHER_PAGE = make_packet(0, 0, [0, 0, 0, 8, 0, 0, 0, 0], b" " * 32)  # a header of page 800
 
@@ -193,8 +191,6 @@ class Reasons(ProgrammeCase):
                          "the PCR; the counter shows 3 of them, 4 TS packets scrambled")
 
 
-# Headers that keep the page: their descriptions, and pairs with such repeats.
-
 NUMBERS = bytes([8, 8, 0, 8, 0, 8, 1, 0])  # of HEADER
 KEEPS = bytes([8, 8, 0, 0, 0, 8, 1, 0])
 KEEPING_HEADER = make_packet(0, 0, KEEPS, b" " * 32)
@@ -209,7 +205,6 @@ def of_subcode(header: bytes, digit: int) -> bytes:
 
 def numbers(**places: int) -> bytes:
     """Return the numbers of a header that keeps the page, some of them changed (`p5`:
-
     the fifth).
     """
     made = bytearray(KEEPS)
@@ -382,7 +377,6 @@ class MissingRows(Case):
             self.must(f"in two, {within}", namer.list_omitted_rows(25) == wanted,
                       namer.list_omitted_rows(25))
 
-
     def test_an_early_header_without_rows_erases_nothing(self) -> None:
         one, faulty = Subtitle(1, 1, 25, 100, 20, 2, b"1"), FaultyFrames()
         for frame, name, words in ((0, "unknown", f"it is missing at {time_of(25)}"),
@@ -398,7 +392,6 @@ class MissingRows(Case):
 
 def with_keeping_repeats(sent: Sent, way: str = "", frames: int = 0) -> Sent:
     """Use headers that keep the page for repeats:
-
     completely, with a missing row, with another subcode, or with late rows.
     """
     made: Sent = []

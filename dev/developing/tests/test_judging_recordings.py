@@ -1,5 +1,4 @@
 """Judged files of PES packets, transport streams and pipes:
-
 warnings, stored copies, missing and foreign data.
 """
 from __future__ import annotations

@@ -39,10 +39,6 @@ from .test_judging_pairs import UNREAD, broken
 from .test_judging_reasons import KEEPING_HEADER
 from .test_judging_verdicts import verdict_of
 
-
-# Correct subtitles are judged although others are refused. An outdated program only refuses the
-# file.
-
 BAD = b"\xe6: no letter"
 CURE = "replace it (at level 1 it needs another region, or packets X/26, which are refused as 70)"
 WORDS = "--origin", "0", "--every", "100"
@@ -284,7 +280,6 @@ class ExpectedPages(unittest.TestCase):
             ({72, 60}, False), ({57, 78, 60}, True)]
         for numbers, wanted in rows:
             self.assertEqual(has_valid_subtitles(numbers), wanted, numbers)
-
 
     def test_expects_a_blank_page_between_subtitles(self) -> None:
         for gap, option in itertools.product(range(4), ("english", "german")):

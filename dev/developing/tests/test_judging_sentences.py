@@ -35,9 +35,6 @@ from .transmissions import (
 from .test_formats_characters import ANY_SUBCODE, CHARACTER, LEVEL_1, Receiver, TEXT_AT
 from .test_judging_faults import cause, causes_of
 
-
-# The sentence about a verdict, and about its first refused header (67).
-
 ADD = f"was not checked: {clock_advice(False)}"
 OF_PACKETS = {3, 4}  # refusals of `normal` that `check` does not have
 VERB = re.compile(r"\b(is|are|has|have|was|were|does|ends|comes|begins?|differs|fall|appeared|"
@@ -146,8 +143,6 @@ class Sentences(unittest.TestCase):
                     self.assertRegex(words, VERB)
                     self.assertRegex(words, r"^(subtitle 3 at \d\d:\d\d:\d\d:\d\d,? |2 of )")
 
-
-# What leads: faults that a viewer sees, in all outputs; and an empty range.
 
 BEGIN = 900_000
 TIMES = [(BEGIN + 50 * at, BEGIN + 50 * at + 40) for at in range(6)]
@@ -313,8 +308,6 @@ class EmptyRanges(ProgrammeCase):
                 self.must(f"{pes} {words}", (printed in judged.told) == is_none and
                           (judged.word == "not judged") >= is_none, judged.told)
 
-
-# Rows that no receiver or only some show: as a table, compared with libzvbi, and judged.
 
 NO_BOX = 'no receiver shows "Hi", which is outside of a box'
 ALIKE = 'no receiver shows "Hi", which has the colour of its background'

@@ -25,9 +25,6 @@ from subtitles.judging.status import (
 from .bench import Case
 from .parts import make_answer, make_part
 
-
-# Status 0 to 3: all combinations that decide it.
-
 ERROR, WARNING, NUMBER = 72, 67, 38  # of faults; the file below makes the second a warning
 ENDS_READING, LOST_PACKETS, SILENT = (30, 31, 32, 44), 45, 79
 RIGHT = {
@@ -259,8 +256,6 @@ class Severities(unittest.TestCase):
                 severity_of("", line)
 
 
-# Which fault leads: by rank, then by position.
-
 BEGIN, CONTENT, END = "refused 63 Begin frame 10:00:00:00", \
     "refused 72 Content frame 10:00:01:00 row 22 column 3", "refused 74 Late frame 10:00:09:00"
 OPEN, CONTROL = "refused 77 Incomplete frame 10:00:02:00", \
@@ -372,8 +367,6 @@ class LeadingFaults(Case):
         self.must("the fault that stands then", lead and lead.fault.line == at(1), lead)
         self.must("no cause", find_worst_cause([]) is None)
 
-
-# Lines of `check --all` and of `show`.
 
 FIRST = "00001 00:00:01:00 00:00:02:00 vp 20 jc 2 text 41"
 SECOND_LINE = "00002 00:00:02:00 00:00:04:00 vp 22 jc 1 text -"

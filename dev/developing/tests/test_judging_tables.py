@@ -47,9 +47,6 @@ from .transmissions import CLOSING, HEADER, PAGE
 from .test_formats_characters import character_set_packet
 
 
-# Notices about a recording, PTS off their frames, the first picture.
-
-
 def said(warned: Iterable[Notice]) -> list[tuple[str, str, str | None]]:
     return [(one.kind, one.line, one.time) for one in warned]
 
@@ -200,6 +197,7 @@ class Notices(Case):
             self.assertEqual((len(found), words in "".join(found)), (bool(words), True),
                              (step, every))
 
+
 class FrameGrids(Case):
     def test_measures_how_far_pts_are_off_their_frames(self) -> None:
         for origin in (0, CLOCK - 3 * TICKS):
@@ -229,9 +227,6 @@ class FrameGrids(Case):
         short = request_for(self.write("two.stl", data[:260]), "one.ts", "--start", "tcp")
         with self.assertRaises(Unclear):
             read_start_frame(short)
-
-
-# Names of files, calls, differences of pages.
 
 
 def page_with(*rows: tuple[int, bytes]) -> tuple[bytes, ...]:

@@ -1,5 +1,4 @@
 """A page that the PMT announces but that is never sent:
-
 refused, or not judged if it is unclear whether it was expected.
 """
 from __future__ import annotations
@@ -37,7 +36,6 @@ def announcements(*lines: str) -> list[Announcement]:
 
 
 def pcr_at(seconds: float | None) -> int | None:
-    """Return a PCR."""
     return None if seconds is None else int(seconds * SECOND)
 
 

@@ -40,8 +40,6 @@ def each_frame(count: int, first: int = FIRST) -> list[bytes]:
     return [make_pes_packet((first + TICKS * frame) % CLOCK, [CLOSING]) for frame in range(count)]
 
 
-# `lead` lines: the distance from a picture's PTS to the PTS of the Teletext after it.
-
 def lead(frame: int, ticks: int = 0, pid: int = TELETEXT_PID, video: int = VIDEO_PID,
          number: int | None = None, first: int = FIRST) -> str:
     """Return the expected `lead` line for a PES packet sent after the picture of its frame."""
@@ -131,8 +129,6 @@ class LeadLines(Case):
             self.check(name, self.made_of(*several), wanted)
 
 
-# `video`, `picture`, `group` and `pictures` lines of a video with thirty pictures.
-
 def pictures(flagged: Sequence[int], lost: Sequence[int] = (), scrambled: Sequence[int] = (),
              wrong: Sequence[int] = (), twice: Sequence[int] = ()) -> bytes:
     """Return a video stream in which the `flagged` pictures have a random_access_indicator, and
@@ -172,7 +168,6 @@ class PictureLines(Case):
         for number, (wanted, data) in enumerate(rows):
             lines = lines_of_kinds(self, data, "pictures")
             self.must(f"{number}: {wanted}", lines == [f"pictures {VIDEO_PID} {wanted}"], lines)
-
 
     def test_counts_a_packet_sent_twice_once(self) -> None:
         kinds = "video", "picture", "group", "pictures"
@@ -260,8 +255,6 @@ class PictureLines(Case):
                 self.check(f"{counter} {name}", self.lines_of(*first, *made)[-1],
                            f"pictures {VIDEO_PID} {wanted} 0 0 1")
 
-
-# Lines about the PAT, the PMT, and PIDs outside of them.
 
 class Named(NamedTuple):
     """The components of a PMT, or PES packets on their PIDs, with the expected lines."""
@@ -392,8 +385,6 @@ class TableLines(Case):
                 f"{5 + (not missing) * len(parts)} 0 0 0 {FIRST + 5 * TICKS}"] * is_followed)
 
 
-# `clock`, `pcr` and `ahead` lines.
-
 def with_pcr(intervals: Iterable[tuple[int, int]], behind: int = 1) -> bytes:
     """Return a stream with PCRs between two PES packets of Teletext.
 
@@ -492,8 +483,6 @@ class ClockLines(Case):
                 wanted = [f"ahead {TELETEXT_PID} {LAST} {LAST - FIRST - TICKS * 20}"]
                 self.must(f"{usual} {since}", lines == wanted[:since <= most], lines)
 
-
-# `pes` lines.
 
 def of_pes(several: Iterable[bytes]) -> bytes:
     """Return a transport stream with each PES packet in one TS packet."""
@@ -619,8 +608,6 @@ class PesLines(Case):
                 f"pes 0 {run}", *["damaged 0 1500 cut"][:cut], f"end 0 1500 0 0 0 0 0 {last}",
                 "over 0 0"], lines)
 
-
-# The complete output for short recordings.
 
 FRAMES = each_frame(3)
 GAP_MARKER = b"\0\0\1\xbd\0\xb2" + b"\xff" * 178
@@ -775,8 +762,6 @@ class Listings(Case):
             self.check(name, self.lines_of(data), wanted)
 
 
-# How the tools read the output.
-
 class SurveyAnswers(Case):
     def test_accepts_a_last_line_only_with_its_status(self) -> None:
         begin, over = f"survey {VERSION}", "over 0 9"
@@ -793,7 +778,6 @@ class SurveyAnswers(Case):
             else:
                 with self.subTest(why), self.assertRaisesRegex(ProgramInterrupted, f": {why}$"):
                     received.refuse(status)
-
 
     def test_reads_each_kind_of_line(self) -> None:
         def on_5(received: Survey) -> Packets:

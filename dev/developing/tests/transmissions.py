@@ -30,8 +30,6 @@ def row_packet(number: int, text: bytes) -> bytes:
     return make_packet(0, number, (), b"\x0b\x0b" + text.ljust(38))
 
 
-# Write subtitle files, and transmit them with `schedule`.
-
 def write_subtitle_file(case: Case, subtitles: Iterable[Shown], name: str = "one.stl",
                         first: int = 1,
                   row: int = 22, justify: int = 2, language: bytes = b"09") -> str:
@@ -102,8 +100,6 @@ def with_new_pts(data: bytes, new_pts: Callable[[int, int], int]) -> bytes:
     return b"".join(one[:9] + encode_pts(new_pts(number, decode_pts(one)) % CLOCK) + one[14:]
                     for number, one in enumerate(packets(data)))
 
-
-# Programmes with evenly spaced subtitles, with delays or pauses.
 
 EACH, LASTS = 100, 60  # distance between TCIs, and subtitle duration, in frames
 ORIGIN = 20_000 * TICKS + 7
