@@ -8,21 +8,21 @@ prover        the toolchain's prover
 sizes         lines of the crates by kind
 definitions   the definitions of specs/, and the dependencies of names and clauses
 sources       the names that a file of specs/, proofs/ or src/ defines
-graph         the uses of these names, and the promises that they serve
-signs         the symbols of antt and their meanings
+graph         the uses of these names, and the promises that depend on them
+signs         the symbols of definitions and their meanings
 promises      the index of clauses in CLAUSES
-cited         names that documents cite
+cited         names and numbers in the documents
 shown         the command lines of documents, with the output shown there
 edits         mutants of the crates
 bugs          mutants of the tools: small mistakes, made in the syntax tree
-planting      tests of a function with a mistake planted in it
+planting      tests of a function into which a mistake was inserted
 looks         checks of reports in a browser
 compiled      the tools, compiled once for many test calls
 pes           Teletext packets and their PES packets
 stl           blocks of subtitle files
 multiplex     transport streams
-trial         runs with a failing call, and their requirements
-trial_inputs  the commands of such runs, and their input files
+trial         runs of the program in which a system call fails
+trial_inputs  the commands and input files of these runs
 trial_memory  runs with little memory
 every_place   the second implementation; on purpose it shares only codes, times and layouts
 surveying     the second implementation of `survey`, written from its manual page
@@ -43,7 +43,7 @@ sys.path.insert(1, TOOLS)  # after the script's own folder
 
 
 def read_counts(said: str, status: int) -> tuple[int, int] | None:
-    """Return the counts of a script's last line, `N passed, M failed`.
+    """Return the numbers in a script's last line, `N passed, M failed`.
 
     Return `None` if there is no such line, or if the exit status contradicts it.
     """

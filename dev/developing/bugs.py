@@ -5,8 +5,8 @@ import ast
 from types import CodeType
 from typing import Any, Callable, Iterator, NamedTuple
 
-MODULE = "<module>"  # name for the code outside of functions
-LONG_TABLE = 12  # largest number of elements in a table whose numbers are changed
+MODULE = "<module>"  # function name of code outside functions
+LONG_TABLE = 12  # longest table, in elements, whose numbers are changed
 OPERATORS = ((ast.Lt, ast.LtE), (ast.Gt, ast.GtE), (ast.Eq, ast.NotEq), (ast.In, ast.NotIn),
              (ast.Is, ast.IsNot), (ast.And, ast.Or), (ast.Add, ast.Sub))
 OPPOSITE_OPERATORS: dict[type[ast.AST], type[Any]] = {
@@ -17,8 +17,7 @@ Changes = Iterator[tuple[str, ast.AST]]
 
 
 class Bug(NamedTuple):
-    """A bug: its line and function, its kind, the old and new code, and the module's text with it.
-    """
+    """A mutant: its line, function and kind, the old and the new code, and the complete module."""
 
     line: int
     function: str
@@ -33,7 +32,7 @@ def make_constant(value: object) -> ast.Constant:
 
 
 def replace_part(node: ast.AST, name: str, value: object) -> ast.AST:
-    """Return a copy of a syntax node in which one field is replaced."""
+    """Return a copy of a syntax node with a new value for one field."""
     parts = {field: getattr(node, field, None) for field in node._fields}
     return ast.copy_location(type(node)(**{**parts, name: value}), node)
 
@@ -126,7 +125,7 @@ def change_loop(node: Any) -> Changes:
 
 
 def change_choice(node: Any) -> Changes:
-    is_of_types = ast.unparse(node.test) == "TYPE_CHECKING"  # never true at run time
+    is_of_types = ast.unparse(node.test) == "TYPE_CHECKING"  # always false at run time
     for value in () if is_of_types else (True, False):
         yield (f"condition made {value}".lower(),
                replace_part(node, "test", make_constant(value)))
@@ -155,12 +154,12 @@ RULES: dict[type[ast.AST], Callable[[Any], Changes]] = {
     ast.Expr: change_statement,
     ast.Assign: change_statement, ast.AugAssign: change_statement, ast.Break: change_jump,
     ast.Continue: change_jump}
-SKIPPED = ("annotation", "returns", "decorator_list", "exc", "cause", "msg")  # node fields
+SKIPPED = ("annotation", "returns", "decorator_list", "exc", "cause", "msg")  # skipped fields
 
 
 def find_places(node: ast.AST, names: str = "", inside: str = MODULE
                 ) -> Iterator[tuple[ast.AST, str, int | None, str]]:
-    """Yield each place for a bug: a node, one of its fields, an index in it, and the function.
+    """Yield each place where a mutant can differ: a node, its field, an index, and the function.
 
     Type hints, raised exceptions and constant text are skipped.
     """
@@ -176,7 +175,7 @@ def find_places(node: ast.AST, names: str = "", inside: str = MODULE
             is_function = isinstance(child, ast.FunctionDef)
             name_inside = f"{names}.{getattr(child, 'name')}".lstrip(".") \
                 if is_function or isinstance(child, ast.ClassDef) else names
-            is_default = isinstance(child, ast.arguments)  # evaluated outside of the function
+            is_default = isinstance(child, ast.arguments)  # evaluated in the enclosing scope
             function = name_inside if is_function else MODULE if is_default else inside
             yield from find_places(child, name_inside, function)
 
@@ -189,7 +188,7 @@ def set_part(node: ast.AST, name: str, at: int | None, new: ast.AST) -> None:
 
 
 def list_nested_codes(code: CodeType) -> Iterator[CodeType]:
-    """Yield a code object and the code objects of all functions and classes inside it."""
+    """Yield a code object and all code objects nested in it."""
     yield code
     for constant_value in code.co_consts:
         if isinstance(constant_value, CodeType):
@@ -197,7 +196,7 @@ def list_nested_codes(code: CodeType) -> Iterator[CodeType]:
 
 
 def compile_comparable(text: str) -> list[tuple[bytes, str]] | None:
-    """Compile source text to a list that can be compared; return `None` for invalid source."""
+    """Compile source text to a list that can be compared. Return `None` if the text is invalid."""
     try:
         made = list_nested_codes(compile(text, "", "exec"))
         return [(code.co_code, repr([value for value in code.co_consts
@@ -213,7 +212,7 @@ def shorten(node: ast.AST) -> str:
 
 
 def make_bugs(text: str, interval: int = 1, at: int = 0) -> Iterator[Bug]:
-    """Yield the bugs that change a module's code: every `interval`th, from index `at` on."""
+    """Yield the mutants whose code differs: every `interval`th mutant, starting at index `at`."""
     tree = ast.parse(text)
     seen = [compile_comparable(ast.unparse(tree)), None]
     count = 0

@@ -15,22 +15,22 @@ from .definitions import Library, count_lines_to_read
 from .promises import ROW as INDEX, find_index
 from .proved import parse_proved
 
-# The checked documents, and how the checked lines of each begin.
+# The checked documents. If a prefix is given, only lines with this prefix are checked.
 DOCUMENTS = {"docs/HEADLINE.md": "", "docs/ASSURANCE.md": "", "docs/CLAUSES.md": "",
              "docs/DECISIONS.md": "", "docs/GLOSSARY.md": "",
              "docs/ARCHITECTURE.md": "|"}
-# A row of the table about lines to be read: a promise, its name, and the counts.
+# A table row with the name of a promise and the size of the definitions to be read for it.
 ROW = re.compile(r"^\| (.*) \| `(\S+)` \| (\d+) \| (\d+) \|$", re.M)
-# The largest allowed number of lines to be read for each of these promises.
+# The maximum number of lines to be read for each promise.
 MAX_LINES = {"run_in_memory.headline": 450, "run_in_memory.acceptance": 800}
-# The number of lines to be read in README.
+# Patterns that find the number of lines to be read in README.
 IN_README = {"run_in_memory.headline": re.compile(r"\[(\d+)\s+lines\]")}
 NUMBERS = re.compile(r"^## The proof in numbers$.*?(?=^## )", re.M | re.S)
-NUMBER = re.compile(r"^\| (.*) \| ([\d,]+) \|$", re.M)  # a table row with a count
-PARTS = ("src", "specs", "must-fail", "release-edits")  # folders of a crate whose words are names
+NUMBER = re.compile(r"^\| (.*) \| ([\d,]+) \|$", re.M)  # a table row with a number
+PARTS = ("src", "specs", "must-fail", "release-edits")  # searched folders of a crate
 WRITTEN_BY_GATE = ("out", ".git", "__pycache__")
 TOOLS = ("tools", "dev")
-MADE = ("out/", "dist/")  # files that the gate and dev/release write
+MADE = ("out/", "dist/")  # folders of built files
 BLOCK = re.compile(r"^```.*?^```$", re.M | re.S)
 QUOTED = re.compile(r"(?<!`)`([^`]+)`(?!`)")
 PATH = re.compile(r"[\w.-]+(?:/[\w.-]+)+/?|[\w-]+/")
@@ -50,7 +50,7 @@ class SourceNames:
                 self.add_path(top, os.path.relpath(os.path.join(place, name), top))
 
     def add_path(self, top: str, path: str) -> None:
-        """Add a file or folder: its paths from the top and from its crate, and the words in it."""
+        """Add a file or folder: its paths below the top and below its crate, and its words."""
         parts = path.split(os.sep)
         for start in {0, *((1, 2) if parts[0] == "crates" else ())}:
             self.paths |= {"/".join(parts[start:]), os.path.splitext("/".join(parts[start:]))[0]}
@@ -61,7 +61,7 @@ class SourceNames:
             self.read(os.path.join(top, path))
 
     def read(self, path: str) -> None:
-        """Add the words of a file without comments; of a mutant add only the file name."""
+        """Add the words of a file, except comments. For a mutant, add only the file name."""
         ending = os.path.splitext(path)[1]
         if ending != ".edit":
             with open(path, encoding="utf-8", errors="replace") as file:
@@ -72,8 +72,8 @@ class SourceNames:
     def find_missing_names(self, quoted: str) -> list[str]:
         """Return the names in a quoted text that do not occur in the sources.
 
-        A word in capitals in a path matches any name. A word before `=`, as in a line of the
-        prover, is not checked.
+        An uppercase word in a path matches any name. A word before `=`, as in the prover's output,
+        is not checked.
         """
         found: list[str] = []
         for token in quoted.split():
@@ -92,14 +92,14 @@ class SourceNames:
 
 
 def find_unknown_names(top: str) -> dict[str, list[str]]:
-    """Return `DOCUMENT:LINE: NAME` for each quoted name that no source has, by document."""
+    """Return `DOCUMENT:LINE: NAME` for each quoted name that is not in the sources, by document."""
     sources = SourceNames(top)
     found: dict[str, list[str]] = {}
     for name, start in DOCUMENTS.items():
         with open(os.path.join(top, name), encoding="utf-8") as file:
             text = file.read()
         text = BLOCK.sub(lambda block: "\n" * block[0].count("\n"), text)
-        index = find_index(text)  # another test checks the clauses in it
+        index = find_index(text)  # another test checks the clauses in the index
         text = text.replace(index, INDEX.sub(lambda row: row[0].replace(row[2], ""), index))
         if start:
             text = "\n".join(line if line.startswith(start) else "" for line in text.split("\n"))
@@ -110,7 +110,7 @@ def find_unknown_names(top: str) -> dict[str, list[str]]:
 
 
 def correct_count_rows(top: str) -> Iterator[tuple[str, str]]:
-    """Yield each row about lines to be read in ASSURANCE, and the correct row."""
+    """Yield each row of ASSURANCE that counts lines to be read, and the corrected row."""
     with open(os.path.join(top, "docs", "ASSURANCE.md"), encoding="utf-8") as file:
         rows, library = list(ROW.finditer(file.read())), Library(top)
     for row in rows:
@@ -128,7 +128,7 @@ def correct_readme_counts(top: str) -> Iterator[tuple[str, str]]:
 
 
 def find_long_readings(top: str, most_lines: Mapping[str, int]) -> Iterator[Optional[str]]:
-    """Yield for each promise a message if it needs more lines than allowed, else `None`."""
+    """Yield for each promise a message if it needs more than the allowed lines, else `None`."""
     library = Library(top)
     for name, most in most_lines.items():
         lines = count_lines_to_read(*library.list_reading(name))[1]
@@ -137,7 +137,7 @@ def find_long_readings(top: str, most_lines: Mapping[str, int]) -> Iterator[Opti
 
 
 def count_proof_numbers(top: str) -> list[int]:
-    """Count the numbers in ASSURANCE's table about the proof, in the order of its rows."""
+    """Return the values for ASSURANCE's table of proof numbers, in the order of its rows."""
     def files(*names: str) -> list[str]:
         return glob.glob(os.path.join(glob.escape(top), *names), recursive=True)
 
@@ -156,7 +156,7 @@ def count_proof_numbers(top: str) -> list[int]:
 
 
 def correct_number_rows(top: str) -> Iterator[tuple[str, str]]:
-    """Yield each row of ASSURANCE's table about the proof, and the correct row."""
+    """Yield each row of ASSURANCE's table of proof numbers, and the corrected row."""
     found = NUMBERS.search(read(os.path.join(top, "docs", "ASSURANCE.md")) or "")
     rows, numbers = list(NUMBER.finditer(found[0] if found else "")), count_proof_numbers(top)
     assert len(rows) == len(numbers), f"{len(rows)} rows of numbers in docs/ASSURANCE.md"

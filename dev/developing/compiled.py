@@ -22,13 +22,13 @@ for module in pkgutil.walk_packages(subtitles.__path__, "subtitles."):
 
 
 def compile_in_place(folder: str) -> None:
-    """Compile the modules of a folder in place, for calls of its copies."""
+    """Compile the modules of a folder. Copies of the folder can use the result."""
     subprocess.run([sys.executable, "-m", "compileall", "-q", folder], check=False,
                    env=make_plain_environment())
 
 
 def share_compiled(folder: str) -> None:
-    """Let a copy of the tools use the compiled modules; its files must have the same times."""
+    """Let a copy of the tools use the compiled modules. The copied files must keep their times."""
     if PREFIX in os.environ:
         place = os.environ[PREFIX] + os.path.realpath(folder)
         os.makedirs(os.path.dirname(place), exist_ok=True)
@@ -42,9 +42,9 @@ def make_plain_environment() -> dict[str, str]:
 
 @contextlib.contextmanager
 def use_compiled_tools() -> Iterator[None]:
-    """Let calls inside this context use modules compiled into a temporary folder.
+    """Let calls inside this context use modules that are compiled into a temporary folder.
 
-    Python compiles a module again if it has changed since.
+    Python compiles a module again if its source has changed.
     """
     if PREFIX in os.environ:
         yield

@@ -1,4 +1,4 @@
-"""The crates of this repository, and the crates that each uses, from crates.txt."""
+"""Read crates.txt, which lists the crates of this repository and their dependencies."""
 from __future__ import annotations
 
 import os
@@ -9,11 +9,11 @@ from subtitles.common.program import TOP
 CRATES = os.path.join(TOP, "crates")
 LIST = os.path.join(TOP, "crates.txt")
 
-Lines = dict[str, list[str]]  # crate or toolchain library: the crates that it uses
+Lines = dict[str, list[str]]  # maps a crate or a toolchain library to the crates that it uses
 
 
 def read_lines(path: str = LIST) -> Lines:
-    """Read a crates.txt."""
+    """Read a crates.txt file."""
     lines: Lines = {}
     with open(path, encoding="utf-8") as file:
         for line in file:
@@ -24,7 +24,7 @@ def read_lines(path: str = LIST) -> Lines:
 
 
 def list_dependencies(crate: str, lines: Lines) -> list[str]:
-    """Return the crates of this repository that a crate uses, lowest first."""
+    """Return the crates of this repository on which a crate depends, lowest first."""
     found: list[str] = []
     for name in lines[crate]:
         if name in lines:
@@ -34,7 +34,7 @@ def list_dependencies(crate: str, lines: Lines) -> list[str]:
 
 
 def write_lines(folder: str, crates: list[str], lines: Lines) -> None:
-    """Write a crates.txt that lists only these crates into a folder."""
+    """Write a crates.txt file with only these crates into a folder."""
     with open(os.path.join(folder, "crates.txt"), "w", encoding="utf-8") as file:
         file.writelines(f"{name}: {' '.join(lines[name])}\n" for name in crates)
 

@@ -1,4 +1,4 @@
-"""Build a package for Debian and Ubuntu of the files that tools/install installs, by dpkg-deb."""
+"""Build a Debian package of the files that tools/install installs, using dpkg-deb."""
 from __future__ import annotations
 
 import gzip
@@ -15,7 +15,7 @@ from subtitles.common.program import PAGES, copy, list_documents, install, link,
 NAME = "subttx"
 MACHINE = "amd64"
 DEPENDS = "libc6 (>= 2.34), python3 (>= 3.9)"
-DEFAULT_MAINTAINER = "subttx <subttx@example.com>"  # if the environment names no maintainer
+DEFAULT_MAINTAINER = "subttx <subttx@example.com>"
 SUMMARY = "checks Teletext subtitles before they go on air"
 DESCRIPTION = """\
  Give it an EBU STL file and a recording of the DVB Teletext that your playout
@@ -30,17 +30,17 @@ Copyright 2026 the authors of subttx
 
 This package states no licence. Ask whoever gave it to you what you may do with it.
 """
-# The installed Python compiles the tools; their bytecode is removed with the package.
+# Python compiles the tools after installation; the bytecode is removed with the package.
 FOLDER = f"/usr/lib/{NAME}/tools/subtitles"
 SCRIPTS = {
     "postinst": f"python3 -m compileall -q --invalidation-mode unchecked-hash {FOLDER}",
     "prerm": f"find {FOLDER} -depth -name __pycache__ -exec rm -r {{}} +"}
-# Stripping the program would change its SHA-256, which is in PROVED.
+# Do not strip the program: PROVED contains its SHA-256.
 OVERRIDES = f"{NAME}: unstripped-binary-or-object [usr/bin/subttx]\n"
 
 
 def find_maintainer() -> str:
-    """Return the maintainer, from the variables that Debian's tools read."""
+    """Return the package's maintainer from the environment variables that Debian's tools read."""
     address = os.environ.get("DEBEMAIL", "")
     if "<" in address:
         return address
@@ -48,7 +48,7 @@ def find_maintainer() -> str:
 
 
 def write_gzip(path: str, data: bytes) -> None:
-    """Write a gzip file that depends on the data alone."""
+    """Write a gzip file whose bytes depend only on the data."""
     os.makedirs(os.path.dirname(path), exist_ok=True)
     with open(path, "wb") as file, gzip.GzipFile("", "wb", 9, file, 0) as packed:
         packed.write(data)
@@ -64,9 +64,7 @@ def compress_man_pages(root: str) -> None:
 
 
 def add_documents(root: str, version: str, proved: str, date: str) -> None:
-    """Add the folder of documents: links to README and the others where the tools read them, and
-    the files that Debian requires.
-    """
+    """Add the documents that Debian requires, and links to the documents that the tools read."""
     folder = os.path.join(root, "usr", "share", "doc", NAME)
     for name in sorted({document.partition(os.sep)[0] for document in list_documents()}):
         link(os.path.join("..", "..", "..", "lib", NAME, name), os.path.join(folder, name))
@@ -79,7 +77,7 @@ def add_documents(root: str, version: str, proved: str, date: str) -> None:
 
 
 def add_control(root: str, version: str) -> None:
-    """Write the control file of the package, and the checksums of its files."""
+    """Add the package's control file and the checksums of its files."""
     size = sum(os.path.getsize(os.path.join(root, name)) for name in list_files_below(root))
     sums = list_checksums(root, "md5")
     fields = {"Package": NAME, "Version": version, "Section": "video", "Priority": "optional",
@@ -95,7 +93,7 @@ def add_control(root: str, version: str) -> None:
 
 
 def set_modes_and_times(root: str, time: int) -> None:
-    """Set the modes and times of all files to fixed values."""
+    """Set fixed modes and times for all files."""
     for place, _, names in os.walk(root, topdown=False):
         for name in names:
             path = os.path.join(place, name)
@@ -107,7 +105,7 @@ def set_modes_and_times(root: str, time: int) -> None:
 
 
 def make_package(program: str, proved: str, version: str, work: str, path: str, time: int) -> None:
-    """Build the package at `path`, in the empty folder `work`. The same files give the same bytes.
+    """Build the package at `path`. `work` is an empty folder. The same files give the same bytes.
     """
     if not shutil.which("dpkg-deb"):
         raise Stop("dpkg-deb is not installed: it is in Debian's package dpkg")
@@ -132,7 +130,7 @@ def make_package(program: str, proved: str, version: str, work: str, path: str, 
 
 
 def list_files_below(folder: str) -> list[str]:
-    """Return the files of a folder, except links, by their relative paths."""
+    """Return the relative paths of all files in a folder, except links."""
     files = []
     for place, _, names in os.walk(folder):
         paths = [os.path.join(place, name) for name in names]

@@ -29,7 +29,7 @@ CLAUSE = re.compile(r"^ *ensures (\w+)? ?\{", re.M)
 
 
 class Definition:
-    """A definition: its comment, and its text from `line` on, with the comments in it."""
+    """A definition: its comment, and its text with comments, starting at `line`."""
 
     def __init__(self, file: SpecsFile, line: int, comment: list[str], first: str) -> None:
         self.file, self.line, self.comment, self.text = file, line, comment, [first]
@@ -43,7 +43,7 @@ class Definition:
         return [line for line in self.text if not line.lstrip().startswith("--")]
 
     def parts(self) -> list[str]:
-        """Return the scopes of bound names: the type and each equation, or an entire record."""
+        """Return the scopes of bound names: the type and each equation, or a complete record."""
         chunks: list[str] = []
         for line in self.code():
             if chunks and not (self.is_function and re.match(r"[^\s})]", line)):
@@ -57,9 +57,9 @@ class Definition:
 
 
 class ExternalName(NamedTuple):
-    """Anything that specs/ does not define.
+    """A name that specs/ does not define.
 
-    It is a name of another library, as std, or a type that a module of a crate's code declares.
+    It belongs to another library, such as std, or is a type that a crate's code declares.
     """
 
     crate: str
@@ -104,7 +104,7 @@ class SpecsFile(File):
                              for name in definition.constructors()}
 
     def read_definitions(self) -> dict[str, Definition]:
-        """Return the definitions of a file by name, each with the comment directly above it."""
+        """Return the definitions in a file by name, each with the comment directly above it."""
         found: dict[str, Definition] = {}
         comment: list[str] = []
         now: Definition | None = None
@@ -122,7 +122,7 @@ class SpecsFile(File):
 
 
 def list_files(top: str, crate: str, part: str, ending: str) -> Iterator[tuple[str, str]]:
-    """Yield the files in one folder of a crate, each with its module name."""
+    """Yield the path and module name of each file in one folder of a crate."""
     start = os.path.join(top, "crates", crate, part)
     for folder, _, names in sorted(os.walk(start)):
         for path in (os.path.join(folder, name) for name in sorted(names)):
@@ -132,7 +132,7 @@ def list_files(top: str, crate: str, part: str, ending: str) -> Iterator[tuple[s
 
 
 class Library:
-    """All files in specs/ of all crates, with the crates in the order of crates.txt."""
+    """All files in specs/ of all crates, in the order of crates.txt."""
 
     def __init__(self, top: str) -> None:
         self.top = top
@@ -144,7 +144,7 @@ class Library:
                     self.files[module] = SpecsFile(crate, path, module)
 
     def resolve(self, module: str, name: str) -> Meaning:
-        """Return the meaning of a name in a module."""
+        """Return the definition or external name to which a name in a module refers."""
         crate, _, inner = module.removeprefix("Rattle.").partition(".")
         if crate not in self.crates:
             return ExternalName(crate, None, name)
@@ -166,8 +166,7 @@ class Library:
         return found
 
     def resolve_in(self, file: File, name: str) -> Meaning | None:
-        """Return the meaning of a name in a file, `None` if the file neither defines nor imports
-        it."""
+        """Return the meaning of a name in a file, `None` if it is neither defined nor imported."""
         if name in file.definitions:
             return file.definitions[name]
         if name in file.constructors:
@@ -175,7 +174,7 @@ class Library:
         return self.resolve(*file.names[name]) if name in file.names else None
 
     def list_uses(self, file: File, text: str, bound: set[str]) -> list[Meaning]:
-        """Return the meanings of the names in a text of a file, in order, except bound names."""
+        """Return the meanings of the unbound names in a text from a file, in order."""
         found = (self.resolve(source, name) if source else self.resolve_in(file, name)
                  for source, name in list_names(file, file.definitions, text, bound))
         return [meaning for meaning in found if meaning]
@@ -193,14 +192,14 @@ class Library:
         return [other for other in dict.fromkeys(found) if other is not definition]
 
     def is_constructor(self, file: File, name: str) -> bool:
-        """Return whether a name in a pattern is a constructor instead of a variable."""
+        """Return whether a name in a pattern is a constructor and not a variable."""
         if "." in name:
             return True
         meaning = self.resolve_in(file, name)
         return bool(meaning) and not (isinstance(meaning, Definition) and meaning.is_function)
 
     def resolve_clauses(self, name: str) -> list[Meaning]:
-        """Return the meanings of the names in the clause FUNCTION.CLAUSE, or in all of FUNCTION."""
+        """Return the meanings of the names in a clause FUNCTION.CLAUSE, or in all of FUNCTION."""
         return [meaning for file, _, text in self.find_clauses(name)
                 for meaning in self.list_uses(file, text, find_bound_names(text))]
 
@@ -219,14 +218,14 @@ class Library:
         return found
 
     def find_definitions(self, name: str) -> list[Definition]:
-        """Return the definitions named NAME or CRATE/FILE.NAME."""
+        """Return the definitions with the name NAME or CRATE/FILE.NAME."""
         place, _, last = name.rpartition(".")
         return [file.definitions[last] for file in self.files.values()
                 if last in file.definitions
                 and place in ("", f"{file.crate}/{file.module.split('.specs.')[1]}")]
 
     def find_roots(self, name: str) -> list[Meaning]:
-        """Return the definition, or the meanings in the clauses, that an argument of the command
+        """Return the definition that an argument names, or the meanings in the clauses that it
         names."""
         found = self.find_definitions(name)
         if len(found) > 1:
@@ -241,7 +240,7 @@ class Library:
         return roots
 
     def find_type(self, outside: ExternalName) -> tuple[str, int]:
-        """Return the file and line where the code declares a type."""
+        """Return the file and line of a type's declaration in the code."""
         form = re.compile(rf"^ *(?:pub(?:\(\w+\))? )?(?:struct|enum|trait) {outside.name}\b", re.M)
         for path, _ in list_files(self.top, outside.crate, "src", ".rt"):
             with open(path, encoding="utf-8") as file:
@@ -251,7 +250,7 @@ class Library:
         raise Stop(f"{outside.crate} declares no {outside.name}")
 
     def find_dependencies(self, name: str) -> dict[Meaning, list[Meaning]]:
-        """Return everything that a name depends on, with the direct dependencies of each."""
+        """Return everything on which a name depends, with the direct dependencies of each item."""
         used: dict[Meaning, list[Meaning]] = {}
         left = collections.deque(self.find_roots(name))
         while left:
@@ -263,7 +262,7 @@ class Library:
         return used
 
     def sort_highest_first(self, name: str) -> list[Definition]:
-        """Return the definitions that a name depends on, each before its own dependencies.
+        """Return the definitions on which a name depends, each before its own dependencies.
 
         The highest crate comes first.
         """
@@ -284,7 +283,7 @@ class Library:
         return sorted(reversed(last_first), key=lambda definition: ranks[definition.file.crate])
 
     def list_reading(self, name: str) -> tuple[list[Definition], list[ExternalName]]:
-        """Return the definitions that a name depends on, lowest first, and the external names."""
+        """Return the definitions on which a name depends, lowest first, and the external names."""
         used = self.find_dependencies(name)
         needs = {definition: {meaning for meaning in names if isinstance(meaning, Definition)}
                  for definition, names in used.items() if isinstance(definition, Definition)}
@@ -292,9 +291,9 @@ class Library:
         return self.lowest_first(needs), outside
 
     def lowest_first(self, needs: dict[Definition, set[Definition]]) -> list[Definition]:
-        """Sort definitions so that each comes after its dependencies.
+        """Sort definitions so that each follows its dependencies.
 
-        Crates are kept together, and files if possible.
+        Definitions of the same crate, and if possible of the same file, stay together.
         """
         ranks = {module: (self.crates.index(file.crate), at)
                  for at, (module, file) in enumerate(self.files.items())}
@@ -308,7 +307,7 @@ class Library:
         ready = {definition for definition, count in lacking.items() if not count}
         while left:
             now = done[-1].file if done else None
-            # Definitions that depend on each other are in one file; keep the order of the file.
+            # Definitions that depend on each other are in one file. Keep their order in the file.
             definition = min(ready or left, key=lambda candidate: (
                 ranks[candidate.file.module][0], candidate.file is not now,
                 ranks[candidate.file.module], candidate.line))
@@ -324,7 +323,7 @@ class Library:
 
 def list_names(file: File, own: Iterable[str], text: str, bound: Iterable[str] = ()
              ) -> Iterator[tuple[str | None, str]]:
-    """Yield the names in a text of a file that are not bound, each with its module after an alias.
+    """Yield the unbound names in a text from a file, each with the module of its alias, if any.
 
     `own` contains the names that the file defines.
     """
@@ -348,7 +347,7 @@ def find_bound_names(text: str) -> set[str]:
 
 
 def list_clauses(text: str, function: str, clause: str) -> Iterator[tuple[str, str]]:
-    """Yield the name and text of each clause of a function, or of the one named `clause`."""
+    """Yield the name and text of each clause of a function, or only of the clause `clause`."""
     for found in FUNCTION.finditer(text):
         if found[2] != function:
             continue
@@ -360,7 +359,7 @@ def list_clauses(text: str, function: str, clause: str) -> Iterator[tuple[str, s
 
 
 def read_braced_text(text: str, start: int) -> str:
-    """Return the text from `start` up to the matching closing brace."""
+    """Return the text from `start` to the matching closing brace."""
     depth = 1
     for at in range(start, len(text)):
         depth += {"{": 1, "}": -1}.get(text[at], 0)

@@ -18,11 +18,11 @@ from .crates import CRATES
 
 GATE_FOLDER = "must-fail"
 RELEASE_FOLDER = "release-edits"
-TEST_FOLDER = "test-edits"  # the contracts accept these edits
+TEST_FOLDER = "test-edits"  # folder of edits that the prover accepts and a test detects
 FOLDERS = (GATE_FOLDER, RELEASE_FOLDER, TEST_FOLDER)
 NAME = re.compile(r"[A-Za-z0-9_-]+\.edit")
-PARTS = ("src/", "specs/", "proofs/")  # folders of a crate that an edit may change
-# A test with its body, which ends with a brace at the start of a line.
+PARTS = ("src/", "specs/", "proofs/")  # parts of a crate that an edit may change
+# A test with its body, which ends at a brace at the start of a line.
 TEST = re.compile(r"(?:#\[rattlefmt::skip\]\n)?#\[test\]\nfn (\w+)\(.*?\n}\n", re.S)
 
 
@@ -40,14 +40,14 @@ class Edit(NamedTuple):
         return os.path.join(CRATES, self.crate, self.folder, self.name + ".edit")
 
     def matches(self, word: str) -> bool:
-        """Return whether a word names the edit: by name, crate or both, with or without the folder.
-        """
+        """Return whether a word names this edit: NAME, CRATE or CRATE/NAME, with or without the
+        folder."""
         word = word.removesuffix(".edit").removeprefix("crates/")
         return word in (self.name, self.crate, f"{self.crate}/{self.name}", str(self))
 
 
 def list_edits(folder: str) -> list[Edit]:
-    """Return the edits of all crates in folders of this name."""
+    """Return the edits of all crates in folders with this name."""
     found = []
     for crate in sorted(os.listdir(CRATES)):
         place = os.path.join(CRATES, crate, folder)
@@ -58,18 +58,18 @@ def list_edits(folder: str) -> list[Edit]:
     return found
 
 
-Lines = list[tuple[str, str]]  # the key before the colon, and the text after it
+Lines = list[tuple[str, str]]  # key before the colon and text after the colon
 
 
 def read_edit(path: str) -> Lines:
-    """Return the lines of an edit file, without empty lines."""
+    """Return the lines of an edit file, except empty lines."""
     with open(path, encoding="utf-8") as file:
         lines = [line.partition(":") for line in file.read().split("\n") if line.strip()]
     return [(kind, rest.removeprefix(" ")) for kind, _, rest in lines]
 
 
 def find_test(name: str, lines: Lines) -> str | None:
-    """Return the test that these lines of the edit `name` name, if any."""
+    """Return the test in the `test:` line of the edit `name`, if any."""
     names = [rest.strip() for kind, rest in lines if kind == "test"]
     if len(names) > 1:
         raise Stop(f"{name}: more than one line `test:`")
@@ -77,18 +77,18 @@ def find_test(name: str, lines: Lines) -> str | None:
 
 
 def read_test(edit: Edit) -> str | None:
-    """Return the stored test that the edit names, if any."""
+    """Return the stored test in an edit's `test:` line, if any."""
     return find_test(str(edit), read_edit(edit.path()))
 
 
 def apply_edit(edit: Edit) -> dict[str, str]:
-    """Return the crate's files that the edit changes, with their new text, by path in the crate."""
+    """Return the files that the edit changes, with their new text, by path in the crate."""
     return edit_texts(str(edit), read_edit(edit.path()), os.path.join(CRATES, edit.crate), PARTS)
 
 
 @contextlib.contextmanager
 def replace_files(top: str, texts: dict[str, str]) -> Iterator[None]:
-    """Replace the texts of files below a folder inside the context, then restore them."""
+    """Replace the text of files below a folder inside the context, then restore them."""
     originals = {}
     for path, text in texts.items():
         file_name = os.path.join(top, path)
@@ -109,7 +109,7 @@ def replace_files(top: str, texts: dict[str, str]) -> Iterator[None]:
 def edit_texts(name: str, lines: Lines, top: str, parts: tuple[str, ...]) -> dict[str, str]:
     """Return the files that an edit changes, with their new text, by path below `top`.
 
-    Each path must begin with one of `parts`.
+    Each path must begin with a string in `parts`.
     """
     path: str | None = None
     old: str | None = None
@@ -137,7 +137,7 @@ def edit_texts(name: str, lines: Lines, top: str, parts: tuple[str, ...]) -> dic
 
 
 def replace_once(name: str, text: str, old: str, new: str) -> str:
-    """Replace a part of the text that occurs exactly once."""
+    """Replace a string that must occur exactly once in a text."""
     if old == new:
         raise Stop(f"{name}: `old` and `new` are the same: {old}")
     if text.count(old) != 1:
@@ -146,7 +146,7 @@ def replace_once(name: str, text: str, old: str, new: str) -> str:
 
 
 def find_stored_tests() -> dict[str, tuple[str, str]]:
-    """Return the crate and the path in src/ of each test with a unique name."""
+    """Return the crate and the path in src/ of each test whose name is unique."""
     found: dict[str, list[tuple[str, str]]] = {}
     for crate in sorted(os.listdir(CRATES)):
         top = os.path.join(CRATES, crate, "src")
@@ -158,7 +158,7 @@ def find_stored_tests() -> dict[str, tuple[str, str]]:
 
 
 def count_applicable_edits() -> tuple[int, int]:
-    """Print the edits that can't be applied; return the counts of applicable and other edits."""
+    """Print the edits that cannot be applied. Return how many can and how many cannot be."""
     edits = [edit for folder in FOLDERS for edit in list_edits(folder)]
     tests = find_stored_tests()
     failed = 0

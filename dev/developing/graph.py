@@ -1,8 +1,8 @@
-"""Find which definitions, lemmas and functions use which, and which promises they serve.
+"""Find which definitions, lemmas and functions use each other, and which promises depend on them.
 
-Files are read as text, with their `use` lines: a variable with the name of something that the file
-imports counts as a use, and a method call as a use of each method of that name in the crate and in
-those that it uses.
+Files are read as text, with their `use` lines: a variable with the name of an imported item counts
+as a use, and a method call counts as a use of each method with that name in the crate and its
+dependencies.
 """
 from __future__ import annotations
 
@@ -20,7 +20,7 @@ CALL = re.compile(r"(\.|\b\w+::)?\b([a-z_]\w*)(?:::<[^()]*?>)?\(")
 METHOD = re.compile(r"\( ?&?(?:'\w+ )?(?:mut )?self\b")
 GOAL = re.compile(r"-clause-(\w+)$")
 LAW = re.compile(r"(?:law|laws|example|examples)_of_\w+$")
-PROOF_FILES = ("Answers", "Invariants", "Given", "Walk", "Proof")  # in proofs/ of a function
+PROOF_FILES = ("Answers", "Invariants", "Given", "Walk", "Proof")  # files in proofs/ of a function
 
 
 class UseGraph:
@@ -30,11 +30,11 @@ class UseGraph:
         lines = read_lines(os.path.join(top, "crates.txt"))
         self.below = {crate: list_dependencies(crate, lines) for crate in lines}
         self.files: dict[str, Source] = {}
-        self.nodes: list[Node] = []  # definitions by name, without functions
+        self.nodes: list[Node] = []  # definitions, lemmas and clauses
         self.functions: list[Node] = []
         self.functions_by_name: dict[tuple[str, str], list[Node]] = collections.defaultdict(list)
         self.bodies: dict[Node, Node] = {}
-        other_text: list[tuple[Source, str]] = []  # the text in src/ outside of functions
+        other_text: list[tuple[Source, str]] = []  # text in src/ outside functions
         for part, ending in (("specs", ".antt"), ("proofs", ".antt"), ("src", ".rt")):
             for crate in self.below:
                 for path, module in list_files(top, crate, part, ending):
@@ -60,7 +60,7 @@ class UseGraph:
             self.link_proof(node)
 
     def resolve(self, module: str, name: str, seen: frozenset[str] = frozenset()) -> Node | None:
-        """Return the node that a name means in a module, `None` if no file here defines it."""
+        """Return the node to which a name in a module refers, `None` if no file defines it."""
         file = self.files.get(module)
         if file is None:
             above, _, kind = module.rpartition(".")  # a constructor belongs to its type
@@ -80,12 +80,12 @@ class UseGraph:
         return self.resolve(*file.names[name]) if name in file.names else None
 
     def link(self, node: Node, text: str) -> None:
-        """Add uses from a node to everything that a text of its file names."""
+        """Add uses from a node to everything that a text from its file names."""
         for source, name in list_names(node.file, node.file.own, text):
             node.add(self.resolve(source, name) if source else self.resolve_in(node.file, name))
 
     def link_functions(self, file: Source, other_text: str) -> None:
-        """Link each function to its clauses and body, and each clause to its text and the body."""
+        """Link each function to its clauses and body, and each clause to what it uses."""
         of_file = Node("body", file, file.module, 1, [])
         self.link(of_file, other_text)
         self.add_lemmas(of_file, other_text)
@@ -121,7 +121,7 @@ class UseGraph:
                 node.add(self.resolve(".".join(["Rattle", crate, *inner[:-1]]), inner[-1]))
 
     def find_callees(self, caller: Node, prefix: str, name: str) -> list[Node]:
-        """Return the functions that a call in a body may mean, given the prefix of its name."""
+        """Return the functions that a call in a body may refer to, given the name's prefix."""
         crate, text = caller.file.crate, caller.file.text
         found = [function for lower in [crate, *self.below[crate]]
                  for function in self.functions_by_name.get((lower, name), ())
@@ -137,10 +137,10 @@ class UseGraph:
                 if not function.owner and (function.file.crate == crate or is_imported)]
 
     def link_proof(self, node: Node) -> None:
-        """Link a node of a function's folder in proofs/ to the clause that it names or the body."""
+        """Link a lemma in a function's proof folder to the clause that it names or the body."""
         _, crate, _, *inner, name, _ = node.file.module.split(".")
         functions = self.functions_by_name.get((crate, name), [])
-        # A method's folder follows the module of its type, which another file may define.
+        # A method's folder has the module name of its type, which another file may define.
         nearest = [function for function in functions
                    if function.file.module.split(".")[3:] in (inner, inner[:-1])]
         for function in nearest or functions:
@@ -154,7 +154,7 @@ class UseGraph:
     # Queries
 
     def find_unreached(self, crate: str = "") -> list[Node]:
-        """Return the definitions and lemmas that no function reaches."""
+        """Return the definitions and lemmas that no function uses directly or indirectly."""
         done: set[Node] = set()
         left = list(self.functions)
         while left:
@@ -166,7 +166,7 @@ class UseGraph:
                 and node.file.crate == (crate or node.file.crate)]
 
     def list_promised_definitions(self) -> list[Node]:
-        """Return the definitions that a reader of public clauses and laws needs."""
+        """Return the definitions on which public clauses and laws depend."""
         found: dict[Node, None] = {}
         left = [node for node in self.nodes if node.kind == "clause"
                 and (node.is_promise or node.function is not None and node.function.is_promise)]
@@ -178,14 +178,14 @@ class UseGraph:
         return list(found)
 
     def find_unknown_head_names(self) -> dict[Source, list[str]]:
-        """Return the names in the first comment of each file of proofs/ that do not exist."""
-        names = {part for node in [*self.nodes, *self.functions]  # also the name of a clause alone
+        """Return the unknown names in the first comment of each file in proofs/."""
+        names = {part for node in [*self.nodes, *self.functions]  # include the name of each clause
                  for part in (node.name, node.name.partition(".")[2])}
         return {file: sorted(find_head_names(file.text) - names)
                 for file in self.files.values() if ".proofs." in file.module}
 
     def find_promises(self, node: Node) -> list[Node]:
-        """Return the promises that use a node other than through another promise."""
+        """Return the promises that use a node directly or through nodes that are no promises."""
         found: dict[Node, None] = {}
         done = {node}
         left = collections.deque(node.used_by)
@@ -201,7 +201,7 @@ class UseGraph:
         return list(found)
 
     def find_nodes(self, name: str) -> list[Node]:
-        """Return the nodes named NAME or CRATE/NAME; a clause is named FUNCTION.CLAUSE."""
+        """Return the nodes with the name NAME or CRATE/NAME. A clause is named FUNCTION.CLAUSE."""
         crate, slash, last = name.rpartition("/")
         return [node for node in [*self.nodes, *self.functions]
                 if node.name == last and (not slash or node.file.crate == crate)

@@ -1,7 +1,7 @@
-"""Check how a report looks in a browser: contrast, clipped elements, words broken over two lines.
+"""Check how a report looks in a browser: contrast, clipped elements, and words broken across lines.
 
-The contrast of the style's colours is computed by WCAG 2. For the other checks headless Chromium
-opens the report in a frame, together with a script that is not part of the report.
+The contrast of the style's colours is computed as WCAG 2 defines it. For the other checks, headless
+Chromium opens the report in a frame and runs a script that is not part of the report.
 """
 from __future__ import annotations
 
@@ -16,7 +16,7 @@ from typing import NamedTuple, Sequence
 from subtitles.common.program import TOP
 
 LEAST_CONTRAST = 4.5
-SECONDS = 600  # time limit for a browser on a busy machine
+SECONDS = 600  # time limit in seconds for a browser on a busy machine
 BROWSERS = ("chromium", "chromium-browser", "google-chrome")
 # Pairs of text colour and background colour, as variables of the style sheet.
 PAIRS = [(text, ground) for text in ("words", "soft", "link", "bad")
@@ -101,7 +101,7 @@ def compute_contrast(text_colour: str, ground_colour: str) -> float:
 
 
 def read_colour_schemes() -> dict[str, dict[str, str]]:
-    """Return the colour variables of the light and the dark style."""
+    """Return the colour variables of the light style and of the dark style."""
     path = os.path.join(TOP, "tools", "subtitles", "report", "style.css")
     with open(path, encoding="utf-8") as file:
         light, dark = (dict(re.findall(r"--([\w-]+): #(\w+);", block))
@@ -120,12 +120,12 @@ def find_weak_contrasts() -> list[str]:
 
 
 def find_browser() -> str | None:
-    """Return the path of a browser, `None` if there is none."""
+    """Return the path of a browser, or `None` if none is installed."""
     return next(filter(None, map(shutil.which, BROWSERS)), None)
 
 
 class BrowserView(NamedTuple):
-    """A report in a browser window: its path, the window's width, and whether it is dark."""
+    """A report in a browser window: its path, the window's width, and whether the style is dark."""
 
     path: str
     width: int
@@ -133,7 +133,7 @@ class BrowserView(NamedTuple):
 
 
 def find_defects(looks: Sequence[BrowserView], folder: str) -> list[list[str]]:
-    """Return the defects that a browser finds in each report; all are frames of one page."""
+    """Return the defects that a browser finds in each report. One page shows all reports."""
     frames = "".join(f'<iframe src="{write_framed(look, folder, number)}" style="border:0;'
                      f'width:{look.width}px;height:2000px"></iframe>'
                      for number, look in enumerate(looks))
@@ -152,15 +152,15 @@ def find_defects(looks: Sequence[BrowserView], folder: str) -> list[list[str]]:
 
 
 def write_framed(look: BrowserView, folder: str, number: int) -> str:
-    """Write a report, with all details open and the script that checks it; return the file's name.
+    """Write a report with all details open and the script that checks it. Return the file's name.
     """
     with open(look.path, encoding="utf-8") as file:
         text = file.read()
     name = f"measured-{number}.html"
     text = re.sub(r"<details(?! open)", '<details open="open"', text)
-    # Let the script run.
+    # Allow the script to run.
     text = re.sub(r'<meta http-equiv="Content-Security-Policy"[^>]*/>', "", text)
-    # Lazy layout would be repeated for each measured place.
+    # Disable lazy layout, which the browser would repeat for each measurement.
     text = text.replace("content-visibility: auto", "content-visibility: visible")
     if look.is_dark:
         text = text.replace("(prefers-color-scheme: dark)", "(min-width: 1px)")

@@ -8,29 +8,28 @@ SYNC, PACKET, BEGINS, PAYLOAD = 0x47, 188, 0x40, 0x10
 
 PROGRAMME, PMT_PID, PCR_PID = 1, 0x100, 0x1FF0
 RESERVED_PIDS = {PMT_PID, PCR_PID}
-FULL = 184  # bytes of a packet after its header
-TENTH = 9000  # a tenth of a second at 90 kHz
-LONG = 120 * 10 * TENTH  # the clock skips longer pauses
-SUBTITLES = 2  # teletext_type in a Teletext descriptor
+FULL = 184  # bytes of a TS packet after its header
+TENTH = 9000  # ticks (90 kHz) in a tenth of a second
+LONG = 120 * 10 * TENTH  # longest pause in ticks that is filled with PCRs
+SUBTITLES = 2  # teletext_type for subtitles in a Teletext descriptor
 ADAPTATION_ALONE = 0x20
 COUNTERS = range(16)
 
 
 def make_head(pid: int, begins: int, control: int) -> bytes:
-    """Return the first four bytes of a packet."""
+    """Return the four-byte header of a TS packet."""
     return bytes([SYNC, begins | pid >> 8, pid & 255, control])
 
 
 def make_section(table: int, number: int, body: bytes) -> bytes:
-    """Return a pointer field and the only section of a table: current, version 0."""
+    """Return a pointer field and the only section of a table: version 0, currently applicable."""
     start = (0xB000 | len(body) + 9).to_bytes(2, "big") + number.to_bytes(2, "big") + b"\xc1\0\0"
     data = bytes([table]) + start + body
     return b"\0" + data + compute_crc(data).to_bytes(4, "big")
 
 
 def make_pmt_body(pid: int, language: bytes, page: Page) -> bytes:
-    """Return the body of the PMT: the PID of the PCR, and a component with its Teletext descriptor.
-    """
+    """Return the body of the PMT: the PCR's PID, and a component with its Teletext descriptor."""
     magazine, number = page
     teletext = b"\x56\x05" + language + bytes([SUBTITLES << 3 | magazine, number])
     return ((0xE000 | PCR_PID).to_bytes(2, "big") + b"\xf0\0"
@@ -39,13 +38,13 @@ def make_pmt_body(pid: int, language: bytes, page: Page) -> bytes:
 
 
 class Multiplex:
-    """A writer of the stream: it collects packets until the caller takes them."""
+    """A writer of a transport stream. It collects TS packets until the caller takes them."""
 
     def __init__(self, pid: int, language: bytes, page: Page) -> None:
         pat = make_section(0, 1, PROGRAMME.to_bytes(2, "big") +
                            (0xE000 | PMT_PID).to_bytes(2, "big"))
         pmt = make_section(2, PROGRAMME, make_pmt_body(pid, language, page))
-        # PAT, PMT and packet headers for each value of the continuity counter.
+        # PAT, PMT and TS packet headers for each value of the continuity counter.
         self.tables = [b"".join((make_head(table_pid, BEGINS, PAYLOAD | counter) + data)
                                 .ljust(PACKET, b"\xff")
                                 for table_pid, data in ((0, pat), (PMT_PID, pmt)))
@@ -59,7 +58,7 @@ class Multiplex:
         self.base: int | None = None
 
     def add_pes_packet(self, data: bytes, pts: int) -> None:
-        """Add the tables, the clock up to the PTS, and a PES packet."""
+        """Add the tables, the PCRs up to the PTS, and a PES packet."""
         parts, counter = self.parts, self.counter
         parts.append(self.tables[self.count & 15])
         self.count += 1
@@ -72,7 +71,7 @@ class Multiplex:
         self.size += len(data) + 2 * PACKET
 
     def add_clock(self, pts: int) -> None:
-        """Add a PCR each tenth of a second, up to a tenth of a second before the PTS."""
+        """Add a PCR every tenth of a second, up to a tenth of a second before the PTS."""
         end = wrap_pts(pts - TENTH)
         if self.base is None or wrap_pts(end - self.base) > LONG:
             self.base = wrap_pts(end - TENTH)

@@ -29,7 +29,7 @@ TABLE = os.path.join("docs", "manual", "reference.md")
 PROGRAM_PAGE, QC_PAGE = os.path.join("docs", "subttx.1"), os.path.join("docs", "subttx-qc.1")
 AIR_PAGE = os.path.join("docs", "subttx-air.1")
 SCHEMA = os.path.join("docs", "verdict.schema.json")
-NUMBERS = os.path.join("docs", "ASSURANCE.md")  # names of the rows about the proof
+NUMBERS = os.path.join("docs", "ASSURANCE.md")  # the document with the table of proof numbers
 QC_CHAPTER = os.path.join("docs", "manual", "qc.md")
 RESULTS_CHAPTER = os.path.join("docs", "manual", "results.md")
 MADE = re.compile(r'^((?:\.\\"|#|<!--) made: (\w+)(?: -->)?\n)(.*?)'
@@ -38,11 +38,11 @@ COMMAND = re.compile(r"^  ([a-z]+) ([A-Z]\S*(?: (?:[A-Z]\S*|--\w+))*) +(?=[a-z])
 ROW = re.compile(r"^\| `(--[\w-]+)(?: (\S+))?` \| (`.*?`) \| (.*) \| (.*) \|$", re.M)
 ENTRY_LINE = re.compile(
     r"^  ((?:--?[\w-]+)(?: .*?)??)(?:, (--?[\w-]+)(?: .*?)??)?(?:  +|\n +)(\S.*)$", re.M)
-# Names of option values that are files.
+# Names of option values that are file names.
 FILES = re.compile(r"FILE|DIR|FOLDER|LIST|STL|PES|OUT|IN|PROGRAM|FEED|TS|WORD")
 LINK = re.compile(r"\[([^]]*)\]\([^)]*\)")
 WIDTH = 100
-PAGE_REFERENCE = "All of it: "  # begins the reference from a help text to its manual page
+PAGE_REFERENCE = "All of it: "  # text before a reference from help text to a manual page
 
 
 class Command(NamedTuple):
@@ -55,7 +55,7 @@ class Command(NamedTuple):
 
 
 class Option(NamedTuple):
-    """An option, the name of its value if it has one, and the commands that accept it."""
+    """An option, the name of its value if it takes one, and the commands that accept it."""
 
     name: str
     value: str
@@ -71,7 +71,7 @@ class Option(NamedTuple):
 
 
 def parse_commands(text: str) -> list[Command]:
-    """Parse the commands of the usage text."""
+    """Parse the commands in the usage text."""
     found = []
     lines = re.sub(r"\n {10,}", " ", text)
     for match in COMMAND.finditer(lines):
@@ -86,7 +86,7 @@ def parse_commands(text: str) -> list[Command]:
 
 
 def parse_options(text: str) -> list[Option]:
-    """Parse the options of the table."""
+    """Parse the options in the table."""
     return [Option(row[1], row[2] or "", re.findall(r"`(\w+)`", row[3]), row[4].strip(),
                    row[5].strip()) for row in ROW.finditer(text)]
 
@@ -100,7 +100,7 @@ def run_help(tool: str, *command: str) -> str:
 
 
 def parse_entries(text: str) -> list[tuple[str, str, str]]:
-    """Parse the options of a help text: name, value, meaning."""
+    """Parse the options in a help text. Return the name, value and meaning of each."""
     found = []
     for entry in ENTRY_LINE.finditer(text):
         name, _, value = (entry[1] or "").partition(" ")
@@ -109,7 +109,7 @@ def parse_entries(text: str) -> list[tuple[str, str, str]]:
 
 
 def escape_roff(text: str) -> str:
-    """Write a sentence for a man page: bold for code, links as their text."""
+    """Format a sentence for a man page, with code in bold and links as plain text."""
     text = LINK.sub(r"\1", text)
     text = re.sub(r"\btools/(\w+)", INSTALLED + r"\1", text)
     text = text.replace("\\", "\\e").replace("-", "\\-")
@@ -130,13 +130,13 @@ def fill_paragraph(text: str) -> str:
 
 
 def format_option(name: str, value: str, text: str) -> str:
-    """Return the entry of an option in a man page."""
+    """Return the entry for an option in a man page."""
     head = f"\\fB{escape_roff(name)}\\fP" + (f" \\fI{escape_roff(value)}\\fP" if value else "")
     return f".TP\n{head}\n{fill_paragraph(text)}\n"
 
 
 def to_sentence(text: str) -> str:
-    """Write a cell of a table as a sentence."""
+    """Format a table cell as a sentence."""
     text = LINK.sub(r"\1", text)
     return text[0].upper() + text[1:] + "." * (text[-1] not in ".:") if text else text
 
@@ -155,7 +155,7 @@ def format_synopsis(commands_of_program: list[Command], table: list[Option]) -> 
 
 
 def make_program_parts(usage: str, table: str) -> dict[str, str]:
-    """Return the parts of the program's page."""
+    """Return the generated parts of the program's man page."""
     def command_entry(command: Command) -> str:
         return (f".TP\n\\fB{command.name}\\fP \\fI{escape_roff(command.files)}\\fP\n"
                 f"{fill_paragraph(to_sentence(command.does))}\n")
@@ -172,7 +172,7 @@ def make_program_parts(usage: str, table: str) -> dict[str, str]:
 
 
 def make_tool_parts(text: str, name: str = "qc") -> dict[str, str]:
-    """Return the parts of a tool's page, from its help text."""
+    """Return the generated parts of a tool's man page, from its help text."""
     def option_entry(name: str, value: str, means: str) -> str:
         if not value.startswith("{"):
             return format_option(name, value, to_sentence(means))
@@ -194,9 +194,9 @@ def make_tool_parts(text: str, name: str = "qc") -> dict[str, str]:
 
 
 def make_air_parts(text: str, help_texts: dict[str, str]) -> dict[str, str]:
-    """Return the parts of air's page, from its help text and its commands' help texts.
+    """Return the generated parts of air's man page, from the help texts of air's commands.
 
-    The options that it shares with qc are in qc's page.
+    The options that air shares with qc are in qc's man page.
     """
     others = {option.name for option in request.OPTIONS} | {"--help", "--version"}
     commands = {command: "".join(format_option(name, value, to_sentence(means))
@@ -209,7 +209,7 @@ def make_air_parts(text: str, help_texts: dict[str, str]) -> dict[str, str]:
 
 
 def make_chapter_parts(table: str = "") -> dict[str, str]:
-    """Return the table of options in qc's chapter.
+    """Return the table of options in the manual's chapter on qc.
 
     It omits options that cancel another option, and the options of `check`, which have their own
     table.
@@ -223,13 +223,13 @@ def make_chapter_parts(table: str = "") -> dict[str, str]:
     return {"options": "\n".join(rows) + "\n"}
 
 
-# Objects of JSON results: the prefix of the CSV columns with their values.
+# The CSV column prefix for the values of each object in JSON results.
 PREFIXES = {"verdict": "", "fault": "", "request": "", "subtitle": "subtitle_", "cause": "cause_",
             "part": "part_", "counts": "subtitle_counts_"}
 
 
 def make_results_parts() -> dict[str, str]:
-    """Return a list of keys for each object of JSON results, with marks at CSV columns."""
+    """Return a list of keys for each object in JSON results, marked if a CSV column has them."""
     lines = list[str]()
     for record in filter(needs_table, list_records(VERDICT)):
         lines += ["", f"## {to_title(record)}", ""]
@@ -247,19 +247,19 @@ def make_results_parts() -> dict[str, str]:
 
 
 def to_title(record: Record) -> str:
-    """Return the heading of an object."""
+    """Return the heading for an object."""
     return record.name.replace("_", " ").capitalize()
 
 
 def format_key(record: Record, member: Member) -> str:
-    """Return a key with a link to its object, and with a mark if it is a CSV column."""
+    """Return a key with a link to its object, and with an asterisk if it has a CSV column."""
     inner = find_record(member)
     key = f"`{member.name}`" + "\\*" * (record is not CUE and bool(find_column(record, member)))
     return f"[{key}](#{inner.name.replace('_', '-')})" if inner and needs_table(inner) else key
 
 
 def find_record(member: Member) -> Record | None:
-    """Return the object that is the value of a member, or an item of its list."""
+    """Return the object that is the value of a member, or an item in the member's list."""
     record = next((shape for shape in (member.shape, *member.shape.inner())
                    if isinstance(shape, Record)), None)
     return CAUSE if record is LISTED_CAUSE else record
@@ -282,7 +282,7 @@ def needs_table(record: Record) -> bool:
 
 
 def find_column(record: Record, member: Member) -> str:
-    """Return the CSV column with a member's value, if any."""
+    """Return the name of the CSV column with a member's value, or an empty string."""
     if record is CUE:
         return member.name
     column = PREFIXES.get(record.name, "-") + member.name
@@ -290,7 +290,7 @@ def find_column(record: Record, member: Member) -> str:
 
 
 def describe_member(member: Member) -> str:
-    """Return the descriptions of a member's shape, if it has no list, and of the member."""
+    """Return the description of a member, after the description of its value if no table has it."""
     shape = next((shape for shape in (member.shape, *member.shape.inner()) if shape.name), None)
     inner = find_record(member)
     of_shape = "" if shape is None or inner and needs_table(inner) else shape.meaning
@@ -298,7 +298,7 @@ def describe_member(member: Member) -> str:
 
 
 def make_completion_parts(usage: str, table: str, help_texts: list[str]) -> dict[str, str]:
-    """Return the parts of the completion."""
+    """Return the generated parts of the shell completion script."""
     program_commands, table_options = parse_commands(usage), parse_options(table)
     choices = {option.name: " ".join(option.list_choices()) for option in table_options
                if option.list_choices()}
@@ -326,7 +326,7 @@ def make_completion_parts(usage: str, table: str, help_texts: list[str]) -> dict
 
 
 def format_json(value: object, indent: str = "") -> str:
-    """Format a value as JSON, on one line if it is short, else with one line for each item."""
+    """Format a value as JSON: on one line if it is short, else one line for each item."""
     line = json.dumps(value)
     if not isinstance(value, (dict, list)) or len(indent) + len(line) < WIDTH - 20:
         return line
@@ -341,7 +341,7 @@ def format_json(value: object, indent: str = "") -> str:
 
 
 def fill_rows(words: list[str], width: int) -> list[str]:
-    """Join words by commas, in rows of at most `width` columns."""
+    """Join words with commas, in lines of at most `width` columns."""
     rows = [words[0]]
     for word in words[1:]:
         if len(rows[-1]) + len(word) < width:
@@ -360,7 +360,7 @@ def replace_parts(text: str, parts: dict[str, str]) -> str:
 
 
 def make_pages() -> dict[str, str]:
-    """Return the generated files by name from the top."""
+    """Return the generated files by path below the top folder."""
     def text(name: str) -> str:
         return read(os.path.join(TOP, name)) or ""
 

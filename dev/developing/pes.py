@@ -1,4 +1,4 @@
-"""Write and read Teletext packets and PES packets of them (EN 300 706, EN 300 472)."""
+"""Write and read Teletext packets and PES packets with Teletext (EN 300 706, EN 300 472)."""
 from __future__ import annotations
 
 from typing import Iterable, Iterator, Protocol, Sequence
@@ -6,45 +6,45 @@ from typing import Iterable, Iterator, Protocol, Sequence
 from subtitles.common.files import Damaged
 from subtitles.formats.teletext import CODE_WORDS, NUMBER, START, is_odd
 
-HEAD = 6  # bytes of a PES packet up to the end of PES_packet_length
+HEAD = 6  # bytes of a PES packet up to and including PES_packet_length
 FIRST_LINE = 7
-UNIT = 46  # bytes of a data unit
+UNIT = 46  # bytes in a data unit
 DATA = 46  # offset of the first data unit in PES packets that `subttx` writes
 STUFFING_UNIT = b"\xff\x2c" + b"\xff" * 44
-# Gap marker for missing PES packets or parts of them. `check` refuses it with fault 45.
+# A gap marker replaces missing PES packets or parts of them. `check` rejects it with fault 45.
 GAP_MARKER = START + b"\0\xb2" + b"\xff" * 178
-READ_SIZE = 1 << 18  # bytes to read at once
-NATIONAL = 12, 13, 14  # control bits of a header
+READ_SIZE = 1 << 18  # number of bytes to read at once
+NATIONAL = 12, 13, 14  # national option bits of a header, C12 to C14
 
-# Table of bytes with reversed bits: a data unit sends bit 1 first.
+# Table of bytes with reversed bits: a data unit transmits bit 1 first.
 MIRROR = bytes(int(f"{byte:08b}"[::-1], 2) for byte in range(256))
 
-# The places of the 18 data bits in three Hamming 24/18 bytes, counted from 1: all except powers of
-# 2, which are checks, and the last.
+# The positions of the 18 data bits in three Hamming 24/18 bytes, counted from 1. The powers of 2
+# and the last position are check bits.
 DATA_BITS = tuple(at for at in range(1, 24) if at & at - 1)
 
-Header = tuple[int, int, bytes]  # magazine, page, and eight numbers
+Header = tuple[int, int, bytes]  # magazine, page number, and the decoded header bytes
 
 
 class Source(Protocol):
-    """A file to read; `read` returns nothing only at the end."""
+    """An input file. `read` returns no bytes only at its end."""
 
     def read(self, size: int, /) -> bytes:
         """Return at most `size` bytes."""
 
 
 def add_odd_parity(code: int) -> int:
-    """Return a 7-bit code with odd parity."""
+    """Return a 7-bit code with its odd parity bit."""
     return code if is_odd(code) else code | 0x80
 
 
 def reverse_bits(data: bytes) -> bytes:
-    """Reverse the bits of each byte."""
+    """Reverse the order of the bits in each byte."""
     return data.translate(MIRROR)
 
 
 def make_packet(magazine: int, number: int, numbers: Iterable[int], codes: Iterable[int]) -> bytes:
-    """Return a Teletext packet: address, eight numbers if it is a header, text with odd parity."""
+    """Return a Teletext packet: address, Hamming 8/4 values of a header, text with odd parity."""
     address = magazine + 8 * number
     coded = bytes(CODE_WORDS[value] for value in (address & 15, address >> 4, *numbers))
     return coded + bytes(map(add_odd_parity, codes))
@@ -62,24 +62,24 @@ def encode_triplet(value: int) -> bytes:
 
 
 def decode_address(data: bytes) -> tuple[int, int] | None:
-    """Return the magazine, 0 for 8, and the packet number; `None` for an undecodable address."""
+    """Return the magazine (0 for 8) and the packet number, or `None` if they cannot be decoded."""
     low, high = NUMBER[data[0]], NUMBER[data[1]]
     return None if low is None or high is None else (low & 7, low + 16 * high >> 3)
 
 
 def decode_header(data: bytes) -> bytes | None:
-    """Return the eight numbers of a page header, `None` if one can't be decoded."""
+    """Return the eight Hamming 8/4 values of a page header, `None` if one can't be decoded."""
     numbers = [number for number in map(NUMBER.__getitem__, data[2:10]) if number is not None]
     return bytes(numbers) if len(numbers) == 8 else None
 
 
 def get_page_number(header: bytes) -> int:
-    """Return the page number, two hexadecimal digits, in a header's eight numbers."""
+    """Return the page number, two hexadecimal digits, from a decoded page header."""
     return header[0] + 16 * header[1]
 
 
 def find_headers(packets: Iterable[bytes]) -> list[Header]:
-    """Return the magazine, page number and eight numbers of each page header."""
+    """Return the magazine, the page number and the decoded values of each page header."""
     found = []
     for packet in packets:
         address = decode_address(packet)
@@ -96,13 +96,13 @@ def encode_pts(pts: int) -> bytes:
 
 
 def decode_pts(packet: bytes) -> int:
-    """Return the PTS of a PES packet that has one."""
+    """Return the PTS of a PES packet, which must have one."""
     return ((packet[9] >> 1 & 7) << 30 | packet[10] << 22 | packet[11] >> 1 << 15
             | packet[12] << 7 | packet[13] >> 1)
 
 
 def make_pes_packet(pts: int, packets: Sequence[bytes]) -> bytes:
-    """Return a PES packet with up to 16 Teletext packets, from line 7 of the first field on."""
+    """Return a PES packet with up to 16 Teletext packets, on lines 7 to 22 of the first field."""
     blocks = len(packets) // 4 + 1
     data = START + (184 * blocks - 6).to_bytes(2, "big") + b"\x84\x80\x24" + encode_pts(pts)
     data += b"\xff" * 31 + b"\x10"
@@ -112,7 +112,7 @@ def make_pes_packet(pts: int, packets: Sequence[bytes]) -> bytes:
 
 
 def find_starts(data: bytes) -> list[int]:
-    """Return the offset of each PES packet at the start of `data`, and the end of the last one."""
+    """Return the offsets of the complete PES packets at the start of `data`, and their end."""
     begins = [0]
     while data.startswith(START, begins[-1]) and len(data) - begins[-1] >= HEAD:
         length = HEAD + int.from_bytes(data[begins[-1] + 4:begins[-1] + HEAD], "big")
@@ -128,14 +128,14 @@ def split_complete_packets(data: bytes) -> list[bytes]:
 
 
 def cut_at(data: bytes, begins: Sequence[int]) -> list[bytes]:
-    """Cut `data` at these places."""
+    """Split `data` at these offsets."""
     return [data[begin:end] for begin, end in zip(begins, begins[1:])]
 
 
 def read_pes_packets(file: Source) -> Iterator[bytes]:
-    """Yield the PES packets of a file.
+    """Yield the PES packets in a file.
 
-    Raise `Damaged` at the first other data, after the packets before it.
+    Raise `Damaged` if other bytes follow the packets.
     """
     unread, count = b"", 0
     while new_data := file.read(READ_SIZE):
@@ -150,8 +150,7 @@ def read_pes_packets(file: Source) -> Iterator[bytes]:
 
 
 def has_pts(data: bytes) -> bool:
-    """Return whether a PES packet has a PTS and a header long enough for it; a gap marker has none.
-    """
+    """Return whether a PES packet has a PTS and a complete PES header. A gap marker has no PTS."""
     return len(data) >= 14 and data[7] & 0x80 != 0 and data[HEAD] != 0xFF
 
 
@@ -161,7 +160,7 @@ def get_data_field(data: bytes) -> bytes:
 
 
 def get_teletext_packets(field: bytes) -> list[bytes]:
-    """Return the Teletext packets of a data field, with bits in the order of EN 300 706."""
+    """Return the Teletext packets in a data field, with bits in the order of EN 300 706."""
     at, found = 1, []
     while at + UNIT <= len(field):
         if field[at] in (2, 3) and field[at + 1] == 0x2C:

@@ -1,6 +1,6 @@
-"""Find the tests that call a function, and whether a test fails with a bug.
+"""Find the tests that call a function, and check whether a test fails on a mutant.
 
-The tests are loaded once in a copy of the repository; each run is a process forked from that one.
+The tests are loaded once, in a copy of the repository. Each test run is a forked process.
 """
 from __future__ import annotations
 
@@ -29,8 +29,8 @@ from .tests import bench, runner
 
 COPIED_FOLDERS = ("tools", "dev")
 TOO_LONG = "too long"  # reason if a test exceeds its time limit
-CALLS = "SUBTTX_CALLS"  # environment variable with the file for names of called functions
-# Code of each traced process: write the name of each function when it is first called.
+CALLS = "SUBTTX_CALLS"  # environment variable with the path of the file that lists called functions
+# Code for each traced process: it writes the name of each function at its first call.
 TRACE_CODE = """
 import os, sys, threading
 path, known = os.environ["SUBTTX_CALLS"], set()
@@ -46,7 +46,7 @@ def seen(frame, event, arg):
 threading.settrace(seen)
 sys.settrace(seen)
 """
-HAS_LOCALS = 1  # flag of a function's code (CO_OPTIMIZED)
+HAS_LOCALS = 1  # flag in co_flags that is set for functions (CO_OPTIMIZED)
 Answer = dict[str, Any]
 
 
@@ -64,7 +64,7 @@ class StopAtFailure(runner.Counts):
 
 
 def get_unit_name(unit: runner.Several) -> str:
-    """Return the name of a test, or of the class whose tests share a fixture and run together."""
+    """Return the name of a test, or of the class if its tests share a fixture and run together."""
     name = runner.name_of(unit[0])
     return name.rpartition(".")[0] if runner.has_fixture(type(unit[0])) else name
 
@@ -79,17 +79,17 @@ def strip_nested(name: str) -> str:
 
 
 def get_module_level_code(codes_of_module: list[CodeType]) -> list[object]:
-    """Return the code that runs when a module, or a class in it, is loaded, to compare."""
+    """Return the code that runs when a module is loaded, in a form that can be compared."""
     return [(code.co_code, code.co_names,
              [repr(value) for value in code.co_consts if not isinstance(value, CodeType)])
             for code in codes_of_module if not code.co_flags & HAS_LOCALS]
 
 
 def patch_functions(path: str, before: str, text: str) -> bool:
-    """Replace the code of functions in a loaded module by the code from its new text.
+    """Replace the code of functions in a loaded module with the code from the module's new text.
 
-    `before` is the loaded text. Return `False` if a function can't be replaced, or if code outside
-    of functions changed.
+    `before` is the loaded text. Return `False` if a function cannot be replaced, or if code outside
+    functions changed.
     """
     old, others = (list(list_nested_codes(compile(item, path, "exec"))) for item in (before, text))
     if sys.version_info < (3, 11) or get_module_level_code(old) != get_module_level_code(others):
@@ -110,7 +110,7 @@ def patch_functions(path: str, before: str, text: str) -> bool:
 
 
 class LoadedCopy:
-    """A copy of the repository in `top`, with its tests loaded."""
+    """A copy of the repository in the folder `top`, with its tests loaded."""
 
     def __init__(self, top: str, program: str) -> None:
         self.top, self.program = top, program
@@ -129,7 +129,7 @@ class LoadedCopy:
         self.units = module.LoadedCopy(self.top, self.program).units
 
     def run(self, names: Sequence[str]) -> Answer:
-        """Run tests until one fails; return how many passed, the failed test, and the reason."""
+        """Run tests until one fails. Return how many passed, the failed test, and the reason."""
         for passed, name in enumerate(names):
             counts = StopAtFailure(False)
             with contextlib.redirect_stdout(io.StringIO()), \
@@ -140,7 +140,7 @@ class LoadedCopy:
         return {"passed": len(names), "failed": "", "by": ""}
 
     def select_tests(self, name: str) -> list[unittest.TestCase]:
-        """Return the tests in a unit, or the tests whose names contain `name`."""
+        """Return the tests of a test or class name, or the tests whose names contain `name`."""
         found = self.units.get(name) or [test for unit in self.units.values() for test in unit
                                          if name in runner.name_of(test)]
         if not found:
@@ -161,7 +161,7 @@ class LoadedCopy:
             return run_forked(planted, seconds)
 
     def trace_calls(self, name: str, seconds: float) -> Answer:
-        """Run a test; return the called functions, its duration in seconds, and its failure."""
+        """Run a test. Return the called functions, its duration in seconds, and its failure."""
         folder = os.path.join(self.top, "watch")
         os.makedirs(folder, exist_ok=True)
         with open(os.path.join(folder, "sitecustomize.py"), "w", encoding="utf-8") as file:
@@ -173,7 +173,7 @@ class LoadedCopy:
 
         def watching() -> Answer:
             os.environ.update({CALLS: calls, "PYTHONPATH": folder})
-            exec(TRACE_CODE, {})  # other processes of the test load it as sitecustomize
+            exec(TRACE_CODE, {})  # other processes of the test load this code as sitecustomize
             return self.run([name])
 
         begun = time.monotonic()
@@ -185,7 +185,7 @@ class LoadedCopy:
 
 
 def run_forked(serve: Callable[[], Answer], seconds: float) -> Answer:
-    """Run `work` in a process of its own; end it, and all that it started, after `seconds`."""
+    """Run `work` in a forked process. Kill the process and its children after `seconds`."""
     reading, writing = os.pipe()
     child = os.fork()
     if not child:
@@ -193,7 +193,7 @@ def run_forked(serve: Callable[[], Answer], seconds: float) -> Answer:
             os.setsid()
             os.dup2(os.open(os.devnull, os.O_WRONLY), 2)
             os.write(writing, json.dumps(serve()).encode())
-        except BaseException as error:  # the module can't be loaded with the bug
+        except BaseException as error:  # the mutant cannot be loaded
             os.write(writing, json.dumps(
                 {"passed": 0, "failed": "loading", "by": type(error).__name__}).encode())
         finally:
@@ -202,7 +202,7 @@ def run_forked(serve: Callable[[], Answer], seconds: float) -> Answer:
     output = b""
     if select.select([reading], [], [], seconds)[0]:
         output = os.read(reading, 65536)
-    for kill in (os.killpg, os.kill):  # its process group may not exist yet
+    for kill in (os.killpg, os.kill):  # the process group may not exist yet
         with contextlib.suppress(OSError):
             kill(child, signal.SIGKILL)
     os.waitpid(child, 0)
@@ -211,7 +211,7 @@ def run_forked(serve: Callable[[], Answer], seconds: float) -> Answer:
 
 
 class Worker:
-    """A copy of the repository (partly links), and a process that performs tasks in it."""
+    """A copy of the repository, partly links, and a process that runs tasks in it."""
 
     def __init__(self, folder: str, program: str) -> None:
         os.chmod(folder, 0o755)  # some tests run as another user, who must read the copy
@@ -228,7 +228,7 @@ class Worker:
         self.names = self.run_task({})["names"]
 
     def run_task(self, task: Answer) -> Answer:
-        """Return the answer to a task."""
+        """Send a task to the process and return its answer."""
         assert self.running.stdin and self.running.stdout
         print(json.dumps(task), file=self.running.stdin, flush=True)
         line = self.running.stdout.readline()
@@ -242,8 +242,8 @@ class Worker:
 
 
 def serve(folder: str, program: str) -> None:
-    """Do the tasks of standard input in a copy: trace a test, or run tests with changed files."""
-    sys.dont_write_bytecode = False  # nothing except bugs changes the copy
+    """Run tasks from standard input: trace a test, or run tests with changed files."""
+    sys.dont_write_bytecode = False  # only mutants change the modules of the copy
     copy = LoadedCopy(folder, program)
     sys.dont_write_bytecode = True
     out = os.fdopen(os.dup(1), "w")

@@ -1,4 +1,4 @@
-"""The index of clauses in docs/CLAUSES.md: each promise, and the clauses that state it."""
+"""Read the index in docs/CLAUSES.md, which lists each promise with the clauses that state it."""
 from __future__ import annotations
 
 import re
@@ -12,18 +12,18 @@ HEAD = "\n## The index of clauses\n"
 
 
 def find_index(text: str) -> str:
-    """Return the index in a document, or the entire text if the index has no heading."""
+    """Return the text of the index, or the entire document if it has no such heading."""
     return text.rpartition(HEAD)[2].partition("\n## ")[0]
 
 
 def list_indexed_clauses(text: str) -> list[str]:
-    """Return the clauses in the rows, each once: CRATE/FUNCTION.CLAUSE, or the name of a law."""
+    """Return the clauses in the index, each once: CRATE/FUNCTION.CLAUSE, or a law's name."""
     return list(dict.fromkeys(
         clause for row in ROW.finditer(find_index(text)) for clause in CLAUSE.findall(row[2])))
 
 
 def find_unknown_clauses(text: str, library: Library) -> list[str]:
-    """Return a message for each clause in a row that the sources do not have."""
+    """Return a message for each clause in the index that is not in the sources."""
     found: list[str] = []
     for clause in list_indexed_clauses(text):
         try:

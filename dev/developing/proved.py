@@ -23,13 +23,13 @@ from subtitles.common.program import TOP, copy, read, write
 OUT, DIST = os.path.join(TOP, "out"), os.path.join(TOP, "dist")
 LINES_FILE = os.path.join(OUT, "lines")
 BUILT_PROGRAM = os.path.join(TOP, "crates", "subttx", "out",
-                             "subttx")  # the program as rt builds it
+                             "subttx")  # the program that rt builds
 
 Crates = dict[str, tuple[str, str]]
 
 
 class Proved(NamedTuple):
-    """The contents of a file PROVED; `crates` maps a name to its checksum and the prover's line."""
+    """The contents of a PROVED file. `crates` maps a name to a checksum and the prover's line."""
 
     sources: str | None
     program: str | None
@@ -38,7 +38,7 @@ class Proved(NamedTuple):
 
 
 def parse_proved(text: str | None) -> Proved:
-    """Parse a file PROVED, or out/lines, which has neither `sources` nor `program`."""
+    """Parse a PROVED file, or out/lines, which has no `sources` or `program` line."""
     values: dict[str, str | None] = dict.fromkeys(("sources", "program", "toolchain"))
     crates: Crates = {}
     for line in (text or "").splitlines():
@@ -52,7 +52,7 @@ def parse_proved(text: str | None) -> Proved:
 
 
 def format_proved(proved: Proved) -> str:
-    """Return the text of the file."""
+    """Return the text of the PROVED file."""
     lines = [f"{word} {getattr(proved, word)}" for word in ("sources", "program", "toolchain")
              if getattr(proved, word)]
     lines += [f"crate {name} {digest} {line}" for name, (digest, line) in proved.crates.items()]
@@ -66,7 +66,7 @@ def read_proved(folder: str) -> Proved:
 def list_crate_sums(text: str | None = None) -> dict[str, str]:
     """Return the checksum of each crate's sources by name, lowest crate first.
 
-    `text` is the output of `tools/sources --crates`; if it is `None`, the script is called.
+    `text` is the output of `tools/sources --crates`; if it is `None`, run that script.
     """
     if text is None:
         command = [os.path.join(TOP, "tools", "sources"), "--crates"]
@@ -81,7 +81,7 @@ def compute_digest(path: str) -> str:
 
 
 def read_toolchain_version() -> str:
-    """Return the version of the toolchain."""
+    """Return the output of `rt version`."""
     try:
         return subprocess.run(["rt", "version"], stdin=subprocess.DEVNULL, check=True,
                               stdout=subprocess.PIPE).stdout.decode().strip()
@@ -90,7 +90,7 @@ def read_toolchain_version() -> str:
 
 
 def parse_log(log: str) -> dict[str, str]:
-    """Return the prover's line of each crate that `rt ci` proved, by name, without test crates."""
+    """Return the prover's line for each crate that `rt ci` proved, by name, without test crates."""
     found: dict[str, str] = {}
     crate: str | None = None
     proof: str | None = None
@@ -105,7 +105,7 @@ def parse_log(log: str) -> dict[str, str]:
 
 
 def store_lines(lines: dict[str, str], sums: dict[str, str]) -> None:
-    """Store the prover's lines in out/lines; `sums` are the checksums of the proved sources."""
+    """Store the prover's lines in out/lines. `sums` has the checksums of the proved sources."""
     version, notes = read_toolchain_version(), parse_proved(read(LINES_FILE))
     crates = notes.crates if notes.toolchain == version else {}
     crates |= {name: (sums[name], line) for name, line in lines.items() if name in sums}
@@ -113,7 +113,7 @@ def store_lines(lines: dict[str, str], sums: dict[str, str]) -> None:
 
 
 def list_known_lines(version: str | None) -> dict[tuple[str, str], str]:
-    """Return the stored lines of this toolchain's prover, by crate and checksum."""
+    """Return the stored lines from this version of the toolchain, by crate and checksum."""
     found: dict[tuple[str, str], str] = {}
     for proved in (read_proved(DIST), parse_proved(read(LINES_FILE))):
         if proved.toolchain == version:
@@ -130,7 +130,7 @@ def add_known_lines(proved: Proved) -> Proved:
 
 
 def keep_built_program(of_sources: str, program: str = BUILT_PROGRAM) -> None:
-    """Copy the program that rt has proved and built to out/, with a file PROVED."""
+    """Copy the program that rt has proved and built to out/, and write its PROVED file."""
     proved = add_known_lines(Proved(of_sources, compute_digest(program), read_toolchain_version(),
                                     {}))
     copy(program, os.path.join(OUT, "subttx"), 0o755)
@@ -138,6 +138,6 @@ def keep_built_program(of_sources: str, program: str = BUILT_PROGRAM) -> None:
 
 
 def find_crates_without_line(proved: Proved) -> list[str]:
-    """Return the crates whose current sources have no line in a file PROVED."""
+    """Return the crates whose current sources have no line in a PROVED file."""
     return [name for name, digest in list_crate_sums().items()
             if proved.crates.get(name, ("", ""))[0] != digest]

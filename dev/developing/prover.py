@@ -19,7 +19,7 @@ from .proved import read_toolchain_version
 
 PROGRAM = "subttx"
 TARGET = "x86_64-unknown-linux-gnu"
-# The words that may occur in a prover's line: any other word names something unproved.
+# The words that may occur in a prover's line. Any other word counts something unproved.
 WORDS = {"functions", "axioms", "target", "cpu", "sum", "native", "logic-built", "libraries-built",
          "statements"}
 LINE = re.compile(r"^logic=proved .*$", re.M)
@@ -27,7 +27,7 @@ WARNING = re.compile(r"^(\S+ )?warning:", re.M)
 
 
 class Prover:
-    """The prover of the toolchain whose `rt` is on the PATH, and the folder for its libraries."""
+    """The toolchain's prover, found by the `rt` on PATH, and the folder for built libraries."""
 
     def __init__(self, lines: Lines, made: str) -> None:
         rt = shutil.which("rt")
@@ -41,17 +41,17 @@ class Prover:
         return os.path.join(self.kit, *names)
 
     def get_library_path(self, name: str) -> str:
-        """Return the path of the library of a crate, of this repository or of the toolchain."""
+        """Return the path of the library for a crate of this repository or of the toolchain."""
         folder = self.made if name in self.lines else self.get_toolchain_path("rlibs")
         return os.path.join(folder, f"{name}.rlib")
 
     def get_output_path(self, crate: str) -> str:
-        """Return the path of the library of a crate, or of the program's object file."""
+        """Return the path of a crate's library, or of the program's object file."""
         return (os.path.join(self.made, "subttx.o") if crate == PROGRAM
                 else self.get_library_path(crate))
 
     def make_prove_command(self, crate: str, jobs: int) -> list[str]:
-        """Return the command that proves a crate and writes its library, in the crate's folder."""
+        """Return the command that proves a crate and writes its library, for the crate's folder."""
         root = "src/main.rt" if crate == PROGRAM else "src/lib.rt"
         words = [os.path.join(self.programs, "rattle"), "build", "--crate-name", crate, root]
         for name in ["std", *self.lines[crate]]:
@@ -61,7 +61,7 @@ class Prover:
         words += ["--antt-project", self.get_toolchain_path("rattle", "logic", "antt-project.json")]
         words += ["--logic-built", self.get_toolchain_path("logic_built"), "--jobs", str(jobs)]
         words += ["--empty-contracts"]
-        # No crate of this repository has C code of its own.
+        # Crates of this repository contain no C code.
         words += ["--links", f"{crate}="]
         words += (["--toolchain", self.get_toolchain_path("toolchain")] if crate == PROGRAM
                   else ["--statements"])
@@ -77,10 +77,10 @@ class Prover:
 
 
 def parse_prover_line(output: str) -> str | None:
-    """Return the prover's line at the end of its output about a crate.
+    """Return the last result line in the prover's output for a crate.
 
-    Return `None` if the line has an unknown word, or if the output has a warning, for example that
-    no call can meet a contract.
+    Return `None` if the line has an unknown word, or if the output has a warning, such as a
+    contract that no call can satisfy.
     """
     found = [] if WARNING.search(output) else LINE.findall(output)
     words = {word.partition("=")[0] for word in found[-1].split()[1:]} if found else set[str]()
@@ -88,7 +88,7 @@ def parse_prover_line(output: str) -> str | None:
 
 
 class BuildRecord:
-    """The libraries that were built here, each with the checksum of its sources and toolchain."""
+    """The libraries built on this machine, each with a checksum of its sources and toolchain."""
 
     def __init__(self, prover: Prover, sums: dict[str, str]) -> None:
         self.prover, self.sums, self.toolchain = prover, sums, read_toolchain_version()
@@ -97,13 +97,13 @@ class BuildRecord:
         return os.path.join(self.prover.made, f"{crate}.of")
 
     def compute_sum(self, crate: str) -> str:
-        """Return the checksum of the toolchain and the sources of a crate and its crates below."""
+        """Return a checksum of the toolchain and the sources of a crate and its dependencies."""
         names = [*list_dependencies(crate, self.prover.lines), crate]
         text = "\n".join([self.toolchain, *(self.sums[name] for name in names)])
         return hashlib.sha256(text.encode()).hexdigest()
 
     def find_line(self, crate: str) -> str | None:
-        """Return the prover's line of a crate if exactly these sources were proved here."""
+        """Return the prover's line for a crate if exactly these sources were proved here."""
         digest, _, line = (read(self.get_note_path(crate)) or "").partition("\n")
         is_there = os.path.exists(self.prover.get_output_path(crate))
         return line.strip() if is_there and digest == self.compute_sum(crate) else None
@@ -117,7 +117,7 @@ class BuildRecord:
 
 
 def compute_remaining_work(lines: Lines, sizes: dict[str, int]) -> dict[str, int]:
-    """Return for each crate, highest first, the work on its longest path up to the program."""
+    """Return for each crate, highest first, the work on its longest path to the program."""
     found: dict[str, int] = {}
     for name in reversed(sizes):
         above = (work for user, work in found.items() if name in lines[user])

@@ -4,18 +4,18 @@ from __future__ import annotations
 import re
 import subprocess
 
-SECONDS = 600  # time limit for one command line on a busy machine
+SECONDS = 600  # time limit in seconds for one command line on a busy machine
 
 
 class Line:
-    """A command line of a document: its line number, the command, and the output shown."""
+    """A command line in a document: its line number, the command, and the output shown there."""
 
     def __init__(self, number: int, command: str) -> None:
         self.number, self.command, self.shown = number, command, ""
 
 
 def find_commands(path: str) -> list[Line]:
-    """Return the command lines of a document."""
+    """Return the command lines in a document."""
     inside = False
     current: Line | None = None
     found: list[Line] = []
@@ -47,7 +47,7 @@ def has_expected_status(status: int | None, command: str, output: str) -> bool:
 
 
 def run_command(command: str, folder: str, env: dict[str, str]) -> tuple[str, int | None]:
-    """Run a command line; return its output and its status, `None` if it did not end in time."""
+    """Run a command line. Return its output and its exit status (`None` after a timeout)."""
     try:
         done = subprocess.run(["sh", "-c", command], cwd=folder, env=env, check=False,
                               stdin=subprocess.DEVNULL, stdout=subprocess.PIPE,

@@ -1,10 +1,10 @@
-"""The signs of antt that definitions use, with their meanings; `tools/reading-list` prints them."""
+"""The symbols in definitions, with their meanings; `tools/reading-list` prints them."""
 from __future__ import annotations
 
 import re
 from typing import Iterable
 
-# The tokens of a sign; its notation; its meaning.
+# The tokens of a symbol, its notation, and its meaning.
 ROWS = """
 → | A → B | if A then B; also: functions from A to B
 → | (x : A) → P | for every x of A, P; (x y : ℕ) (p : List ℕ) → P the same for several
@@ -52,7 +52,7 @@ WORD = re.compile(r"\.[01]\b|[^\s(){},;.]+")
 
 
 def find_signs(lines: Iterable[str]) -> list[str]:
-    """Return the meanings of the signs that occur in some lines."""
+    """Return the meanings of the symbols that occur in these lines."""
     words = {word for line in lines for word in WORD.findall(line)}
     rows = [[part.strip() for part in re.split(r" \| ", row, maxsplit=2)]
             for row in ROWS.strip().split("\n")]

@@ -1,6 +1,6 @@
-"""Count the crates' lines of code, contracts, definitions, proofs and tests.
+"""Count each crate's lines of code, contracts, definitions, proofs and tests.
 
-Blank lines do not count, nor imports and comments in code.
+Blank lines do not count, nor do imports and comments in code.
 """
 from __future__ import annotations
 
@@ -15,13 +15,13 @@ from .graph import UseGraph
 
 KINDS = ("code", "contracts", "specs", "proofs", "tests")
 TESTS = ("tests", "check_tests", "word_tests", "file_tests", "program_tests", "fixtures",
-         "answer_fixtures")  # crates
+         "answer_fixtures")  # crates for tests
 IMPORT = re.compile(r"(ghost use|use|pub use|mod|pub mod)\b")
 CONTRACT = re.compile(r"(requires|ensures)\b")
 
 
 def count_code(text: str, sizes: collections.Counter[str]) -> None:
-    """Add the lines of a file of code to `sizes`."""
+    """Add the line counts of a source file to `sizes`."""
     is_test, depth = False, 0
     for line in filter(None, map(str.strip, text.split("\n"))):
         is_test = is_test or line == "mod tests {"
@@ -35,7 +35,7 @@ def count_code(text: str, sizes: collections.Counter[str]) -> None:
 
 
 def count_lines(top: str) -> dict[str, collections.Counter[str]]:
-    """Return the sizes of each crate of a repository by name."""
+    """Return the line counts of each crate in a repository by name."""
     found: dict[str, collections.Counter[str]] = collections.defaultdict(collections.Counter)
     for path in glob.glob(os.path.join(top, "crates", "*", "*", "**", "*.*"), recursive=True):
         crate, part = os.path.relpath(path, os.path.join(top, "crates")).split(os.sep)[:2]
@@ -51,12 +51,12 @@ def count_lines(top: str) -> dict[str, collections.Counter[str]]:
 
 
 def add_sizes(sizes: dict[str, collections.Counter[str]]) -> collections.Counter[str]:
-    """Return the sizes of all crates together."""
+    """Return the total line counts of all crates."""
     return sum(sizes.values(), collections.Counter())
 
 
 def count_promised_definitions(graph: UseGraph) -> collections.Counter[str]:
-    """Count the lines of each crate's definitions that public contracts and laws depend on."""
+    """Count the lines of definitions on which public contracts and laws depend, by crate."""
     lines: collections.Counter[str] = collections.Counter()
     for definition in graph.list_promised_definitions():
         lines[definition.file.crate] += definition.lines

@@ -1,4 +1,4 @@
-"""Parse the definitions, lemmas and functions of a file of specs/, proofs/ or src/, for dev/graph.
+"""Parse the definitions, lemmas and functions in a file of specs/, proofs/ or src/, for dev/graph.
 """
 from __future__ import annotations
 
@@ -16,7 +16,7 @@ FUNCTION = re.compile(r"^( *)(pub(?:\([^)]*\))? )?(?:(?:const|final|unsafe) )*fn
 CLAUSE = re.compile(r"\b(requires|ensures)\*? *(\w*) *\{")
 BLOCK = re.compile(r" *(?:pub )?(?:unsafe )?(?:impl|trait)\b(?:<.*?>)? ?(?:.* for )?"
                    r"(?:\w+::)*(\w+)")
-NO_TEXT = ("//", "use ", "pub use ", "ghost use ", "mod ", "#[")  # lines of src/ without names
+NO_TEXT = ("//", "use ", "pub use ", "ghost use ", "mod ", "#[")  # skipped lines of src/
 QUOTED = re.compile(r"`([\w'-]+)`")
 MAIN = re.compile(r"[Mm]ain lemmas?: ([^.:]*)")
 
@@ -25,7 +25,7 @@ MAIN = re.compile(r"[Mm]ain lemmas?: ([^.:]*)")
 class Node:
     """A definition, a lemma, a function, one of its clauses, or its body.
 
-    The owner of a function is the type or trait of its block.
+    The owner of a function is the type or trait in whose block it is.
     """
 
     kind: str
@@ -37,7 +37,7 @@ class Node:
     is_promise: bool = False
     is_public: bool = False
     owner: str = ""
-    function: Node | None = None  # of a clause
+    function: Node | None = None  # the function of a clause
     uses: dict[Node, None] = field(default_factory=dict)
     used_by: dict[Node, None] = field(default_factory=dict)
 
@@ -66,17 +66,16 @@ class Source(File):
 # Definitions and lemmas
 
 def read_definitions(file: Source, kind: str) -> Iterator[Node]:
-    """Yield the definitions of a file of specs/ or proofs/, with those inside of
-    `module _ .. where`.
+    """Yield the definitions in a file of specs/ or proofs/, also those inside `module _ .. where`.
 
-    A definition begins at a line with a type, or with a keyword as `pub`, at the indentation of its
-    neighbours. Its equations and all lines with more indentation belong to it, and so do the
-    parameters of the modules around it.
+    A definition begins at a line with a type or a keyword such as `pub`, at the indentation of its
+    neighbours. It includes its equations, all lines with more indentation, and the parameters of
+    the enclosing modules.
     """
     now: Node | None = None
-    # Of each module around a line: its indentation, its parameters, the indentation inside.
+    # The indentation, the parameters and the inner indentation of each enclosing module.
     modules: list[tuple[int, list[str], int]] = []
-    is_head = False  # the line is within the parameters of a module
+    is_head = False  # whether the line is within the parameters of a module
     for number, line in enumerate(file.text.split("\n"), 1):
         bare = line.strip()
         if not bare or bare.startswith(("--", "pub mod ")) or USE.match(line):
@@ -109,13 +108,13 @@ def ends_head(bare: str) -> bool:
 
 
 def find_defined_name(bare: str) -> str | None:
-    """Return the name of the definition that a line begins, `None` for an equation."""
+    """Return the name of the definition that a line begins, or `None` for an equation."""
     head = HEAD.match(bare)
     return head[2] if head and (head[1] or re.match(r" *:(?:\s|$)", bare[head.end():])) else None
 
 
 def find_head_names(text: str) -> set[str]:
-    """Return the names in backquotes in a file's first comment, and its list of main lemmas."""
+    """Return the quoted names in a file's first comment, and the names of its main lemmas."""
     lines = itertools.takewhile(lambda line: line.startswith("--"), text.split("\n"))
     head = " ".join(line[2:].strip() for line in lines)
     listed_there = (re.split(r"[`,;\s]+", names) for names in MAIN.findall(head))
@@ -125,9 +124,9 @@ def find_head_names(text: str) -> set[str]:
 # Functions
 
 def read_functions(file: Source) -> list[str]:
-    """Read the functions of a file of src/ into `file`; return the lines outside of them."""
+    """Add the functions in a file of src/ to `file`. Return the lines outside functions."""
     other_lines: list[str] = []
-    attributes: list[str] = []  # of the next function
+    attributes: list[str] = []  # attributes of the next function
     owner, at = "", 0
     lines = file.text.split("\n")
     while at < len(lines):
@@ -157,7 +156,7 @@ def read_functions(file: Source) -> list[str]:
 
 def find_end_of_function(lines: list[str], at: int, indent: str) -> int:
     """Return the last line of the function that begins at line `at` with this indentation."""
-    depth = 0  # of braces in its contract
+    depth = 0  # depth of braces in the contract
     for number in range(at, len(lines)):
         line = lines[number].rstrip()
         is_clause = CLAUSE.search(line) or depth
@@ -167,12 +166,12 @@ def find_end_of_function(lines: list[str], at: int, indent: str) -> int:
             return next((k for k in range(number, len(lines)) if lines[k] == indent + "}"), number)
         depth += line.count("{") - line.count("}")
         if not depth and line.endswith(";"):
-            return number  # declared by a trait: no body
+            return number  # a trait's function without a body
     return len(lines) - 1
 
 
 def list_contract_clauses(text: str) -> Iterator[tuple[str, str, str, int]]:
-    """Yield the keyword, name, text and end of each clause of a contract."""
+    """Yield the keyword, name, text and end offset of each clause in a contract."""
     at = 0
     while found := CLAUSE.search(text, at):
         inner = read_braced_text(text, found.end())
@@ -180,4 +179,3 @@ def list_contract_clauses(text: str) -> Iterator[tuple[str, str, str, int]]:
         yield found[1], found[2], inner, at
 
 
-# All of them

@@ -8,17 +8,17 @@ DOUBLE_HEIGHT, START_BOX, END_BOX = b"\x0d", b"\x0b", b"\x0a"
 
 
 def encode_time_code(frame: int) -> bytes:
-    """Return a frame's hours, minutes, seconds and frames, as the four bytes of a TTI block."""
+    """Return the hours, minutes, seconds and frames of a time code, one byte each."""
     seconds, frames = divmod(frame, FRAMES_A_SECOND)
     return bytes([seconds // 3600, seconds // 60 % 60, seconds % 60, frames])
 
 
 def make_gsi_block(title: bytes, blocks: int, subtitles: int, first: int = 0,
                    language: bytes = b"09") -> bytes:
-    """Return a GSI block: STL25.01, Teletext of level 1, code table 00.
+    """Return a GSI block with STL25.01, Teletext level 1 and code table 00.
 
     `language` is 09 for English and 08 for German. `subttx` ignores the counts of blocks and
-    subtitles, and the frame of the first one.
+    subtitles and the first time code.
     """
     block = bytearray(b" " * GSI)
 
@@ -43,7 +43,7 @@ def make_gsi_block(title: bytes, blocks: int, subtitles: int, first: int = 0,
 
 def make_tti_block(number: int, begin: int, end: int, row: int, justify: int, text: bytes,
                    ebn: int = LAST_BLOCK, comment: int = 0, group: int = 0) -> bytes:
-    """Return a TTI block. Times are frames of the day; the text has at most 112 bytes."""
+    """Return a TTI block. Times are frames since midnight; the text has at most 112 bytes."""
     assert len(text) <= TEXT
     head = bytes([group, number & 255, number >> 8 & 255, ebn, 0])
     head += encode_time_code(begin) + encode_time_code(end) + bytes([row, justify, comment])
@@ -52,7 +52,7 @@ def make_tti_block(number: int, begin: int, end: int, row: int, justify: int, te
 
 def make_subtitle_blocks(number: int, begin: int, end: int, row: int, justify: int,
                          text: bytes) -> bytes:
-    """Return the TTI blocks of a subtitle, as few as its text needs."""
+    """Return the TTI blocks for a subtitle, as few as its text needs."""
     fields = [text[at:at + TEXT] for at in range(0, len(text), TEXT)] or [b""]
     numbers = [*range(len(fields) - 1), LAST_BLOCK]
     return b"".join(make_tti_block(number, begin, end, row, justify, field, ebn)
@@ -60,5 +60,5 @@ def make_subtitle_blocks(number: int, begin: int, end: int, row: int, justify: i
 
 
 def box_line(text: bytes, colour: bytes = b"") -> bytes:
-    """Return a double-height line with its box codes doubled, as most files have it."""
+    """Return a double-height line with doubled box codes, as most files have them."""
     return DOUBLE_HEIGHT + colour + START_BOX * 2 + text + END_BOX * 2

@@ -1,4 +1,4 @@
-"""Run the program for dev/faults, and judge runs with failing calls."""
+"""Run the program for dev/faults, and check runs in which system calls fail."""
 from __future__ import annotations
 
 import os
@@ -13,26 +13,26 @@ from subtitles.formats.stl import GSI, TTI
 
 NO_MEMORY = re.compile(rb"fault (91 Memory|58 Memory block \d+)\n")
 ANOTHER_USER = 65534
-SECONDS = 2  # seconds of processor time for one run
-MAX_SECONDS = 600  # seconds of a run on a busy machine
-MAX_LOG_BYTES = 1 << 20  # bytes of strace's log; a run with a longer log is considered endless
-END_FORMAT = "\\0ended\\0"  # printf's format for the end of a run's output, which has no zero byte
-RUNS_PER_SHELL = 16  # number of runs that one shell starts
+SECONDS = 2  # time limit of one run in seconds of processor time
+MAX_SECONDS = 600  # time limit of one run in seconds on a busy machine
+MAX_LOG_BYTES = 1 << 20  # bytes; a run with a larger strace log is considered endless
+END_FORMAT = "\\0ended\\0"  # printf format that marks the end of a run's output
+RUNS_PER_SHELL = 16  # number of runs per shell
 
 CALL = re.compile(r"^\d+ +(\w+)\((.*)\) += (-?\w+)(.*)$")
 CALLS = "trace=openat,read,write,fsync,close,statx,mmap,brk,rt_sigaction"
 STRACE = ["strace", "-f", "--seccomp-bpf", "-y", "-s", "0", "-e", CALLS]
-# Lines on standard error that come from the shell or from strace.
+# Lines on standard error that the shell or strace prints.
 SHELL_MESSAGES = re.compile(r"(sh|strace): ")
-# Printed faults that standard error must explain, and how each explanation begins.
+# Printed faults that need an explanation on standard error, and how that explanation begins.
 EXPLANATIONS = [(re.compile(rb"^fault \d+ (Open|Read|Write)\b", re.MULTILINE), "subttx: "),
                 (re.compile(rb"^usage 0 Words$", re.MULTILINE), "error: ")]
-UNREAD = "subttx: cannot read the command line: "  # if memory runs out
-# Number of faults that `check --all` reports for each PES packet of an input except the last.
+UNREAD = "subttx: cannot read the command line: "  # printed if memory runs out
+# Number of faults that `check --all` reports for each PES packet in an input except the last.
 FAULTS_PER_PACKET = {"long.pes": 0, "even.pes": 2, "unread.pes": 1}
 
 
-# Refuse the malloc or realloc with the number REFUSE_AT, and create the file REFUSED.
+# Let the malloc or realloc call with the number REFUSE_AT fail, and create the file REFUSED.
 REFUSER = rb"""
 #define _GNU_SOURCE
 #include <dlfcn.h>
@@ -68,8 +68,8 @@ void *realloc(void *old, size_t size) {
 }
 """
 
-# Close a written file as a file system that stores at close, and fails: KEPT bytes of the file are
-# left; if KEPT is negative, it is removed.
+# Let close fail like a file system that stores data at close. The first KEPT bytes of the file
+# remain; if KEPT is negative, the file is removed.
 UPLOADER = rb"""
 #define _GNU_SOURCE
 #include <dlfcn.h>
@@ -118,10 +118,10 @@ class Command(NamedTuple):
 
 
 class Call(NamedTuple):
-    """A system call in a log of strace.
+    """A system call in a log from strace.
 
-    `on` is the descriptor, or the file name of openat and statx. `number` counts the calls with
-    the same name from 1.
+    `on` is the descriptor, or the file name in a call to openat or statx. `number` counts the calls
+    with the same name from 1.
     """
 
     name: str
@@ -133,10 +133,10 @@ class Call(NamedTuple):
 
 
 class RunResult(NamedTuple):
-    """A run. `printed` is `None` if it can't be seen, `written` if there is no file.
+    """The result of a run. `printed` is `None` for unknown output, `written` for a missing file.
 
-    If the program could not run, `status` is the reason. `error_text` is standard error; `changed`
-    names files of the folder, other than the output, that changed.
+    If the program could not run, `status` is the reason. `error_text` is standard error. `changed`
+    contains the names of other changed files.
     """
 
     status: int | str
@@ -161,7 +161,7 @@ def read(path: str) -> bytes | None:
 
 
 def read_files(place: str, command: Command) -> dict[str, bytes | None]:
-    """Return the files of a folder by name, without strace's log and the command's output."""
+    """Return the files in a folder by name, except strace's log and the command's output."""
     out = os.path.realpath(os.path.join(place, command.out)) if command.out else ""
     return {name: read(os.path.join(place, name)) for name in os.listdir(place)
             if name not in (command.out, "calls")
@@ -169,7 +169,7 @@ def read_files(place: str, command: Command) -> dict[str, bytes | None]:
 
 
 def parse_calls(log: bytes) -> list[Call]:
-    """Return the system calls in a log of strace."""
+    """Return the system calls in a log from strace."""
     found: list[Call] = []
     numbers: dict[str, int] = {}
     for line in log[:MAX_LOG_BYTES].decode("utf-8", "replace").splitlines():
@@ -188,15 +188,15 @@ def parse_calls(log: bytes) -> list[Call]:
 
 
 class Setup(NamedTuple):
-    """The shell commands before a run, and the arguments before its command line."""
+    """Shell commands to run before the program, and arguments to put before its command line."""
 
     setup: str
     before: Sequence[str] = ()
 
 
 def split_output(printed: bytes, errors: bytes, count: int) -> list[tuple[int, bytes, bytes]]:
-    """Return the status of each run of a shell, negative for a signal, its output and its errors.
-    """
+    """Return the status (negative for a signal), the output and the error text of each run in a
+    shell."""
     end = END_FORMAT.replace("\\0", "\0").encode()
     texts, error_text = printed.split(end), errors.split(end)
     if (len(texts), len(error_text)) != (2 * count + 1, count + 1):
@@ -207,7 +207,7 @@ def split_output(printed: bytes, errors: bytes, count: int) -> list[tuple[int, b
 
 def collect_run(place: str, command: Command, before: dict[str, bytes | None], status: int,
                 printed: bytes | None, errors: bytes) -> RunResult:
-    """Return the result of a run in a folder; `before` are the files before it."""
+    """Return the result of a run in a folder. `before` contains the files before the run."""
     calls = parse_calls(read(os.path.join(place, "calls")) or b"")
     written = read(os.path.join(place, command.out)) if command.out else None
     after, error_text = read_files(place, command), errors.decode("utf-8", "replace")
@@ -227,7 +227,7 @@ class Trial:
         self.inputs: dict[str, bytes] = {}
         self.skipped: list[str] = []
         self.has_strace = self.can_run([*STRACE, "-o", os.devnull, "true"])
-        # Root may read every file, so another user runs the tests about permissions.
+        # Root may read every file, so permission tests run as another user.
         self.as_user: dict[str, int] = {} if os.geteuid() else {"user": ANOTHER_USER}
         self.has_user = self.can_run(["test", "-x", program], **self.as_user)
 
@@ -246,11 +246,11 @@ class Trial:
             file.write(data)
 
     def build_library(self, name: str, source: bytes) -> str | None:
-        """Build a library to load before the C library; return `None` if there is no C compiler."""
+        """Build a library for LD_PRELOAD. Return `None` if there is no C compiler."""
         if not shutil.which("cc"):
             self.skipped.append(f"{name}: there is no C compiler (cc)")
             return None
-        file = name.replace(" ", "-")  # LD_PRELOAD is split at spaces
+        file = name.replace(" ", "-")  # spaces separate the libraries in LD_PRELOAD
         self.add_input(f"{file}.c", source)
         path = os.path.join(self.folder, file)
         subprocess.run(["cc", "-O2", "-shared", "-fPIC", "-o", f"{path}.so", f"{path}.c", "-ldl"],
@@ -258,7 +258,7 @@ class Trial:
         return f"{path}.so"
 
     def make_command(self, name: str, program_args: list[str]) -> Command:
-        """Return a command with its result if nothing fails."""
+        """Return a command with its result if no call fails."""
         out = program_args[2] if program_args[0] in ("normal", "schedule", "extract") else None
         run_result = self.run(Command(name, program_args, out, 0, b"", None))
         return Command(name, program_args, out, run_result.status, run_result.printed or b"",
@@ -267,7 +267,7 @@ class Trial:
     def run(self, command: Command, before: Sequence[str] = (), setup: str = "",
             prepare: Callable[[str], object] | None = None,
             stdout: int | IO[bytes] = subprocess.PIPE, **more: Any) -> RunResult:
-        """Run the program in a new folder; `setup` is for the shell that starts it."""
+        """Run the program in a new folder, from a shell that first runs the commands `setup`."""
         with tempfile.TemporaryDirectory(dir=self.folder) as place:
             os.chmod(place, 0o777)
             if prepare:
@@ -284,8 +284,8 @@ class Trial:
             return collect_run(place, command, before_it, done.returncode, done.stdout, done.stderr)
 
     def run_each(self, command: Command, setups: Sequence[Setup]) -> list[RunResult]:
-        """Run the program with each setup, in new folders. One shell for all takes a third less
-        time."""
+        """Run the program with each setup, in new folders. A single shell takes a third less time.
+        """
         places = [tempfile.mkdtemp(dir=self.folder) for _ in setups]
         script = f"ulimit -c 0; ulimit -t {SECONDS}\n" + "".join(
             f"(cd {shlex.quote(place)} && {{ {setup.setup} exec "
@@ -305,7 +305,7 @@ class Trial:
                 shutil.rmtree(place)
 
     def run_traced(self, command: Command, injections: Sequence[str]) -> list[RunResult]:
-        """Run a command under strace with each injection."""
+        """Run a command under strace once for each fault injection."""
         return self.run_each(command, [
             Setup("", [*STRACE, "-o", "calls", *(["-e", injection] if injection else [])])
             for injection in injections])
@@ -319,7 +319,7 @@ class Trial:
 
 def find_faults(run_result: RunResult, status: int | str, printed: bytes,
                 written: bytes | None) -> list[str]:
-    """Return the differences of a run from the expected status, output and file."""
+    """Return the differences between a run and the expected status, output and file."""
     faults = []
     if run_result.status != status:
         faults.append(f"status {run_result.status}, expected {status}")
@@ -333,9 +333,9 @@ def find_faults(run_result: RunResult, status: int | str, printed: bytes,
 
 
 def find_explanation_faults(run_result: RunResult, printed: bytes) -> list[str]:
-    """Return the faults of standard error.
+    """Return the faults in the standard error of a run.
 
-    It must explain each fault of a file and of the arguments, and be empty for status 0 and 1.
+    It must explain each file fault and each argument fault, and must be empty for status 0 and 1.
     """
     if run_result.status in (0, 1) and run_result.error_text:
         return [f"unexpected standard error: {run_result.error_text!r}"]
@@ -359,7 +359,7 @@ def compare_with_normal_run(command: Command, run_result: RunResult) -> list[str
 
 
 def check_memory_failure(command: Command, run_result: RunResult) -> list[str]:
-    """Return faults unless a run is normal or reports that memory ran out.
+    """Return faults unless a run's output is normal or reports that memory ran out.
 
     If memory runs out, the explanation of wrong arguments may be missing or incomplete.
     """
@@ -383,7 +383,7 @@ def expect_write_fault(command: Command) -> bytes:
 
 
 def count_packets_before(data: bytes, offset: int) -> int:
-    """Count the PES packets that end at or before an offset."""
+    """Return the number of PES packets that end at or before an offset."""
     count = at = 0
     while at + 6 <= offset:
         at += 6 + int.from_bytes(data[at + 4:at + 6], "big")
@@ -392,7 +392,7 @@ def count_packets_before(data: bytes, offset: int) -> int:
 
 
 def parse_block(line: bytes) -> int:
-    """Return the block of a line `refused NN Name block N`."""
+    """Return the block number in a line `refused NN Name block N`."""
     return int(line.split()[4])
 
 
@@ -410,8 +410,8 @@ def expect_read_fault(trial: Trial, command: Command, name: str, offset: int) ->
     starts = [at for at, line in enumerate(lines) if line.startswith(b"pes ")] + [len(lines) - 1]
     before = lines[:starts[index]] if command.program_args[0] == "packets" else []
     if "--all" in command.program_args:
-        # Lines about the subtitle file are first. Each PES packet has FAULTS_PER_PACKET, not
-        # counting frames without a known expected page. Trusted frames are at the end.
+        # Lines about the subtitle file are first. Each PES packet has FAULTS_PER_PACKET lines,
+        # except frames without a known expected page. Lines about trusted frames are at the end.
         error_text = FAULTS_PER_PACKET[name] * index
         for line in lines:
             if line.startswith(b"refused ") and b" block " not in line and b" 78 " not in line:
@@ -424,13 +424,13 @@ def expect_read_fault(trial: Trial, command: Command, name: str, offset: int) ->
 
 
 def count_bytes_before(calls: list[Call], call: Call) -> int:
-    """Return the bytes that earlier calls of the same name moved on the same descriptor."""
+    """Return the bytes transferred by earlier calls of the same name on the same descriptor."""
     return sum(other.result or 0 for other in calls[:calls.index(call)]
                if (other.name, other.on, other.file) == (call.name, call.on, call.file))
 
 
 def is_output_check(calls: list[Call], call: Call) -> bool:
-    """Return whether a call comes after the output was stored, to check it and its folder."""
+    """Return whether a call comes after the output was stored, to check the file and its folder."""
     return call.name != "write" and any(
         other.name == "fsync" for other in calls[:calls.index(call)])
 
@@ -441,9 +441,9 @@ def is_explanation(call: Call) -> bool:
 
 
 def judge(trial: Trial, command: Command, run_result: RunResult) -> list[str]:
-    """Return the faults of a run under strace in which some calls were made to fail.
+    """Return the faults of a run under strace in which calls were made to fail.
 
-    A failed write to standard error changes nothing else.
+    A failed write to standard error must not change the rest of the output.
     """
     injected = [call for call in run_result.calls if call.is_injected]
     if not injected:

@@ -1,4 +1,4 @@
-"""Commands and input files of dev/faults."""
+"""Define the commands and input files of dev/faults."""
 from __future__ import annotations
 
 import os
@@ -10,11 +10,11 @@ from .pes import DATA, UNIT, find_starts
 from .stl import box_line, make_tti_block
 from .trial import Trial, read
 
-SUBTITLES = 1700  # subtitles: enough to fill each buffer of 64 KiB three times
-FLAGS = 6  # the byte of a PES packet that begins with the bits 10
+SUBTITLES = 1700  # enough subtitles to fill each 64 KiB buffer three times
+FLAGS = 6  # offset of the flags in a PES packet, which begin with the bits 10
 HEADER = "1515d0d015d015d00215" + "20" * 32
 
-# Commands with their status if no call fails; an output file is the third argument.
+# Commands with their status if no call fails. The output file, if any, is the third argument.
 COMMANDS = [
     ("packet", 0, ["packet", HEADER]),
     ("usage", 2, ["check", "../long.stl"]),
@@ -47,10 +47,9 @@ def make_subtitle(number: int) -> bytes:
 
 
 def set_even_parity(sent: bytes) -> bytes:
-    """Give each row of the transmission a byte of even parity.
+    """Give each row in the transmission one byte with even parity.
 
-    A page transmission of 368 bytes has two rows, after its header; the last one has 184 bytes and
-    no row.
+    A page transmission has 368 bytes: a header and two rows. The last one has 184 bytes and no row.
     """
     data = bytearray(sent)
     for begin in range(0, len(data) - 184, 368):
@@ -60,7 +59,7 @@ def set_even_parity(sent: bytes) -> bytes:
 
 
 def make_unreadable(sent: bytes) -> bytes:
-    """Make each PES packet of the transmission unreadable, for two alternating reasons."""
+    """Make each PES packet in the transmission unreadable, for two reasons in turn."""
     data = bytearray(sent)
     for number, begin in enumerate(find_starts(sent)[:-1]):
         data[begin + (DATA - 1 if number % 2 else FLAGS)] ^= 0x40
@@ -68,11 +67,11 @@ def make_unreadable(sent: bytes) -> bytes:
 
 
 def prepare(trial: Trial) -> None:
-    """Write the inputs, and run each command once with nothing failing."""
+    """Write the input files, and run each command once without failing calls."""
     gsi = (read(os.path.join(TOP, "examples", "hello.stl")) or b"")[:GSI]
     blocks = [make_subtitle(number) for number in range(1, SUBTITLES + 1)]
     trial.add_input("long.stl", gsi + b"".join(blocks))
-    blocks[-5] = blocks[-5][:4] + b"\1" + blocks[-5][5:]  # make the subtitle cumulative
+    blocks[-5] = blocks[-5][:4] + b"\1" + blocks[-5][5:]  # set the cumulative status
     trial.add_input("bad.stl", gsi + b"".join(blocks))
     for name, status, program_args in COMMANDS:
         command = trial.commands[name] = trial.make_command(name, program_args)

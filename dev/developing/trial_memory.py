@@ -1,7 +1,7 @@
 """Run the program with little memory, for dev/faults.
 
-Each request is refused, the address space is small, the stack is small, and many subtitles are in
-few megabytes.
+These runs refuse a memory request, limit the address space, limit the stack, or check a file with
+many subtitles in a few megabytes.
 """
 from __future__ import annotations
 
@@ -20,13 +20,13 @@ from .trial import (
 from .trial_inputs import HEADER
 
 KIBIBYTES = [96 * 1024, 64 * 1024, 32 * 1024, 16 * 1024, *range(8192, 1024, -48)]
-START_MEMORY = 8192  # KiB: the program must start with this much
-STACK_SIZE = 64  # KiB: each command takes less than 48
-SURVEY_STACK_SIZE = 160  # KiB: survey takes between 144 and 152
-MAX_SUBTITLES = 99_999  # subtitles of one block each: the most that a file may have
-MEMORY_BESIDE_TEXTS = 10_000_000  # bytes of memory for MAX_SUBTITLES subtitles without their texts
-TOO_LITTLE_MEMORY = 1_000_000  # bytes: not enough for MAX_SUBTITLES subtitles
-# Commands whose requests for memory are refused, one after the other, with files of examples/.
+START_MEMORY = 8192  # KiB in which the program must start
+STACK_SIZE = 64  # KiB; each command needs less than 48
+SURVEY_STACK_SIZE = 160  # KiB; `survey` needs between 144 and 152
+MAX_SUBTITLES = 99_999  # maximum number of subtitles in a file, with one block each
+MEMORY_BESIDE_TEXTS = 10_000_000  # bytes needed for MAX_SUBTITLES, except texts
+TOO_LITTLE_MEMORY = 1_000_000  # bytes; not enough for MAX_SUBTITLES subtitles
+# Commands whose memory requests are refused in turn, with files from examples/.
 REFUSED_REQUESTS = [line.split() for line in f"""
 packet {HEADER}
 packets hello.pes
@@ -40,7 +40,7 @@ check story.stl five-faults.pes --every 25 --all
 check low.stl story.pes --all
 listen hello-25.pes --at 10:00:00:10 --flip 1:21:1,1:22:1 --lose 7,9
 check hello.stl""".strip().split("\n")]
-# More commands for a small stack.
+# More commands to run with a small stack.
 STACK_COMMANDS = [line.split() for line in """
 help
 survey hello.pes
@@ -56,7 +56,7 @@ listen recording.ts --pid 257 --at 10:00:00:10""".strip().split("\n")]
 
 def run_parallel(trial: Trial, command: Command, numbers: Iterable[int], setup: Callable[[int], str]
                  ) -> Iterator[tuple[int, RunResult]]:
-    """Run a command with each number, RUNS_PER_SHELL at a time."""
+    """Run a command once for each number, RUNS_PER_SHELL runs at a time."""
     waiting = iter(numbers)
     while some := list(itertools.islice(waiting, RUNS_PER_SHELL)):
         yield from zip(some, trial.run_each(command, [Setup(setup(one)) for one in some]))
@@ -68,7 +68,7 @@ def run_with_less_memory(trial: Trial) -> Iterator[Case]:
         for size, run_result in run_parallel(trial, command, KIBIBYTES,
                                              lambda size: f"ulimit -v {size};"):
             name = f"{command.name} in {size} KiB"
-            # With too little memory the loader ends the program before its first call.
+            # With too little memory, the loader ends the program before its first instruction.
             if run_result.status in (127, -9, -11) and not run_result.printed:
                 found.append((name, run_result, [] if size < START_MEMORY else ["not started"]))
                 break
@@ -79,7 +79,7 @@ def run_with_less_memory(trial: Trial) -> Iterator[Case]:
 
 
 def resolve_examples(program_args: list[str]) -> list[str]:
-    """Replace the names of files of examples/ by their paths."""
+    """Replace the names of example files by their paths."""
     places = [os.path.join(TOP, "examples", word) for word in program_args]
     return [place if os.path.exists(place) else word for word, place in zip(program_args, places)]
 
@@ -90,7 +90,7 @@ def run_with_small_stack(trial: Trial) -> Iterator[Case]:
     for command in [*trial.commands.values(), *others]:
         def run(command: Command = command) -> list[Found]:
             size = SURVEY_STACK_SIZE if command.program_args[0] == "survey" else STACK_SIZE
-            # Clear the environment, which is on the stack too.
+            # Clear the environment, which is also on the stack.
             run_result = trial.run(command, before=["env", "-i"], setup=f"ulimit -s {size};")
             return [(f"{command.name} in a stack of {size} KiB", run_result,
                      compare_with_normal_run(command, run_result))]
@@ -122,8 +122,8 @@ def run_with_refused_memory(trial: Trial) -> Iterator[Case]:
 
 
 def run_with_many_subtitles(trial: Trial) -> Iterator[Case]:
-    """Check a file with the most subtitles that are allowed: it takes little memory beyond their
-    texts."""
+    """Check a file with the maximum number of subtitles in little more memory than its texts need.
+    """
     texts = [box_line(b"Subtitle %05d" % number) for number in range(MAX_SUBTITLES)]
     blocks = [make_tti_block(number & 0xFFFF, 20 * number, 20 * number + 20, 22, 2, text)
               for number, text in enumerate(texts)]
