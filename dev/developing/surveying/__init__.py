@@ -1,1 +1,1 @@
-"""What `survey` prints, from docs/manual/survey.md alone, for dev/check-survey."""
+"""A second implementation of `survey`, from docs/manual/survey.md alone, for dev/check-survey."""

@@ -1,4 +1,4 @@
-"""The PCR of a PID, its jumps, and counter breaks."""
+"""Track the PCRs of a PID, PCR jumps and continuity counter breaks."""
 from __future__ import annotations
 
 from typing import Callable, NamedTuple
@@ -7,19 +7,19 @@ from subtitles.common.times import ticks_between, wrap_pts
 from .packets import Packet
 
 SECOND, TENTH = 90_000, 9_000  # ticks
-MEDIANS, FEWEST = 100, 5  # distances in a median; with fewer distances no PCR is late
+MEDIANS, FEWEST = 100, 5  # distances in a median; minimum number of distances to detect a late PCR
 MOST_BREAKS = 256
-NEAR = 256  # TS packets
+NEAR = 256  # number of TS packets
 Say = Callable[[str], None]
 
 
 def number(value: int | None) -> str:
-    """Format a value as in a line."""
+    """Format a number for output, with `-` for `None`."""
     return "-" if value is None else str(value)
 
 
 class Seconds:
-    """Select the times to print: one each second, and each one before the last."""
+    """Selects the times to print: one per second, and each time before the last printed time."""
 
     def __init__(self) -> None:
         self.last: int | None = None
@@ -31,7 +31,7 @@ class Seconds:
 
 
 class Jump(NamedTuple):
-    """A jump of the PCR: fields of its line, and the places of both PCRs."""
+    """An irregular PCR: the fields of its line, and the positions of the last two PCRs."""
 
     fields: str
     first: int
@@ -46,11 +46,11 @@ class Clock:
         self.seconds = Seconds()
         self.last: int | None = None
         self.place = 0
-        self.is_compared = False  # no jump was announced since the last PCR
+        self.is_compared = False  # whether the next PCR is compared: no jump was announced
         self.distances: list[tuple[int, int]] = []
 
     def take(self, pcr: int, place: int) -> Jump | None:
-        """Take a PCR; return the jump, if any."""
+        """Process a PCR. Return an irregular PCR as a `Jump`, else `None`."""
         jump = None
         if self.last is not None and self.is_compared:
             jump = self.jump(ticks_between(self.last, pcr), place)
@@ -60,17 +60,17 @@ class Clock:
         return jump
 
     def usual(self) -> tuple[int, int]:
-        """Return the medians of the distances, in ticks and in TS packets."""
+        """Return the median distances between PCRs, in ticks and in TS packets."""
         ticks, packets = (sorted(some)[len(some) // 2]
                           for some in zip(*self.distances or [(0, 0)]))
         return ticks, packets
 
     def is_near(self, place: int) -> bool:
-        """Return whether there is a PCR not far before a TS packet."""
+        """Return whether the last PCR comes shortly before a TS packet."""
         return self.last is not None and place - self.place < max(NEAR, 4 * self.usual()[1])
 
     def jump(self, ticks: int, place: int) -> Jump | None:
-        """Compare with the PCR before; return the jump, if it is one."""
+        """Compare a PCR with the previous PCR. Return a `Jump` if the PCR is irregular."""
         packets, (usual, usual_packets) = place - self.place, self.usual()
         is_late = len(self.distances) >= FEWEST and ticks > max(TENTH, 3 * usual)
         if ticks < 0 or is_late:
@@ -80,13 +80,13 @@ class Clock:
 
 
 class Counters:
-    """The counters of all PIDs, with the places of TS packets with a payload."""
+    """The continuity counters of all PIDs, and the positions of TS packets with a payload."""
 
     def __init__(self) -> None:
         self.first: dict[int, int] = {}
-        self.last: dict[int, tuple[int, int]] = {}  # counter and place
+        self.last: dict[int, tuple[int, int]] = {}  # counter and position by PID
         self.announced: set[int] = set()
-        self.breaks: list[tuple[int, int, int]] = []  # PID, and places of two TS packets
+        self.breaks: list[tuple[int, int, int]] = []  # a PID, and the positions of two TS packets
 
     def take(self, packet: Packet, place: int) -> None:
         pid = packet.pid
@@ -103,7 +103,7 @@ class Counters:
         self.announced.discard(pid)
 
     def word(self, jump: Jump, pid: int) -> str:
-        """Return what the counters of other PIDs show about a jump."""
+        """Return what the counters of other PIDs show about a jump: broken, whole or unknown."""
         if any(other != pid and first < jump.last and last > jump.first
                for other, first, last in self.breaks):
             return "broken"

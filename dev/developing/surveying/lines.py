@@ -1,4 +1,4 @@
-"""All lines about a recording, in order."""
+"""Compute the lines of `survey` for a recording, in order."""
 from __future__ import annotations
 
 from collections import defaultdict
@@ -14,14 +14,14 @@ from .pictures import Video, is_video
 from .tables import PAT, PMT, Programme, Sections, pids_in, programme_of
 from .teletext import PesLines, Teletext
 
-READ = 65_536  # bytes that the program reads at once
-MOST, MOST_TABLES = 64, 128  # PIDs
+READ = 65_536  # number of bytes in one read of the program
+MOST, MOST_TABLES = 64, 128  # maximum number of PIDs
 NO_PCR = NULL = 0x1FFF  # PCR_PID of a programme without PCR; PID of null packets
 DATA_IDENTIFIERS = range(0x10, 0x20)
 
 
 def survey(data: bytes, page: Page, pid: int | None = None, size: int | None = None) -> list[str]:
-    """Return the lines of `survey`; the PID and the packet size are detected if not given."""
+    """Return the lines of `survey`. The PID and the packet size are detected unless given."""
     lines = ["survey 1", f"head {data[:11].hex()}".rstrip()]
     if data.startswith(START) and data[4:5] != b"\x47":
         return lines + pes_file_lines(data, page)
@@ -32,7 +32,7 @@ def survey(data: bytes, page: Page, pid: int | None = None, size: int | None = N
 
 
 def pes_file_lines(data: bytes, page: Page) -> list[str]:
-    """Return the lines about a file of PES packets."""
+    """Return the lines for a file of PES packets."""
     lines = ["size 0"]
     pes = PesLines(0, page, lines.append)
     place, damage = 0, ""
@@ -60,11 +60,11 @@ class Stream:
         self.page, self.asked, self.size = page, pid, size
         self.lines: list[str] = []
         self.say = self.lines.append
-        self.place = 0  # of a TS packet
+        self.place = 0  # position of the current TS packet
         self.counters = Counters()
         self.sections = {0: Sections()}
-        self.printed: dict[tuple[bytes, int], bytes] = {}  # sections of PMTs
-        # For each PID, PCR_PID and stream_type in the last PMT that names the PID.
+        self.printed: dict[tuple[bytes, int], bytes] = {}  # the last printed section of each PMT
+        # The PCR_PID and the stream_type of each PID, from the last PMT that names the PID.
         self.pmt_entries: dict[int, tuple[int, int]] = defaultdict(lambda: (NO_PCR, 0))
         self.clocks: dict[int, Clock] = {}
         self.teletext: dict[int, Teletext] = {}
@@ -72,7 +72,7 @@ class Stream:
         self.others: set[int] = set()  # PIDs without Teletext
 
     def lines_of(self, data: bytes, is_short: bool) -> list[str]:
-        """Return the lines; sometimes the last lines of `pes` come late."""
+        """Return the lines of `survey`. In some recordings the last `pes` lines come later."""
         if self.asked is not None:
             self.follow(self.asked)
         skipped = 0
@@ -130,7 +130,7 @@ class Stream:
                 teletext.print_jumps(self.place)
 
     def look_at(self, packet: Packet) -> None:
-        """Detect whether a PID has Teletext or video."""
+        """Detect whether a PID has Teletext or video, from the start of a PES packet."""
         data = packet.payload
         if packet.is_wrong or not packet.begins or not packet.has_payload or len(data) < 4 \
                 or not data.startswith(START[:3]):
@@ -182,7 +182,7 @@ class Stream:
                 teletext.note_pcr(jump)
 
     def compare(self, teletext: Teletext, pts: int) -> None:
-        """Compare a PTS with the programme's pictures and PCR."""
+        """Print the distances from the programme's pictures and PCR to a PTS."""
         pcr, _ = self.pmt_entries[teletext.pid]
         if pcr == NO_PCR:
             return

@@ -1,32 +1,31 @@
-"""TS packets (ISO/IEC 13818-1, 2.4.3), and their size."""
+"""Parse TS packets (ISO/IEC 13818-1, 2.4.3), and detect their size."""
 from __future__ import annotations
 
 from developing.every_place.recordings import PACKET, SIZES, SYNC, TransportPacket
 
-MOST_BYTES = 1 << 24  # that are searched for the packet size
+MOST_BYTES = 1 << 24  # maximum number of bytes searched for the packet size
 IN_A_ROW = 5
 DISCONTINUITY, RANDOM_ACCESS, PCR = 0x80, 0x40, 0x10  # flags of an adaptation field
 
 
 class Packet(TransportPacket):
-    """A TS packet. Its adaptation field counts unless transport_error_indicator is set."""
+    """A TS packet. Its adaptation field is ignored if transport_error_indicator is set."""
 
     def __init__(self, data: bytes) -> None:
         super().__init__(data)
-        self.has_error = data[1] & 0x80 != 0  # transport_error_indicator
+        self.has_error = data[1] & 0x80 != 0
         self.is_scrambled = data[3] & 0xC0 != 0
         length = data[4] if data[3] & 0x20 and not self.has_error else 0
         flags = data[5] if length else 0
         self.is_discontinuity = flags & DISCONTINUITY != 0
         self.is_random_access = flags & RANDOM_ACCESS != 0
-        # program_clock_reference_base
         self.pcr = int.from_bytes(data[6:11], "big") >> 7 if flags & PCR and length >= 7 else None
 
 
 def size_of(data: bytes) -> tuple[int | None, bool]:
-    """Return the distance of the first five packets in a row, or of all packets up to the end.
+    """Return the packet size, given by five sync bytes in a row or by fewer before the end.
 
-    The second value is true if there are fewer than five up to the end.
+    The second value is whether the data end within these five packets.
     """
     place = data.find(SYNC)
     while 0 <= place <= min(MOST_BYTES, len(data) - PACKET):

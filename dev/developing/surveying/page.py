@@ -1,4 +1,4 @@
-"""The requested page, decoded from its packets (EN 300 706)."""
+"""Decode the requested page from Teletext packets (EN 300 706)."""
 from __future__ import annotations
 
 from developing.pes import DATA_BITS, decode_address, decode_header, get_page_number, encode_triplet
@@ -11,7 +11,7 @@ Rows = dict[int, bytes]
 
 
 def codes_of(data: bytes) -> bytes:
-    """Return the codes of a row; bytes with even parity become a special space."""
+    """Return the codes of a row. Bytes with even parity become EVEN_SPACE."""
     return bytes(byte & 0x7F if is_odd(byte) else EVEN_SPACE for byte in data[2:])
 
 
@@ -22,12 +22,12 @@ def store(rows: Rows, number: int, codes: bytes) -> None:
 
 
 def shown(rows: Rows) -> str:
-    """Format rows as in a line."""
+    """Format rows for output."""
     return ",".join(f"{row}:{codes.hex()}" for row, codes in sorted(rows.items())) or "-"
 
 
 def decode_triplet(data: bytes) -> int | None:
-    """Decode a Hamming 24/18 triplet, with one wrong bit corrected."""
+    """Decode a Hamming 24/18 triplet, and correct one wrong bit."""
     for wrong in (0, *(1 << bit for bit in range(24))):
         word = int.from_bytes(data, "little") ^ wrong
         value = sum((word >> at - 1 & 1) << bit for bit, at in enumerate(DATA_BITS))
@@ -37,13 +37,13 @@ def decode_triplet(data: bytes) -> int | None:
 
 
 class DecodedPage:
-    """The page, and what the packets of one PES packet changed."""
+    """The decoded page, and its changes by one PES packet."""
 
     def __init__(self, page: Page) -> None:
         self.magazine, self.number = page
         self.rows: Rows = {}
         self.is_open = self.is_received = False
-        self.is_last_of_magazine = False  # the magazine's last header was of the page
+        self.is_last_of_magazine = False  # the magazine's last header was a header of the page
         self.begin()
 
     def begin(self) -> None:
@@ -84,7 +84,7 @@ class DecodedPage:
             self.does += "c"
 
     def done(self) -> str:
-        """Return what the PES packet changed, as DOES/CONTROL."""
+        """Return the changes by the PES packet, as the fields DOES/CONTROL."""
         is_blank = all(set(codes) <= {SPACE, EVEN_SPACE} for codes in self.rows.values())
         does = self.does + "o" * self.is_open + "b" * is_blank + "s" * self.has_strays
         return f"{does or '-'}/{'+'.join(self.control)}"

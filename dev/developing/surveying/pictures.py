@@ -1,4 +1,4 @@
-"""The lines about a PID with video: pictures, and the group that begins with random access."""
+"""Compute the lines for a PID with video: its pictures, and the first group with random access."""
 from __future__ import annotations
 
 from developing.every_place.recordings import Stretch
@@ -7,7 +7,7 @@ from subtitles.common.times import ticks_between
 from .clocks import Say, number
 from .packets import Packet
 
-MOST_TICKS = 900_000  # of a group, 10 seconds
+MOST_TICKS = 900_000  # maximum duration of a group in ticks (10 seconds)
 VIDEO = 0xE0  # stream_id of video; the lower four bits may differ
 MPEG, H264, HEVC = (1, 2), 0x1B, 0x24  # stream_type
 GROUP, PICTURE = 0xB8, 0  # start codes
@@ -16,17 +16,17 @@ START = b"\0\0\1"
 
 
 def is_video(data: bytes) -> bool:
-    """Return whether a PES packet of video begins, as far as its bytes are known."""
+    """Return whether the data, which may be incomplete, begin a PES packet of video."""
     return data[:3] == START[:len(data)] and (len(data) < 4 or data[3] & 0xF0 == VIDEO)
 
 
 def has_times(header: bytes) -> bool:
-    """Return whether the header of a PES packet is there up to its times."""
+    """Return whether a PES header is complete up to its PTS and DTS."""
     return len(header) > 8 and len(header) >= {2: 14, 3: 19}.get(header[7] >> 6, 9)
 
 
 def form_of(kind: int, data: bytes) -> str | None:
-    """Return the form of a group from the bytes of its first picture, `None` if unknown."""
+    """Return whether a group is open or closed, from its first picture; `None` if unknown."""
     if kind == H264:
         return "open"
     if kind not in (*MPEG, HEVC):
@@ -50,19 +50,19 @@ class Video:
     def __init__(self, pid: int, say: Say, pmt_entries: dict[int, tuple[int, int]]) -> None:
         self.pid, self.say, self.pmt_entries = pid, say, pmt_entries
         self.stretch = Stretch(None)
-        self.header: bytes | None = None  # of a picture with unknown times
-        self.is_flagged = False  # a random_access_indicator came for the next picture
-        self.is_next_flagged = False  # for the picture that begins
+        self.header: bytes | None = None  # header of a picture whose PTS and DTS are unknown
+        self.is_flagged = False  # random_access_indicator is set for the next picture
+        self.is_next_flagged = False  # the same for the picture that begins now
         self.count = self.passed = 0
-        self.decoding: int | None = None  # of the last picture with a time
-        self.number = 0  # of that picture
-        # The first group.
+        self.decoding: int | None = None  # decoding time of the last picture with a time
+        self.number = 0  # number of that picture
+        # State of the first group.
         self.has_begun = self.has_ended = False
         self.flagged: int | None = None
         self.least: int | None = None
         self.lost = self.scrambled = 0
         self.kind = 0
-        self.first: bytes | None = None  # of its first picture, after the header
+        self.first: bytes | None = None  # payload of its first picture
         self.form: str | None = None
 
     @property
@@ -82,7 +82,7 @@ class Video:
             self.take_payload(packet)
 
     def count_lost(self, packet: Packet) -> None:
-        """Count a loss; it also loses the rest of a header."""
+        """Count lost TS packets. A loss also ends an incomplete header."""
         before, is_announced = self.stretch.before, self.stretch.has_jump or packet.is_discontinuity
         is_break = before is not None and packet.counter != (before.counter + 1) % 16
         if is_break or is_announced or packet.is_wrong:
@@ -107,27 +107,27 @@ class Video:
             self.read_first(packet.payload)
 
     def read_header(self, data: bytes) -> None:
-        """Begin a picture when its header has arrived up to its times."""
+        """Begin a picture when its header is complete up to its PTS and DTS."""
         if not is_video(data):
             self.header = None
             return
         if not has_times(data):
             return
         pts = decode_pts(data) if has_pts(data) else None
-        decoding = decode_pts(data[5:]) if has_pts(data) and data[7] & 0x40 else pts  # the DTS
+        decoding = decode_pts(data[5:]) if has_pts(data) and data[7] & 0x40 else pts  # DTS or PTS
         self.header = None
         if self.begin(pts, decoding):
             self.first = b""
             self.read_first(data[9 + data[8]:])
 
     def read_first(self, data: bytes) -> None:
-        """Read more bytes of the group's first picture."""
+        """Process more bytes of the first picture in the group."""
         assert self.first is not None
         self.first += data
         self.form = self.form or form_of(self.kind, self.first)
 
     def begin(self, pts: int | None, decoding: int | None) -> bool:
-        """Begin a picture; return whether it is the first of the group."""
+        """Begin a picture. Return whether it is the first picture of the group."""
         if self.is_in_group and self.is_next_flagged:
             self.end_group()
         is_first = self.is_next_flagged and not self.has_begun
@@ -136,7 +136,7 @@ class Video:
             self.say(f"video {self.pid} {self.passed}")
             self.has_begun, self.flagged = True, pts
             self.kind = self.pmt_entries[self.pid][1]
-            self.form = form_of(self.kind, b"")  # known before any byte if H.264
+            self.form = form_of(self.kind, b"")  # H.264 needs no data
         self.passed += not self.has_begun
         if decoding is not None:
             self.decoding, self.number = decoding, self.count

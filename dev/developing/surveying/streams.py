@@ -1,4 +1,4 @@
-"""Random recordings: transmissions of multiplexers, with losses and worse faults."""
+"""Make random recordings: multiplexed streams with losses and other faults."""
 from __future__ import annotations
 
 import struct
@@ -19,23 +19,23 @@ from .tables import cached_crc
 FULL = PACKET - 4
 BEGINS, RANDOM_ACCESS, PCR_FLAG = 0x40, 0x40, 0x10
 MPEG_1, MPEG_2, H264, HEVC = 0x01, 0x02, 0x1B, 0x24  # stream_type
-NO_PCR, FIRST_PCR = 0x1FFF, 0x11F  # PCR_PIDs; the second one of the first programme
+NO_PCR, FIRST_PCR = 0x1FFF, 0x11F  # PCR_PIDs; the second is used by the first programme
 NULL = bytes([SYNC, 0x1F, 0xFF, 0x10]).ljust(PACKET, b"\xff")
 PAGES: list[Page] = [(0, 0x88), (0, 0x88), (0, 0x88), (0, 0x77), (1, 0x88), (0, 0xFF), (7, 0x99)]
 
 
 class Multiplex:
-    """The transmitted TS packets, with a counter for each PID."""
+    """A multiplexer: the TS packets that it sent, and the counter of each PID."""
 
     def __init__(self, chance: Random) -> None:
         self.chance = chance
         self.units: list[Unit] = []
         self.counters: dict[int, int] = {}
-        self.losses: list[int] = []  # places of lost units
+        self.losses: list[int] = []  # positions of lost units
 
     def send(self, pid: int, payload: bytes, begins: bool = False, flags: int = 0,
              pcr: int | None = None) -> None:
-        """Send a TS packet; one with less than 184 bytes of payload has an adaptation field."""
+        """Send a TS packet. A payload of fewer than 184 bytes follows an adaptation field."""
         counter = self.counters.get(pid, self.chance.randrange(16))
         field, room = b"", FULL - 1 - len(payload)
         if room >= 0:
@@ -50,7 +50,7 @@ class Multiplex:
 
     def send_pes(self, pid: int, data: bytes, flags: int = 0, pcr: int | None = None,
                  sizes: tuple[int, ...] = (FULL,)) -> None:
-        """Send a PES packet in payloads of these sizes."""
+        """Send a PES packet, split into payloads of random sizes from `sizes`."""
         place = 0
         while place < len(data):
             most = FULL - (8 if pcr is not None else 2 if flags else 0)
@@ -59,7 +59,7 @@ class Multiplex:
             place, flags, pcr = place + size, 0, None
 
     def send_sections(self, pid: int, table: int, number: int, version: int, body: bytes) -> None:
-        """Send a section after stuffing bytes, sometimes two."""
+        """Send one or two sections of a table, sometimes after stuffing bytes."""
         data, starts = b"\xff" * self.chance.choice([0, 0, 0, 0, 5, 170]), []
         for section in self.chance.choice([[0], [0], [0], [1], [1, 0]]):
             is_current = self.chance.random() < 0.97
@@ -75,7 +75,7 @@ class Multiplex:
 
 
 def random_descriptors(chance: Random, announces: bool) -> bytes:
-    """Return descriptors, some of them of Teletext if it is announced."""
+    """Return random descriptors. If `announces` is set, some announce Teletext pages."""
     made = b""
     for _ in range(chance.choice([0, 0, 1, 2])):
         made += bytes([chance.choice([0x0A, 0x52, 0x59]), 4]) + chance.randbytes(4)
@@ -84,7 +84,7 @@ def random_descriptors(chance: Random, announces: bool) -> bytes:
             bytes(chance.choices(b"engdufra", k=3)) + bytes([chance.randrange(256), page])
             for page in chance.choices([0x88, 0x77, 0x99, 0x00], k=chance.choice([1, 1, 2, 5])))
         pages += b"x" * chance.choice([0, 0, 0, 1, 4])
-        more = chance.choice([0] * 30 + [5, 9])  # the descriptor goes beyond its stream
+        more = chance.choice([0] * 30 + [5, 9])  # bytes that the descriptor claims beyond its end
         made += bytes([chance.choice([0x56, 0x56, 0x46]), len(pages) + more]) + pages
     return made
 
@@ -99,7 +99,7 @@ def random_header(chance: Random, page: Page) -> bytes:
 
 
 def random_teletext(chance: Random, is_busy: bool) -> list[bytes]:
-    """Return Teletext packets with bits in the order of EN 300 706."""
+    """Return random Teletext packets with bits in the order of EN 300 706."""
     made: list[bytes] = []
     for _ in range(chance.choice([0, 1, 1, 2, 3]) if is_busy else chance.choice([0, 1])):
         page = chance.choice(PAGES) if chance.random() < 0.6 else PAGES[0]
@@ -124,7 +124,7 @@ def with_wrong_bits(chance: Random, data: bytes, places: list[int]) -> bytes:
 
 
 def enhancement(chance: Random, magazine: int, number: int) -> bytes:
-    """Return a packet X/26 to X/29; only its first triplet matters."""
+    """Return a packet X/26 to X/29. Only the first triplet of these packets is read."""
     first = encode_triplet(chance.choice([0, 0, 0x2380, 0x3FF0, chance.randrange(1 << 18)]))
     data = teletext_packet(magazine, number, [chance.choice([0, 0, 4, 1, 15])], [])
     data = (data + first).ljust(42, b"\0")
@@ -132,11 +132,11 @@ def enhancement(chance: Random, magazine: int, number: int) -> bytes:
 
 
 def teletext_pes(chance: Random, pts: int, packets: list[bytes]) -> bytes:
-    """Return a PES packet, sometimes with a fault."""
+    """Return a PES packet with Teletext, sometimes with a fault."""
     data = make_pes_packet(wrap_pts(pts), packets) + bytes(chance.choice([0] * 60 + [20, 184]))
     if chance.random() < 0.02:
-        return data[:6] + b"\xff" * (len(data) - 6)  # a gap marker, if it is short
-    if chance.random() < (0.03 if packets else 0.15):  # another PTS_DTS_flags
+        return data[:6] + b"\xff" * (len(data) - 6)  # a gap marker if it has 184 bytes
+    if chance.random() < (0.03 if packets else 0.15):  # change PTS_DTS_flags
         return data[:7] + bytes([chance.choice([0, 0xC0])]) + data[8:]
     if chance.random() < 0.05:
         unit = 46 * chance.randrange(1, len(data) // 46)
@@ -145,7 +145,7 @@ def teletext_pes(chance: Random, pts: int, packets: list[bytes]) -> bytes:
     return data
 
 
-# Start codes or NAL unit headers before a picture, and those of pictures.
+# Start codes or NAL unit headers that precede a picture, and those of the picture.
 BEFORE_PICTURE = {MPEG_1: [0xB3, 0xB2, 0xB8], MPEG_2: [0xB3, 0xB5, 0xB2, 0xB8], H264: [0x09],
                   HEVC: [0x46, 0x40, 0x42, 0x44, 0x4E]}
 OF_PICTURE = {MPEG_1: [0], MPEG_2: [0], H264: [0x65], HEVC: [2 * unit for unit in (
@@ -153,14 +153,14 @@ OF_PICTURE = {MPEG_1: [0], MPEG_2: [0], H264: [0x65], HEVC: [2 * unit for unit i
 
 
 def time_bytes(prefix: int, ticks: int) -> bytes:
-    """Encode a PTS or DTS after its four bits."""
+    """Encode a PTS or DTS after a four-bit prefix."""
     data = encode_pts(wrap_pts(ticks))
     return bytes([data[0] & 0x0F | prefix << 4]) + data[1:]
 
 
 def picture_pes(chance: Random, kind: int, pts: int, dts: int, is_first: bool, is_odd: bool
                 ) -> bytes:
-    """Return a PES packet with a picture or two; an odd one has another start or header."""
+    """Return a PES packet with one or two pictures. If `is_odd`, change its start or its header."""
     head = b"\0\0\1\xe0\0\0\x84\xc0\x0a" + time_bytes(3, pts) + time_bytes(1, dts)
     if dts == pts and chance.random() < 0.9:
         head = b"\0\0\1\xe0\0\0\x84\x80\x05" + time_bytes(2, pts)
@@ -182,12 +182,12 @@ def picture_pes(chance: Random, kind: int, pts: int, dts: int, is_first: bool, i
 
 
 JUMPS = [90_000, -90_000, 3600, -3600, 400_000, 1 << 31, -900_000, 20_000]
-TimeJumps = list[tuple[int, int]]  # times, and ticks of jumps
-Event = tuple[int, Callable[[], None]]  # its time, and what it sends
+TimeJumps = list[tuple[int, int]]  # time and size of each jump in ticks
+Event = tuple[int, Callable[[], None]]  # transmission time, and function that sends
 
 
 class Programme:
-    """A random programme: events with transmission times."""
+    """A random programme: its streams, and its events with transmission times."""
 
     def __init__(self, chance: Random, mux: Multiplex, number: int, length: int, is_small: bool
                  ) -> None:
@@ -229,12 +229,12 @@ class Programme:
                  self.chance.choice(ticks)) for _ in range(count)]
 
     def each(self, step: int, send: Callable[[int, int], None], first: int = 0) -> None:
-        """Add an event each `step` ticks, by its number and time."""
+        """Add an event every `step` ticks. `send` is called with the event's number and time."""
         self.events += [(time, partial(send, number, time))
                         for number, time in enumerate(range(first, self.length, step))]
 
     def ticks(self, time: int, more: TimeJumps | None = None) -> int:
-        """Return the PTS of a time, after the jumps before it."""
+        """Return the PTS at a time, including all earlier jumps."""
         return self.origin + time + sum(jump for at, jump in self.jumps + (more or [])
                                         if at <= time)
 
@@ -280,7 +280,7 @@ class Programme:
         self.each(chance.choice([3600, 3600, 1800, 7200, 90_000]), send, chance.choice([0, 700]))
 
     def add_other(self, pid: int) -> None:
-        """Add a PID without Teletext and video, or one that is not announced."""
+        """Add a PID without Teletext, or with Teletext that is not announced."""
         chance, mux = self.chance, self.mux
         if chance.random() < 0.7:
             self.streams.append((chance.choice([3, 6, 0x81]), pid, False))
@@ -292,7 +292,7 @@ class Programme:
                                                 sizes=(FULL, FULL, 20)))
 
     def change_pmt(self) -> None:
-        """Make another version of the PMT."""
+        """Make a new version of the PMT."""
         self.version = (self.version + 1) % 32
         info = random_descriptors(self.chance, False)
         clock = self.clock if self.chance.random() < 0.9 else FIRST_PCR
@@ -306,7 +306,7 @@ class Programme:
 
 
 def random_units(chance: Random) -> list[Unit]:
-    """Return the TS packets of some programmes."""
+    """Return the TS packets of random programmes."""
     mux = Multiplex(chance)
     count, length = chance.choice([
         (1, 1_000_000), (1, 200_000), (1, 90_000), (1, 90_000), (1, 30_000), (1, 30_000),
@@ -338,7 +338,7 @@ def pid_of(unit: Unit) -> int:
 
 
 def announce_jump(chance: Random, units: list[Unit]) -> None:
-    """Announce a jump of a PID's counter, instead of a TS packet or before it."""
+    """Announce a jump of a PID's counter, in a TS packet or before it."""
     at, more = choose_packet(chance, units), chance.choice([0, 1, 5])
     pid = pid_of(units[at])
     announcing = bytearray(make_packet_without_payload(chance, pid, True))
@@ -359,7 +359,7 @@ def announce_jump(chance: Random, units: list[Unit]) -> None:
 
 
 class Recording(NamedTuple):
-    """A recording, and the options of `survey`."""
+    """A recording, and the options of `survey` for it."""
 
     data: bytes
     page: Page = (0, 0x88)
@@ -373,7 +373,7 @@ class Recording(NamedTuple):
 
 
 def random_pes_file(chance: Random) -> bytes:
-    """Return a file of PES packets and gap markers."""
+    """Return a random file of PES packets and gap markers."""
     data, pts = b"", chance.choice([0, CLOCK - 20_000])
     same = random_teletext(chance, True)
     for _ in range(chance.choice([0, 1, 5, 40])):
@@ -398,14 +398,14 @@ def random_recording(seed: int) -> Recording:
                 change_units(chance, units, size)
             else:
                 announce_jump(chance, units)
-    for _ in range(4 if chance.random() < 0.08 else 0):  # null packets
+    for _ in range(4 if chance.random() < 0.08 else 0):  # insert null packets
         many = (NULL + bytes(size - PACKET)) * 1700
         units.insert(chance.randrange(len(units) + 1), Unit(many + NULL))
-    if chance.random() < 0.05:  # breaks, as many as `survey` keeps or one more
+    if chance.random() < 0.05:  # add the maximum number of stored breaks, or one more
         units += [Unit(bytes([SYNC, 0x1F, 0xF0, 0x10 + 8 * (at % 2)]).ljust(PACKET, b"\xff"))
                   for at in range(chance.choice([256, 257]))]
     data = join_units(chance, units, size)
-    if chance.random() < 0.05:  # a few packets of another size
+    if chance.random() < 0.05:  # begin with packets of another size
         data = join_units(chance, units[:4], chance.choice(SIZES)) + data
     data = data[chance.randrange(1000) if chance.random() < 0.2 else 0:]
     data = data[:len(data) - (chance.randrange(1000) if chance.random() < 0.2 else 0)]

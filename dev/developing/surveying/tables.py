@@ -1,4 +1,4 @@
-"""PAT and PMT (ISO/IEC 13818-1, 2.4.4), and the Teletext that a PMT announces (EN 300 468)."""
+"""Parse the PAT and PMTs (ISO/IEC 13818-1, 2.4.4), and Teletext descriptors (EN 300 468)."""
 from __future__ import annotations
 
 from functools import lru_cache
@@ -10,12 +10,12 @@ from .packets import Packet
 
 PAT, PMT = 0, 2  # table_id
 CURRENT = 1  # current_next_indicator
-ANNOUNCING = 0x56, 0x46  # Teletext descriptor, VBI Teletext descriptor
+ANNOUNCING = 0x56, 0x46  # tags of Teletext descriptors
 cached_crc = lru_cache(256)(compute_crc)
 
 
 class Stream(NamedTuple):
-    """An elementary stream of a PMT, with its announcements as ends of lines."""
+    """An elementary stream in a PMT, with its announced pages, formatted for output."""
 
     pid: int
     kind: int
@@ -29,13 +29,13 @@ class Programme(NamedTuple):
 
 
 class Sections:
-    """The sections in the TS packets of a PID."""
+    """Reassembles the sections in the TS packets of a PID."""
 
     def __init__(self) -> None:
-        self.part: bytes | None = None  # of a section that has begun
+        self.part: bytes | None = None  # the incomplete section
 
     def take(self, packet: Packet) -> Iterator[bytes]:
-        """Return the sections that end in a packet."""
+        """Yield the sections that end in a TS packet."""
         if packet.is_wrong or not packet.has_payload:
             return
         payload = packet.payload
@@ -63,7 +63,7 @@ class Sections:
 
 
 def pids_in(section: bytes) -> Iterator[int]:
-    """Return the PIDs of PMTs in a section of the PAT."""
+    """Yield the PMT PIDs in a section of the PAT."""
     body = section[8:-4]
     for at in range(0, len(body) - 3, 4):
         if body[at:at + 2] != b"\0\0":
@@ -71,7 +71,7 @@ def pids_in(section: bytes) -> Iterator[int]:
 
 
 def announced_by(descriptors: bytes) -> Iterator[str]:
-    """Return the announcements in the descriptors of a stream."""
+    """Yield the announced pages in the descriptors of a stream, formatted for output."""
     at = 0
     while at + 2 <= len(descriptors):
         tag, length = descriptors[at:at + 2]
@@ -84,7 +84,7 @@ def announced_by(descriptors: bytes) -> Iterator[str]:
 
 
 def programme_of(section: bytes) -> Programme | None:
-    """Return the programme in a section of a PMT."""
+    """Return the programme in a section of a PMT, or `None` if the section is too short."""
     body = section[8:-4]
     if len(body) < 4:
         return None

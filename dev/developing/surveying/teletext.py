@@ -1,4 +1,4 @@
-"""The lines about a PID with Teletext: its PES packets, gaps, pages."""
+"""Compute the lines for a PID with Teletext: its PES packets, gap markers and pages."""
 from __future__ import annotations
 
 from developing.every_place.reading import LENGTH, START, find_head_fault, read_length, read_units
@@ -14,39 +14,39 @@ from .packets import Packet
 from .pictures import Video, has_times
 from .page import DecodedPage, Rows, decode_triplet, shown
 
-MARK = 45  # the fault of a gap marker
-MOST_JUMPS = 4  # jumps that wait for their line
-MOST_PACKETS = 5000  # for which a jump waits
-CHARACTER_SETS = 28, 29  # packets with character sets
+MARK = 45  # fault number of a gap marker
+MOST_JUMPS = 4  # maximum number of pending jumps
+MOST_PACKETS = 5000  # TS packets after which a pending jump is printed
+CHARACTER_SETS = 28, 29  # packets that select character sets
 
 
 def fault_of(data: bytes) -> int:
-    """Return the fault that `packets` reports, 0 if none."""
+    """Return the number of the fault that `packets` reports, or 0 if there is none."""
     is_length = len(data) in range(184, 184 * 9 + 1, 184)
     return (find_head_fault(data) or read_units(data)[1] or 0) if is_length else LENGTH
 
 
 def step_of(times: list[int | None]) -> int:
-    """Return the ticks from the first PTS to the second, 0 if there are not two."""
+    """Return the ticks from the first PTS to the last, or 0 if one of them is missing."""
     first, second = times[0], times[-1]
     return ticks_between(first, second) if first is not None and second is not None else 0
 
 
 class PesLines:
-    """The lines about PES packets and gap markers."""
+    """Collects the lines for the PES packets and gap markers of a PID."""
 
     def __init__(self, pid: int, page: Page, say: Say) -> None:
         self.pid, self.say = pid, say
         self.count = self.marks = 0
         self.ends_with_gap = False
         self.page = DecodedPage(page)
-        # The line that is not printed yet: the PTS of its PES packets, and what follows STEP.
+        # The pending line: the PTS of its PES packets, and its fields after STEP.
         self.times: list[int | None] = []
         self.rest = ""
         self.printed: dict[str, Rows | None] = {"rows": None, "strays": {}}
         self.subtitles: dict[Page, int] = {}
         self.sets: set[str] = set()
-        self.last_pts: int | None = None  # of a complete PES packet
+        self.last_pts: int | None = None  # PTS of the last complete PES packet
 
     def flush(self) -> None:
         count = len(self.times)
@@ -86,7 +86,7 @@ class PesLines:
             self.printed[word] = dict(rows)
 
     def put(self, pts: int | None, rest: str) -> None:
-        """Add a PES packet to the open line, or begin a line."""
+        """Add a PES packet to the pending line, or begin a new line."""
         times = [*self.times, pts]
         if None in times or rest != self.rest or step_of(times[-2:]) != step_of(times[:2]):
             self.flush()
@@ -94,7 +94,7 @@ class PesLines:
         self.rest, self.count, self.ends_with_gap = rest, self.count + 1, False
 
     def note(self, data: bytes) -> None:
-        """Note the first subtitle header of each page, and character sets."""
+        """Print the first subtitle header of each page, and each new character set."""
         address = decode_address(data)
         header = decode_header(data) if address and address[1] == 0 else None
         if address and header and has_bit(header, SUBTITLE):
@@ -132,26 +132,26 @@ class Teletext:
         self.lines = PesLines(pid, page, say)
         self.packets = self.scrambled = 0
         self.refusal = 0
-        self.refused_stretch: Stretch | None = None  # after the refused TS packet
-        # The content of good packets, from a start, a break or a seam on.
+        self.refused_stretch: Stretch | None = None  # set after a refused TS packet
+        # The payloads since the last start of a PES packet, break or announced jump.
         self.stretch = Stretch(None)
         self.part = b""
-        self.header: bytes | None = None  # of a PES packet whose times are unknown
+        self.header: bytes | None = None  # incomplete PES header
         self.begins = self.is_given = False
         self.has_gap = self.has_seam = self.is_wrong_last = False
         self.lost = self.scrambled_there = 0
-        # Of the last PES packet that began.
+        # State of the PES packet that began last.
         self.last_pts: int | None = None
         self.is_complete = True
         self.is_behind_gap = False
         self.aheads, self.leads = Seconds(), Seconds()
-        self.picture: tuple[Video | None, int] = None, 0  # of the last `lead`, and its number
-        self.settled: int | None = None  # the last PTS before the last PCR
-        # Jumps of the PCR that wait for their lines, with the PTS before and after.
+        self.picture: tuple[Video | None, int] = None, 0  # picture of the last `lead` line
+        self.settled: int | None = None  # last PTS before the last PCR
+        # Pending jumps of the PCR, with the PTS before and after each jump.
         self.waiting: list[tuple[Jump, int | None, int | None]] = []
 
     def take(self, packet: Packet) -> int | None:
-        """Take a TS packet of the PID; return the PTS that is now known."""
+        """Process a TS packet of the PID. Return the PTS if this packet completes it."""
         self.packets += 1
         self.is_behind_gap &= not self.refusal
         self.scrambled += packet.is_scrambled
@@ -190,7 +190,7 @@ class Teletext:
             self.give(packet.payload)
 
     def give(self, payload: bytes) -> None:
-        """Read the PES packet that these bytes end."""
+        """Read the PES packet if this payload completes it."""
         length = read_length(self.part) if self.begins else None
         if self.is_given:
             self.has_gap |= payload != b""
@@ -207,13 +207,13 @@ class Teletext:
             self.lines.read(self.part[:length])
 
     def mark(self) -> None:
-        """Print a gap marker if something is missing after a PES packet."""
+        """Print a gap marker if data are missing after a PES packet."""
         if self.has_gap and self.lines.count:
             self.lines.gap(self.lost, self.scrambled_there)
         self.has_gap, self.lost, self.scrambled_there = False, 0, 0
 
     def time(self) -> int | None:
-        """Return the PTS of the PES packet that began last, once it is known."""
+        """Return the PTS of the PES packet that began last, if this header is now complete."""
         header = self.header
         if header is None or not has_times(header):
             return None
@@ -232,7 +232,7 @@ class Teletext:
         self.settled = self.last_pts
 
     def print_jumps(self, place: float) -> None:
-        """Print the jumps that need not wait at a TS packet."""
+        """Print the oldest pending jumps while there are too many or they are too old."""
         while len(self.waiting) > MOST_JUMPS or self.waiting \
                 and place - self.waiting[0][0].last > MOST_PACKETS:
             jump, before, after = self.waiting.pop(0)
