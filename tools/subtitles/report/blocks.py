@@ -1,4 +1,4 @@
-"""Show refused subtitles of a subtitle file, with the wrong bytes marked."""
+"""Show the refused subtitles of a subtitle file, with the faulty bytes marked."""
 from __future__ import annotations
 
 from typing import Sequence
@@ -8,7 +8,7 @@ from ..common.times import frame_of
 from ..formats.listing import FaultLine, make_number_link
 from ..formats.stl import GSI, NamedSubtitle, SubtitleFile
 
-ORDER_FAULTS = {56, 57}  # faults of the TCI
+ORDER_FAULTS = {56, 57}  # fault numbers about the order of TCIs
 BYTE_FAULTS, ROW_FAULTS = (50, 51), range(50, 56)
 # By fault number: the field of the TTI or GSI block, with its name and bytes.
 FIELDS = {11: ("DFC", slice(3, 11)), 12: ("DFC", slice(3, 11)), 13: ("DSC", slice(11, 12)),
@@ -18,7 +18,7 @@ FIELDS = {11: ("DFC", slice(3, 11)), 12: ("DFC", slice(3, 11)), 13: ("DSC", slic
 
 
 def mark_field(file: SubtitleFile, fault: FaultLine) -> Markup:
-    """Return the field that a fault is about, with its bytes marked; empty if there is none."""
+    """Return the field with a fault, its bytes marked; empty if the fault has no field."""
     if fault.number not in FIELDS or fault.block is None:
         return markup("")
     name, place = FIELDS[fault.number]
@@ -32,7 +32,7 @@ def mark(text: Value) -> Markup:
 
 
 def mark_times(subtitle: NamedSubtitle, faults: Sequence[FaultLine]) -> tuple[Value, Value]:
-    """Return the TCI and TCO of a subtitle, marked if a fault is about them."""
+    """Return the TCI and TCO of a subtitle, marked if they have a fault."""
     numbers = {fault.number for fault in faults}
     is_begin, is_end = (20 in numbers and frame_of(time) is None or 21 in numbers
                         for time in (subtitle.begin, subtitle.end))
@@ -41,13 +41,13 @@ def mark_times(subtitle: NamedSubtitle, faults: Sequence[FaultLine]) -> tuple[Va
 
 
 def make_fault_lines(file: SubtitleFile, faults: Sequence[FaultLine]) -> Markup:
-    """Return the lines of `check` about some faults, each with its field."""
+    """Return the lines that `check` prints about faults, each with its field."""
     return join_markup((make_number_link(fault.line) + mark_field(file, fault) for fault in faults),
                        BREAK)
 
 
 def mark_text(text: bytes, faults: Sequence[FaultLine]) -> Markup:
-    """Return the lines of a text, with the bytes and lines marked that faults are about."""
+    """Return the lines of a text, with the faulty bytes and lines marked."""
     marked = {(fault.number in BYTE_FAULTS, fault.at) for fault in faults if fault.number in
               ROW_FAULTS}
     lines, begin = [], 0
@@ -61,7 +61,7 @@ def mark_text(text: bytes, faults: Sequence[FaultLine]) -> Markup:
 
 
 def show_byte(byte: int) -> Value:
-    """Return a byte as its ASCII character or, if it has none, as its code."""
+    """Return a byte as an ASCII character, or in hexadecimal if it is not printable."""
     if byte == 0x20:
         return "\u2423"
     return chr(byte) if 0x20 < byte <= 0x7E else markup("<i>{:02X}</i>", byte)

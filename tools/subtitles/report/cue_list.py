@@ -26,13 +26,13 @@ from .blocks import make_fault_lines, mark_text, mark_times
 
 COLUMNS = ("No.", "Into recording", "Expected in", "Expected out", "Actual in", "Actual out",
            "Frames late (in / out)", "Text", "Verdict")
-MAX_PRINTED = 200  # rows on paper
-MAX_BARS = 12  # delays in the histogram
+MAX_PRINTED = 200  # maximum number of rows to print on paper
+MAX_BARS = 12  # maximum number of delays in the histogram
 ROW_CLASSES = {RIGHT: "ok", WAIVED: "waived", WRONG: "bad", NOT_KNOWN: "unseen"}  # CSS classes
 
 
 class Kind(NamedTuple):
-    """A kind of fault: the CSS class of its rows, its name, and whether it is waived."""
+    """A kind of fault: its CSS class, its name, and whether faults of this kind are waived."""
 
     key: str
     name: str
@@ -40,17 +40,17 @@ class Kind(NamedTuple):
 
 
 class CueRow(NamedTuple):
-    """A row of the list: position of its subtitle, CSS class, kinds of fault, and cells."""
+    """A row of the cue list: position of the subtitle, CSS class, kinds of fault, and cells."""
 
     position: int
     row_class: str
     kinds: Sequence[str]
     cells: Sequence[Value]
-    is_repeated: bool = False  # has the same fault as the previous row, and is not printed
+    is_repeated: bool = False  # the previous row has the same fault; not printed
 
 
 class CueList:
-    """The cue list of a part."""
+    """The cue list of a part of a recording."""
 
     def __init__(self, part: Part, severity: Severity, valid_subtitles: ValidSubtitles |
                  None) -> None:
@@ -70,7 +70,7 @@ class CueList:
     def file(self) -> SubtitleFile:
         return SubtitleFile(self.part.names.program_stl, self.part.request.between)
 
-    # Rows.
+    # Rows of the cue list
 
     def make_judged_rows(self) -> Iterator[CueRow]:
         """Yield the rows of the judged subtitles."""
@@ -91,7 +91,7 @@ class CueList:
                     time_of(subtitle.end), "", "", "", text, RIGHT])
 
     def cells(self, cue: Cue, verdict: CueVerdict) -> list[Value]:
-        """Return the cells of a cue's row."""
+        """Return the cells of the row for a cue."""
         subtitle, late = cue.subtitle, [format_signed(cue.delay_in), format_signed(cue.delay_out)]
         return [make_number_cell(subtitle.index, subtitle.number),
                 self.format_offset(subtitle.begin), time_of(subtitle.begin), time_of(subtitle.end),
@@ -100,7 +100,7 @@ class CueList:
                 self.make_text_cell(cue), self.make_verdict_cell(verdict)]
 
     def make_verdict_cell(self, verdict: CueVerdict) -> Value:
-        """Return a verdict with its reason; fault numbers are links to the table of faults."""
+        """Return the cell with a verdict and its reason. Fault numbers are links."""
         firsts = self.part.check_output.first_faults
         links = [markup('<a href="#n{}">{} {}</a>', number, number, firsts[number].name)
                  for number in verdict.fault_numbers]
@@ -135,7 +135,7 @@ class CueList:
 
     def make_file_row(self, subtitle: NamedSubtitle, times: tuple[Value, Value], text: Value,
                  verdict: Value, row_class: str, kinds: Sequence[str]) -> CueRow:
-        """Return the row of a subtitle that was not judged in the recording."""
+        """Return the row of a subtitle that is only checked in the subtitle file."""
         begin = frame_of(subtitle.begin)
         return CueRow(subtitle.position, row_class, kinds, [
             make_number_cell(subtitle.position, subtitle.number),
@@ -145,7 +145,7 @@ class CueList:
         """Return the time of a frame from the beginning of the recording."""
         return format_recording_offset(self.part, self.start, frame)
 
-    # Kinds of fault.
+    # Kinds of fault
 
     def fault_name(self, number: int) -> str:
         """Return the name of a fault number."""
@@ -153,7 +153,7 @@ class CueList:
 
     @functools.cached_property
     def kinds(self) -> list[Kind]:
-        """Return the kinds of fault of the part, worst first."""
+        """Return the kinds of fault in the part, worst first."""
         is_waived = self.judge.is_cause_waived
         names = {cause.name for cause in self.causes.list_causes()} if self.causes else set[str]()
         ranked = [(CAUSE_RANKS[name], Kind(cause_class(name), name, is_waived)) for name in names]
@@ -164,7 +164,7 @@ class CueList:
         return [kind for _, kind in sorted(ranked)]
 
     def make_cause_table(self) -> Markup:
-        """Return the table with a row for each cause."""
+        """Return a table with a row for each cause."""
         if not self.causes:
             return NO_MARKUP
         by_name: dict[str, list[Cause]] = {}
@@ -187,7 +187,7 @@ class CueList:
             counted(len(self.causes.by_index), "subtitle"), join_markup(rows))
 
     def make_histogram(self) -> Markup:
-        """Return the histogram of delays; empty if all cues are in time."""
+        """Return a histogram of the delays; empty if no cue is late or early."""
         in_delays = collections.Counter(cue.delay_in for cue in self.cues
                                         if cue.delay_in is not None)
         out_delays = collections.Counter(cue.delay_out for cue in self.cues
@@ -211,10 +211,10 @@ class CueList:
             'scope="col">Frames</th><th scope="col">In-cues</th><th scope="col">Out-cues</th>'
             '<td></td></tr></thead><tbody>{}</tbody></table>', join_markup(rows))
 
-    # The list.
+    # The complete list
 
     def make_list(self) -> Markup:
-        """Return the section with the list."""
+        """Return the HTML section with the cue list."""
         number = self.part.number
         heads = join_markup(markup('<th scope="col">{}</th>', name) for name in COLUMNS)
         wrong = sum(row.row_class != ROW_CLASSES[RIGHT] for row in self.rows)
@@ -245,7 +245,7 @@ class CueList:
             join_markup(rows, "\n"))
 
     def make_caption(self) -> str:
-        """Return the caption, which explains the columns."""
+        """Return the caption of the cue list, which explains its columns."""
         looks = collections.Counter(row.row_class for row in self.rows)
         counts = ", ".join(f"{looks[row_class]:,} {word}" for word, row_class in
                            ROW_CLASSES.items() if looks[row_class])
@@ -258,8 +258,8 @@ class CueList:
         return words
 
     def find_first_faults(self) -> Iterator[tuple[str, Subtitle, int]]:
-        """Yield each cause with its first subtitle and the first wrong frame; for a late subtitle,
-        the frame of its in-cue."""
+        """Yield each cause with its first subtitle and the first wrong frame. For a late subtitle,
+        this is the frame of the in-cue."""
         if self.causes is None:
             return
         seen: set[str] = set()
@@ -272,12 +272,12 @@ class CueList:
 
 
 def make_number_cell(position: int, number: int) -> Value:
-    """Return the position of a subtitle, and its SN if that differs."""
+    """Return the position of a subtitle in the file, and its SN if that is a different number."""
     return position if position == number else markup("{} <small>SN {}</small>", position, number)
 
 
 def format_signed(frames: int | None) -> str:
-    """Format a number of frames with its sign; `None` as an empty text."""
+    """Format a number of frames with its sign; return an empty text for `None`."""
     return "" if frames is None else f"{frames:+}" if frames else "0"
 
 
@@ -293,13 +293,13 @@ def cause_key(cause: Cause) -> str:
 
 
 def cause_class(name: str) -> str:
-    """Return the CSS class of rows with a cause."""
+    """Return the CSS class of rows that have a cause."""
     return f"c{CAUSE_NAMES.index(name)}"
 
 
 def mark_difference(expected: str, decoded: str) -> tuple[Markup, Markup]:
-    """Mark the characters in which two texts differ. If their lengths differ, mark everything
-    between their common beginning and end."""
+    """Mark the characters that differ between two texts. If the texts differ in length, mark all
+    characters between their common beginning and end."""
     length = min(len(expected), len(decoded))
     if len(expected) == len(decoded):
         places = [at for at in range(length) if expected[at] != decoded[at]]
@@ -312,19 +312,19 @@ def mark_difference(expected: str, decoded: str) -> tuple[Markup, Markup]:
 
 
 def mark_characters(text: str, places: Collection[int]) -> Markup:
-    """Mark the characters at some places of a text."""
+    """Mark the characters of a text at the given positions."""
     runs = itertools.groupby(range(len(text)), set(places).__contains__)
     pieces = ((is_marked, "".join(text[at] for at in run)) for is_marked, run in runs)
     return join_markup(markup("<mark>{}</mark>", piece) if is_marked else piece
                        for is_marked, piece in pieces)
 
 
-# Places of faults.
+# Places of faults
 MAX_PLACES = 20
 
 
 def find_places(part: Part) -> dict[int, list[tuple[FaultLine, str]]]:
-    """Return the first faults with each number, and until when each lasts."""
+    """Return the first faults with each fault number, and the time at which each fault ends."""
     places: dict[int, list[tuple[FaultLine, str]]] = {}
     for fault, end in part.check_output.read_faults():
         fault_places = places.setdefault(fault.number, [])

@@ -29,7 +29,7 @@ from .pictures import draw_picture_pair
 from .timeline import Lanes
 
 
-# The verdict. Each word has its own colour and shape.
+# The verdict box. Each verdict has its own colour and shape.
 
 SHAPES = {
     ACCEPTED: ("accepted", markup('<circle cx="31" cy="31" r="27"/><path d="M17 32L28 43L46 '
@@ -44,7 +44,7 @@ SHAPES = {
                                   '40 46 28"/>')),
     NOT_JUDGED: ("unjudged", markup('<path d="M31 4L58 31L31 58L4 31z"/><path d="M23 25Q23 17 31 '
                                     '17Q39 17 39 24Q39 29 31 32V37M31 41V46"/>'))}
-MAX_LINES = 5  # more places are folded
+MAX_LINES = 5  # number of places to show; a longer list is folded
 UNCHECKED_ROW_0 = "row 0, the header line of the page"
 UNCHECKED_DELAY = "a delay of all subtitles, since the clock was estimated"
 UNCHECKED_GAP = "the transmission between the parts"
@@ -56,7 +56,7 @@ PROOF_NOTE = markup("The verdict and the faults are the lines that <code>subttx 
 
 
 def draw_verdict(word: str) -> tuple[str, Markup]:
-    """Return the CSS class and the picture for a verdict."""
+    """Return the CSS class and the SVG picture of a verdict."""
     kind, drawn = SHAPES.get(word, SHAPES[REFUSED])
     return kind, markup('<svg aria-hidden="true" viewBox="0 0 62 62">{}</svg>', drawn)
 
@@ -66,7 +66,7 @@ def make_verdict_box(verdict: Verdict) -> Markup:
     kind, drawn = draw_verdict(verdict.word)
     not_judged = verdict.word == NOT_JUDGED
     line = NOT_JUDGED if not_judged else verdict.worst_line or ""
-    # The sentence of a relative verdict says that no clock was given.
+    # The sentence of a relative verdict already says that no clock was given.
     parts = [describe_clock(verdict)] if verdict.word not in (NOT_JUDGED, RELATIVE) else []
     parts += [make_folded_list(LOST_TITLE, [gap.format_line() for gap in verdict.gaps
                                             if gap.is_judged]),
@@ -88,7 +88,7 @@ def make_verdict_box(verdict: Verdict) -> Markup:
 
 
 def keep_options_together(text: str) -> Markup:
-    """Mark up options in a text, so that no line breaks inside an option."""
+    """Mark up the options in a text, so that no line breaks within an option."""
     return join_markup(markup("<b>{}</b>", one) if at % 2 else one
                        for at, one in enumerate(re.split(r"(--[a-z]+(?: \d[\d:]*)?)", text)))
 
@@ -112,7 +112,7 @@ def describe_given_clock(clock: Clock) -> str:
 
 
 def make_folded_list(what: str, lines: Sequence[str]) -> Markup:
-    """Return a titled list of places, folded if it is long; empty if there are none."""
+    """Return a titled list of places, folded if it is long, or nothing if there are no places."""
     if not lines:
         return NO_MARKUP
     listed = markup("<ul>{}</ul>", join_markup(markup("<li>{}</li>", one)
@@ -124,7 +124,7 @@ def make_folded_list(what: str, lines: Sequence[str]) -> Markup:
 
 
 def make_advice(verdict: Verdict) -> Markup:
-    """Return what the manual says about the worst fault."""
+    """Return the manual's advice on the worst fault."""
     lead = verdict.worst_part.worst_fault_line if verdict.worst_part and \
         not verdict.worst_named_fault else None
     advice = find_advice(verdict.worst_part, lead) if verdict.worst_part and lead else None
@@ -134,7 +134,7 @@ def make_advice(verdict: Verdict) -> Markup:
 
 
 def find_advice(part: Part, fault: FaultLine) -> tuple[Markup, Markup] | None:
-    """Return meaning and remedy of a fault; `None` if the manual does not have it."""
+    """Return the manual's meaning and remedy for a fault; `None` if the manual has none."""
     meaning = read_meanings().get(fault.number)
     if meaning is None:
         return None
@@ -142,11 +142,11 @@ def find_advice(part: Part, fault: FaultLine) -> tuple[Markup, Markup] | None:
     return make_cell_markup(meaning.meaning), make_cell_markup(remedy)
 
 
-# Sections about one part.
+# Sections about one part of the recording
 
 
 class PartView:
-    """The sections about a part."""
+    """The sections of the report about one part of the recording."""
 
     def __init__(self, verdict: Verdict, part: Part) -> None:
         self.verdict, self.part = verdict, part
@@ -156,7 +156,7 @@ class PartView:
         self.decoded = part.causes.timeline if part.causes else part.decoded_pages
 
     def make_sections(self) -> Iterator[Markup]:
-        """Yield the sections that are not empty."""
+        """Yield all sections that are not empty."""
         groups = self.cue_list.make_cause_table() + self.cue_list.make_histogram()
         if groups:
             yield markup('<section><h2 id="causes">What is wrong</h2><div class="beside">{}</div>'
@@ -185,7 +185,7 @@ class PartView:
         return Lanes(self.cue_list, decoded, lost_spans).draw()
 
     def pictures(self) -> Iterator[Markup]:
-        """Yield a pair of pictures for the first fault of each kind that can be seen."""
+        """Yield pictures of the expected and the decoded page at the first fault of each kind."""
         due, decoded, request = self.part.expected_pages(), self.decoded, self.part.request
         if decoded is None:
             return
@@ -194,7 +194,7 @@ class PartView:
                    for number, fault in sorted(self.part.check_output.first_faults.items())
                    if fault.frame is not None and (number in (PARITY, CHANGED) or
                                                    number == CONTENT and not firsts)]
-        blank = bytes([0, 0, 0, 8, 0, 8, 1, BY_WORD[request.option].bits << 1])  # C4, C6 and C7
+        blank = bytes([0, 0, 0, 8, 0, 8, 1, BY_WORD[request.option].bits << 1])  # C4, C6, C7 set
         for name, subtitle, frame in firsts:
             expected_state = due.timeline.state_at(frame) if due.timeline else None
             rows, header = BLANK_PAGE, blank
@@ -210,7 +210,7 @@ class PartView:
                          draw_picture_pair(time_of(frame), rows, header, state))
 
     def make_fault_table(self) -> Markup:
-        """Return the table with a row for each fault number."""
+        """Return a table with a row for each fault number."""
         answer, places = self.part.check_output, find_places(self.part)
         rows = []
         for number, count in sorted(answer.counts_by_number.items()):
@@ -242,7 +242,7 @@ class PartView:
 
 
 def format_fault_place(part: Part, fault: FaultLine) -> Value:
-    """Return the place of a fault; for the GSI block, its lines with the field marked."""
+    """Return the place of a fault; in the GSI block, the lines of `check` with the field marked."""
     if fault.block == 0:
         return make_fault_lines(part.open_subtitle_file(), [fault])
     return fault.time or " ".join(fault.line.split(" ")[3:]) or fault.name
@@ -252,13 +252,13 @@ def format_fault_place(part: Part, fault: FaultLine) -> Value:
 
 
 def make_definition_list(rows: Iterable[tuple[str, Value]]) -> Markup:
-    """Return a definition list of the names whose values are not empty."""
+    """Return an HTML definition list of the names whose values are not empty."""
     return markup('<dl class="made">{}</dl>', join_markup(
         markup("<dt>{}</dt><dd>{}</dd>", name, value) for name, value in rows if value))
 
 
 def scope_section(verdict: Verdict) -> Markup:
-    """Return the section about what was judged."""
+    """Return the section about the judged range."""
     path = verdict.request.stl_path
     titles = read_titles(path) if os.path.isfile(path) else []
     times = [part.time_codes() for part in verdict.parts if part.alignment]
@@ -303,7 +303,7 @@ def list_unchecked(verdict: Verdict) -> Iterator[str]:
 
 
 def list_waived(verdict: Verdict) -> Iterator[str]:
-    """Yield the faults that are warnings by the severity file."""
+    """Yield the waived faults: the severity file makes them warnings."""
     counts = {number: part.check_output.first_faults[number].name for part in verdict.parts
               for number in part.check_output.counts_by_number}
     for number, name in sorted(counts.items()):
@@ -315,7 +315,7 @@ def list_waived(verdict: Verdict) -> Iterator[str]:
 
 
 def list_options(verdict: Verdict, part: Part) -> str:
-    """Return the options with which a part was judged."""
+    """Return the options with which a part of the recording was judged."""
     request = verdict.request
     words = [f"--page {page_name(*request.page)}", f"--every {request.every}",
              f"--origin {part.origin or 0}", f"--option {request.option}"]
@@ -326,7 +326,7 @@ def list_options(verdict: Verdict, part: Part) -> str:
 
 
 def footer(verdict: Verdict, command_paths: CommandPaths) -> Markup:
-    """Return the last sections: what was not checked, waived faults, files and commands."""
+    """Return the last sections: unchecked properties, waived faults, files and commands."""
     program = describe_program(command_paths.program_path)
     size = os.path.getsize(command_paths.program_path)
     files = [("STL", verdict.stl), *(("PES", part.judged_file) for part in verdict.parts),
@@ -358,7 +358,7 @@ PART_COLUMNS = ("From", "To", "Verdict", "Faults", "Causes", "Clock")
 
 
 def make_parts_table(parts: Sequence[Part]) -> Markup:
-    """Return the table with a row and a link for each part."""
+    """Return a table with a row and a link for each part of the recording."""
     rows = []
     for part in parts:
         assert part.clock
@@ -384,7 +384,7 @@ LINKS = (("causes", "What is wrong"), ("timeline", "Timeline"), ("pictures", "Pi
 
 
 def make_report_page(verdict: Verdict, command_paths: CommandPaths) -> Markup:
-    """Return the report on a verdict."""
+    """Return the HTML report on a verdict."""
     title = " and ".join(os.path.basename(name) for name in
                          (verdict.request.stl, verdict.request.recording) if name)
     line = verdict.worst_line or f"{NOT_JUDGED}: {verdict.unjudged_reason}"

@@ -1,4 +1,4 @@
-"""Draw pages as a level 1 Teletext receiver shows them."""
+"""Draw Teletext pages as a level 1 receiver shows them."""
 from __future__ import annotations
 
 import codecs
@@ -14,19 +14,18 @@ from ..formats.teletext import NEWSFLASH, SUBTITLE, has_bit, character_table
 from ..stream.receiver import BLANK_PAGE, HIT, OLD, ReceiverState, Rows, national_option
 
 
-# A page in Teletext level 1 (EN 300 706, 12.2), drawn as SVG.
-#
-# A cell has 12 by 15 units. Cells outside a box are faint, since a receiver does not show them.
+# A Teletext page of level 1 (EN 300 706, 12.2), drawn as SVG. Each cell has 12 by 15 units. Cells
+# outside a box are faint, since receivers do not show them.
 
 WIDTH, HEIGHT = 12, 15
 SPACE = 0x20
 BLANK_ROW = b" " * 40
-LOW_ROWS = 21, 23  # rows in the picture of a blank page
-HIDDEN = markup('aria-hidden="true"')  # the rows are also on the page as text
-NUMBERS = 22  # width of the row numbers
+LOW_ROWS = 21, 23  # rows to draw if a page is blank
+HIDDEN = markup('aria-hidden="true"')  # screen readers read the rows as text instead
+NUMBERS = 22  # width of the row numbers in units
 
-Look = tuple[int, bool, bool, bool]  # ink, flash, boxed, double height
-Ground = tuple[int, bool]  # paper, boxed
+Look = tuple[int, bool, bool, bool]  # foreground colour, flash, boxed, double height
+Ground = tuple[int, bool]  # background colour, boxed
 Place = tuple[int, int]  # row and column
 RowRange = tuple[int, int]  # first and last row
 Key = TypeVar("Key")
@@ -37,7 +36,7 @@ MARKED = re.compile(bytes([HIT]) + b"+|" + bytes([OLD]) + b"+")
 
 
 class CellStyle(NamedTuple):
-    """The style of neighbouring cells. Ink and paper are colours from 0 to 7."""
+    """The characters and style of neighbouring cells. Ink and paper are colours from 0 to 7."""
 
     characters: str
     ink: int
@@ -55,26 +54,26 @@ get_ground: Callable[[CellStyle], Ground] = operator.attrgetter("paper", "boxed"
 
 @functools.lru_cache(maxsize=None)
 def letter_table(option: int, is_mosaic: bool) -> Any:
-    """Return the characters of bytes 00 to FF as a decoding table for `codecs`; `Any`, since mypy
-    accepts no string there."""
+    """Return the characters of bytes 00 to FF as a decoding table for `codecs`. The type is `Any`,
+    since mypy rejects a string there."""
     table = character_table(option)
     return "".join("\u2592" if is_mosaic and byte & 0x20 and byte & 0x7F != SPACE
                    else table[byte & 0x7F] for byte in range(256))
 
 
 def decode_cells(cells: bytes, option: int, is_mosaic: bool = False) -> str:
-    """Return the characters of some cells."""
+    """Return the characters of consecutive cells."""
     return codecs.charmap_decode(cells, "strict", letter_table(option, is_mosaic))[0]
 
 
 def style_row(row: bytes, number: int, option: int, is_boxed_page: bool) -> list[CellStyle]:
-    """Return the style of each run of cells in a row, by the spacing attributes before it."""
+    """Return the style of each run of cells in a row, from the spacing attributes before it."""
     ink, paper, flash, boxed, double, mosaic = 7, 0, False, not is_boxed_page, False, False
     spans: list[CellStyle] = []
     last = SPACE
     for part in PARTS.findall(row):
         code = part[0] & 0x7F
-        # These attributes act from their own cell on, a box from between its two codes.
+        # These attributes act on their own cell. A box begins and ends between two equal codes.
         if code >= SPACE:
             pass
         elif code == 0x09:
@@ -90,7 +89,7 @@ def style_row(row: bytes, number: int, option: int, is_boxed_page: bool) -> list
         text = decode_cells(part, option, mosaic)
         spans.append(CellStyle(text, ink, paper, flash, boxed, double))
         last = code
-        # These attributes act from the next cell on.
+        # These attributes act on the next cell.
         if code >= SPACE:
             pass
         elif code < 8 or 0x10 <= code < 0x18:
@@ -98,7 +97,7 @@ def style_row(row: bytes, number: int, option: int, is_boxed_page: bool) -> list
         elif code == 0x08:
             flash = True
         elif code == 0x0D:
-            double = number < 23  # the last rows have none to reach into
+            double = number < 23  # no room for double height below row 22
     return spans
 
 
@@ -114,7 +113,7 @@ def group_cells(spans: Iterable[CellStyle], key: Callable[[CellStyle], Key]) \
 
 
 def draw_text(look: Look, column: int, text: str) -> Markup:
-    """Draw the text of neighbouring cells with the same style; spaces are not drawn."""
+    """Draw the text of neighbouring cells with the same style, without spaces."""
     column += len(text) - len(text.lstrip(" "))
     text = text.strip(" ")
     if not text:
@@ -129,7 +128,7 @@ def draw_text(look: Look, column: int, text: str) -> Markup:
 
 @functools.lru_cache(maxsize=4096)
 def draw_row(row: bytes, number: int, option: int, is_boxed_page: bool) -> tuple[Markup, bool]:
-    """Draw a row as SVG. Return also whether it hides the row below by double height."""
+    """Draw a row as SVG. Return also whether double height hides the next row."""
     spans = style_row(row, number, option, is_boxed_page)
     is_tall = any(one.double for one in spans)
     height = HEIGHT * (2 if is_tall else 1)
@@ -149,7 +148,7 @@ def draw_row(row: bytes, number: int, option: int, is_boxed_page: bool) -> tuple
 
 
 def draw_frames(different: Iterable[Place], tall: set[int]) -> Markup:
-    """Draw frames around cells that differ, joining neighbours."""
+    """Draw frames around differing cells; neighbouring cells have a common frame."""
     boxes: dict[tuple[int, int, int], int] = {}
     for row, group in itertools.groupby(sorted(different), lambda cell: cell[0]):
         columns = [column for _, column in group]
@@ -163,7 +162,7 @@ def draw_frames(different: Iterable[Place], tall: set[int]) -> Markup:
 
 
 def draw_frame(column: int, width: int, first: int, end: int) -> Markup:
-    """Draw a frame around cells of the rows from `first` to the one before `end`."""
+    """Draw a frame around cells from row `first` to the row before `end`."""
     place = markup('x="{}" y="{}" width="{}" height="{}"', column * WIDTH, (first - 1) * HEIGHT,
                    width * WIDTH, (end - first) * HEIGHT)
     return markup('<rect class="d1" {}/><rect class="d2" {}/>', place, place)
@@ -175,7 +174,7 @@ def is_boxed(header: bytes) -> bool:
 
 
 def find_used_rows(pages: Iterable[Rows]) -> RowRange:
-    """Return the first and last row to draw: the used rows, and one more on each side."""
+    """Return the first and last row to draw: the used rows, and one more row above and below."""
     used = [number for rows in pages for number, one in enumerate(rows, 1) if one != BLANK_ROW]
     if not used:
         return LOW_ROWS
@@ -192,7 +191,7 @@ def begin_picture(kind: str, shown_rows: RowRange) -> Markup:
 
 def draw_picture(rows: Rows, header: bytes, shown_rows: RowRange,
                  different: Iterable[Place] = ()) -> Markup:
-    """Draw rows of a page as SVG, with frames around cells that differ."""
+    """Draw rows of a page as SVG, with frames around differing cells."""
     parts = [begin_picture("page", shown_rows)]
     tall: set[int] = set()
     option, has_boxes = national_option(header), is_boxed(header)
@@ -207,14 +206,14 @@ def draw_picture(rows: Rows, header: bytes, shown_rows: RowRange,
 
 
 def draw_empty_picture(words: str, shown_rows: RowRange) -> Markup:
-    """Draw a picture that has no page but the reason."""
+    """Draw a picture with a reason instead of a page."""
     middle = (shown_rows[0] + shown_rows[1] - 1) * HEIGHT // 2 + 7
     return markup('{}<text class="w" x="240" y="{}">{}</text></svg>',
                   begin_picture("page none", shown_rows), middle, words)
 
 
 def find_differences(expected: Rows, decoded: Rows) -> list[Place]:
-    """Return rows and columns of the cells whose codes differ."""
+    """Return the row and column of each cell that differs between two pages."""
     if expected == decoded:
         return []
     return [(number, column)
@@ -222,7 +221,7 @@ def find_differences(expected: Rows, decoded: Rows) -> list[Place]:
             for column in range(40) if (one[column] ^ other[column]) & 0x7F]
 
 
-# Pairs of pictures: the expected page and the decoded page.
+# Pairs of pictures: the expected page and the decoded page
 
 NO_TEXT = "no text"
 

@@ -1,5 +1,5 @@
-"""The timeline of a part, with a lane for expected and for received pages and each kind of fault.
-"""
+"""Draw the timeline of a part, with lanes for expected pages, decoded pages and each kind of
+fault."""
 from __future__ import annotations
 
 from typing import Iterable, Iterator
@@ -10,17 +10,17 @@ from ..judging.cues import Cue, find_text_spans
 from ..stream.receiver import Timeline
 from .cue_list import CueList, cause_key
 
-WIDTH = 1000  # units; a lane is as wide as the page
-MIN_MARK_WIDTH = 2  # units
+WIDTH = 1000  # width of a lane in units, drawn as wide as the page
+MIN_MARK_WIDTH = 2  # minimum width of a mark in units
 MINUTE = 60 * FRAMES_A_SECOND
 STEPS = [seconds * FRAMES_A_SECOND for seconds in (1, 2, 5, 10, 30)] + [
     minutes * MINUTE for minutes in (1, 2, 5, 10, 30, 60, 120, 240)]
-MAX_TIMES = 10  # below the lanes
-EDGE = 8  # percent; a time nearer to an end of the lanes is aligned with that end
+MAX_TIMES = 10  # maximum number of times below the lanes
+EDGE = 8  # percent of the width; a time nearer to an end of the lanes is aligned with that end
 
 
 class Lanes:
-    """The lanes of a part, from its first frame to its last."""
+    """The lanes of a timeline, from the first frame of a part to its last frame."""
 
     def __init__(self, cues: CueList, decoded: Timeline | None, lost_spans: Iterable[Span]) -> None:
         self.cues, self.decoded, self.lost_spans = cues, decoded, list(lost_spans)
@@ -31,12 +31,12 @@ class Lanes:
             self.begin, self.end = min(self.begin, decoded.first), max(self.end, decoded.last + 1)
 
     def find_x(self, frame: int) -> float:
-        """Return the position of a frame on a lane."""
+        """Return the horizontal position of a frame on a lane."""
         inside = min(max(frame, self.begin), self.end) - self.begin
         return round(inside * WIDTH / (self.end - self.begin), 1)
 
     def draw(self) -> Markup:
-        """Draw all lanes, with times below them."""
+        """Draw all lanes, and the times below them."""
         lanes = [self.draw_lane("expected", "Expected", ((one.subtitle.begin, one.subtitle.end)
                                                     for one in self.cues.cues))]
         if self.decoded:
@@ -68,7 +68,7 @@ class Lanes:
                                      places[kind.key])
 
     def draw_lane(self, css_class: str, name: Value, spans: Iterable[tuple[int, int]]) -> Markup:
-        """Draw a lane; marks that would touch are joined."""
+        """Draw a lane. Marks that would touch are drawn as one mark."""
         runs: list[list[float]] = []
         for begin, end in sorted(spans):
             left, right = self.find_x(begin), self.find_x(end)
@@ -83,7 +83,7 @@ class Lanes:
                       WIDTH, css_class, path)
 
     def draw_axis(self) -> Markup:
-        """Draw the times; each is a link to the next subtitle."""
+        """Draw the times below the lanes. Each time links to the next subtitle."""
         length = self.end - self.begin
         step = next((one for one in STEPS if length <= MAX_TIMES * one), STEPS[-1])
         begins = [cue.subtitle for cue in self.cues.cues]
@@ -99,7 +99,7 @@ class Lanes:
 
 
 def find_cue_span(cue: Cue) -> tuple[int, int]:
-    """Return the frames from the earlier begin to the later end, expected or actual."""
+    """Return the earlier of a cue's expected and actual begin, and the later of its ends."""
     one = cue.subtitle
     return (min(one.begin, one.begin if cue.begin is None else cue.begin),
             max(one.end, one.end if cue.end is None else cue.end))

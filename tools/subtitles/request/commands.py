@@ -1,4 +1,4 @@
-"""Commands for the operator, names of result files, and printing."""
+"""Commands to suggest to the operator, names of result files, and printing."""
 from __future__ import annotations
 
 import collections
@@ -37,7 +37,7 @@ class CommandPaths:
         path = os.path.abspath(program or os.path.join(TOP, "subttx"))
         if os.path.isdir(path) or not os.access(path, os.X_OK):
             raise Stop(f"{self.program_command} is not an executable program")
-        self.program_path = resolve_script(path)  # the script would search for it in each call
+        self.program_path = resolve_script(path)  # the script would search for it in each run
 
     def default_program(self) -> str:
         """Return the path of the program next to the tools."""
@@ -47,7 +47,7 @@ class CommandPaths:
         return path if os.path.dirname(path) else os.path.join(".", path)
 
     def tool_command(self, name: str) -> str:
-        """Return the path of a tool."""
+        """Return the path of a tool, as the operator would type it."""
         return os.path.join(self.folder, INSTALLED + name if self.is_installed else name)
 
 
@@ -67,20 +67,20 @@ def shell_line(*words: str) -> str:
 #     film%2E1.json   the pair of film.1.stl       %69ndex.json    the pair of index.stl
 
 PART_ENDINGS = ("cut.pes", "txt", "html")
-KEPT_PES, KEPT_TS = "recording.pes", "recording.ts"  # endings of a kept recording
+KEPT_PES, KEPT_TS = "recording.pes", "recording.ts"  # suffixes of a kept recording
 PAIR_ENDINGS = (*PART_ENDINGS, KEPT_PES, KEPT_TS, "json")
-LOCK = "lock"  # ending of the lock file of a pair that is being judged
+LOCK = "lock"  # suffix of the lock file of a pair that is being judged
 INDEX = "index"  # name of the page with all pairs of a folder
 ESCAPE = "%"
-# Escaped in names: a leading dot, control characters, and endings that would be those of a second
+# Escape in names: a leading dot, control characters, and suffixes that would be those of a second
 # pair, a part or a line.
 ESCAPED = re.compile(rf"^\.|{ESCAPE}|{HIDDEN.pattern}|[.~](?=[0-9]+$)|(?<=^line) (?=[0-9]+$)"
                      r"|^i(?=ndex$)")
-MAX_NAME_BYTES, KEPT_NAME_BYTES = 180, 120  # a longer name is cut, and a digest is added
+MAX_NAME_BYTES, KEPT_NAME_BYTES = 180, 120  # a longer name is cut, and a digest is appended
 
 
 def pair_name(stl: str) -> str:
-    """Return the name of a pair's result files, from the name of its subtitle file."""
+    """Return the base name of a pair's result files, from the name of its subtitle file."""
     stem = os.path.splitext(os.path.basename(stl))[0]
     name = ESCAPED.sub(lambda found: "".join(
         f"{ESCAPE}{byte:02X}" for byte in os.fsencode(found[0])), stem) or ESCAPE
@@ -92,26 +92,26 @@ def pair_name(stl: str) -> str:
 
 
 def part_name(name: str, number: int) -> str:
-    """Return the name of the result files of part `number`."""
+    """Return the base name of the result files of part `number`."""
     return f"{name}.{number}"
 
 
 class ListNames:
-    """Assigns names to the results of a list's lines, in the order of the lines."""
+    """Assigns unique names to the results of a list's lines, in the order of the lines."""
 
     def __init__(self) -> None:
         self.counts: collections.Counter[str] = collections.Counter()
 
     def name_pair(self, stl: str) -> str:
-        """Return the name of the next pair."""
+        """Return a unique name for the next pair."""
         return self.add_number(pair_name(stl))
 
     def name_line(self, number: int) -> str:
-        """Return the name of a line that is not a pair."""
+        """Return a name for a line that is not a pair."""
         return self.add_number(f"line {number}")
 
     def add_number(self, name: str) -> str:
-        """Return a name, with a number if it was used before."""
+        """Return a name, with a number appended if the name was used before."""
         self.counts[name] += 1
         return name if self.counts[name] == 1 else f"{name}~{self.counts[name]}"
 
@@ -154,7 +154,7 @@ def list_pair_files(folder: str, name: str, parts: PartFiles | None = None) -> l
 
 
 def lock_path(folder: str, name: str) -> str:
-    """Return the path of a pair's lock file, or of the folder's if the name is empty."""
+    """Return the path of a pair's lock file; for an empty name, that of the folder's lock file."""
     return os.path.join(folder, f".{name}.{LOCK}" if name else f".{LOCK}")
 
 
@@ -164,18 +164,16 @@ def index_path(folder: str) -> str:
 
 
 class OutputNames:
-    """Paths of the result files of a pair or part.
-
-    `folder` is temporary, `out` the output folder as typed. Complete files are put into
-    `staging_folder` if the caller moves them to `out` later.
-    """
+    """The paths of a pair's or part's result files. `folder` is temporary, `out` the output folder
+    as typed. Complete files are put into `staging_folder` if the caller moves them to `out`
+    later."""
 
     def __init__(self, name: str, folder: str, out: str | None,
                  staging_folder: str | None = None) -> None:
         self.name, self.folder, self.out = name, folder, out
         self.staging_folder = staging_folder or out
         self.program_stl = ""  # path of the subtitle file in UTF-8
-        self.recording_path = self.temporary_path("recording")  # of a copy of standard input
+        self.recording_path = self.temporary_path("recording")  # path of a copy of standard input
         self.list_path = self.temporary_path("txt")
         self.report_path = self.final_path("html")
         self.json_path = self.final_path("json") if out else None
@@ -193,7 +191,7 @@ class OutputNames:
         return os.path.join(self.folder, f"{self.name}.{ending}")
 
     def name_part(self, number: int) -> OutputNames:
-        """Return the paths of the result files of a part."""
+        """Return the result file paths of a part."""
         part = OutputNames(part_name(self.name, number), self.folder, self.out, self.staging_folder)
         part.program_stl = self.program_stl
         return part
@@ -203,8 +201,8 @@ class OutputNames:
         self.program_stl = self.make_utf_8_path(stl, "given.stl")
 
     def make_utf_8_path(self, name: str, ending: str) -> str:
-        """Return a path in UTF-8, through a symbolic link if needed: the program accepts no other.
-        """
+        """Return a path in UTF-8, through a symbolic link if needed, since the program accepts only
+        UTF-8."""
         if is_utf_8(name):
             return name
         path = self.temporary_path(ending)
@@ -214,8 +212,8 @@ class OutputNames:
 
 
 def make_qc_command(request: Request, command_paths: CommandPaths, *more: str) -> str:
-    """Return the command line that repeats a request with `more` arguments. These replace the same
-    option of the request."""
+    """Return the command line that repeats a request with additional arguments. These replace the
+    same options in the request."""
     arguments = [command_paths.tool_command("qc"), request.stl,
                  *([request.recording] if request.recording else [])]
     options = list_arguments(request)
@@ -226,16 +224,16 @@ def make_qc_command(request: Request, command_paths: CommandPaths, *more: str) -
 
 
 def profile_line(profile: Profile) -> str:
-    """Return the line that shows a profile's options."""
+    """Return the output line that lists the options in a profile."""
     arguments = [word for option in OPTIONS if (setting := profile.settings.get(option.field))
                  and setting.name == option.name
                  for word in option.format_arguments(setting.value, None)]
     return f"profile {profile.name}: {shell_line(*arguments) or 'no options'}"
 
 
-# The progress line on a terminal.
+# The progress line on a terminal
 
-UPDATE_SECONDS = 0.2  # seconds from one update to the next
+UPDATE_SECONDS = 0.2  # seconds between updates
 CLEAR_LINE = "\r\x1b[K"
 
 
@@ -247,7 +245,7 @@ class Progress:
         self.next_update, self.is_shown = 0.0, False
 
     def show(self, make_line: Callable[[], str]) -> None:
-        """Print a line, unless the last one was printed less than `UPDATE_SECONDS` ago."""
+        """Show a progress line, unless a line was shown less than `UPDATE_SECONDS` ago."""
         if self.is_terminal and time.monotonic() >= self.next_update:
             self.next_update, self.is_shown = time.monotonic() + UPDATE_SECONDS, True
             width = shutil.get_terminal_size().columns - 1
@@ -262,7 +260,7 @@ class Progress:
             sys.stderr.flush()
 
 
-MAX_LIST_LINES = 40  # printed lines of a list
+MAX_LIST_LINES = 40  # maximum number of printed lines per list
 class Printer:
     """Prints lines on standard output, or on standard error if an output file is `-`."""
 
@@ -270,11 +268,11 @@ class Printer:
         self.progress = progress
         self.out = sys.stderr if is_output_taken else sys.stdout
         self.last_line, self.list_length = "", 0
-        self.is_quiet = False  # until the verdict comes
+        self.is_quiet = False  # print only the verdict
         self.before_last_line: Callable[[], None] = lambda: None  # called before the last line
 
     def print_line(self, line: str) -> None:
-        """Print a line, unless `is_quiet`."""
+        """Print a line, unless only the verdict is printed."""
         self.progress.clear()
         self.last_line = line
         if not self.is_quiet:
@@ -282,7 +280,7 @@ class Printer:
 
     @staticmethod
     def write_line(line: str, out: TextIO) -> None:
-        """Print a line and flush. Ignore a closed pipe, so that judging continues."""
+        """Print a line and flush it. Ignore a closed pipe, so that judging continues."""
         try:
             print(line, file=out, flush=True)
         except BrokenPipeError:
@@ -298,18 +296,18 @@ class Printer:
         self.progress.show(make_line)
 
     def print_command(self, line: str) -> None:
-        """Print a command; the lines that it prints follow as a list."""
+        """Print the command that will run; its output follows as a list."""
         self.list_length = 0
         self.print_line(f"+ {line}")
 
     def print_list_line(self, line: str) -> None:
-        """Print a line of a list, if it is one of the first `MAX_LIST_LINES`."""
+        """Print a line of a list, if it is among the first `MAX_LIST_LINES`."""
         self.list_length += 1
         if self.list_length <= MAX_LIST_LINES:
             self.print_line(line)
 
     def end_list(self, last_line: str) -> None:
-        """Print the number of omitted lines, and the last line of the list."""
+        """End a list: print the number of omitted lines, and the last line."""
         omitted = self.list_length - MAX_LIST_LINES
         if omitted > 1:
             self.print_line(f".. {omitted - 1} more lines")
@@ -317,7 +315,7 @@ class Printer:
             self.print_line(last_line)
 
     def print_verdict(self, sentence: str, line: str) -> None:
-        """Print the verdict: its sentence, then the line `accepted`, `refused` or other."""
+        """Print the sentence of a verdict, then its last line, for example `accepted`."""
         self.is_quiet = False
         self.print_line(sentence)
         self.before_last_line()
@@ -325,7 +323,7 @@ class Printer:
 
 
 class Listener:
-    """Prints the lines about a pair, and keeps its commands, choices and notes for the result."""
+    """Prints the lines about a pair, and stores commands, choices and notes for the result."""
 
     def __init__(self, printer: Printer) -> None:
         self.printer = printer
@@ -338,16 +336,16 @@ class Listener:
         self.printer.print_line(line)
 
     def add_selection(self, selection: Selection, is_printed: bool = True) -> None:
-        """Keep a choice, and print its line if `is_printed`."""
+        """Store a choice of qc, and print its line if `is_printed`."""
         if is_printed:
             self.printer.print_line(selection.line)
         self.selections.append(selection)
 
     def add_command(self, *words: str) -> None:
-        """Print and keep a command."""
+        """Print and store a command."""
         self.commands.append(shell_line(*words))
         self.printer.print_command(self.commands[-1])
 
     def add_notes(self, *lines: str) -> None:
-        """Keep notes, which are printed with the verdict."""
+        """Store notes, which are printed with the verdict."""
         self.notes += [line for line in lines if line and line not in self.notes]

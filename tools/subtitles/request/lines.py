@@ -1,4 +1,4 @@
-"""Read lists and profiles, and find the pairs of a list or a folder."""
+"""Read lists and profiles, and find the pairs in a list or a folder."""
 from __future__ import annotations
 
 import argparse
@@ -19,14 +19,14 @@ from .request import (
     make_file_request)
 
 
-# Lines of lists and profiles, split into words as a shell does.
+# Lines of lists and profiles, which are split into words like shell commands.
 
-# Limits of a list. Python needs some 600 bytes for a line that is not a pair, and 150 for each of
-# its words.
+# Limits of a list. In Python, a line that is not a pair needs about 600 bytes, and each word of a
+# line 150 bytes.
 MAX_BYTES, MAX_LINES, MAX_WORDS = 16_000_000, 100_000, 1_000_000
 MAX_LINE_CHARACTERS, MAX_LINE_WORDS = 65_536, 256
 BYTE_ORDER_MARKS = codecs.BOM_UTF8, codecs.BOM_UTF16_LE, codecs.BOM_UTF16_BE
-# A part of a word, a blank or a comment; if nothing matches, a quote is not closed.
+# Matches a part of a word, a blank or a comment, but not a quote that is never closed.
 LIST_TOKEN = re.compile(r"""(?P<blank>[ \t\r\n]+) | (?P<comment>\#.*)
                        | (?P<plain>[^ \t\r\n\\'"\#]+)
                        | \\(?P<letter>.) | '(?P<single>[^']*)' | "(?P<double>(?:[^"\\]|\\.)*)" """,
@@ -35,8 +35,8 @@ ESCAPED = re.compile(r'\\(["\\])')
 
 
 class Line(NamedTuple):
-    """A line of a list: its number and arguments. For a faulty line `arguments` has its first
-    characters, and `fault` the reason."""
+    """A line of a list: its number and arguments. A faulty line has its first characters in
+    `arguments` and the reason in `fault`."""
 
     number: int
     arguments: tuple[str, ...]
@@ -56,13 +56,13 @@ def decode_text(name: str, data: bytes) -> str:
 
 
 def list_folder(path: str) -> str:
-    """Return the folder to which the paths in a list are relative; empty for a pipe."""
+    """Return the folder to which paths in a list are relative; an empty text for a pipe."""
     return os.path.dirname(path) if os.path.isfile(path) else ""
 
 
 def split_lines(text: str) -> Iterator[Line]:
-    """Yield the lines of a list that are neither empty nor comments; raise `Stop` if there are too
-    many."""
+    """Yield the lines of a list, except empty lines and comments; raise `Stop` if there are too
+    many lines."""
     line_count = word_count = 0
     for number, text_line in enumerate(io.StringIO(text, newline="\n"), 1):
         line = parse_line(number, text_line.removesuffix("\n"))
@@ -76,7 +76,7 @@ def split_lines(text: str) -> Iterator[Line]:
 
 
 def parse_line(number: int, text: str) -> Line:
-    """Parse a line of a list; an empty line or a comment has no arguments."""
+    """Parse a line of a list. Empty lines and comments have no arguments."""
     try:
         return Line(number, tuple(split_words(text)))
     except ValueError as reason:
@@ -88,7 +88,7 @@ def split_words(line: str) -> list[str]:
     is too long, a quote is not closed or a word has a NUL character."""
     if len(line) > MAX_LINE_CHARACTERS:
         raise ValueError(f"it has more than {MAX_LINE_CHARACTERS:,} characters")
-    parts: list[list[str]] = [[]]  # of each word
+    parts: list[list[str]] = [[]]  # pieces of each word
     at = 0
     while at < len(line):
         match = LIST_TOKEN.match(line, at)
@@ -112,12 +112,12 @@ def split_words(line: str) -> list[str]:
 # Profiles.
 
 MAX_PROFILE_BYTES = 65_536
-PATH_FIELDS = {"severity"}  # options whose value is a path
+PATH_FIELDS = {"severity"}  # options with a path as value
 
 
 def parse_setting(arguments: Sequence[str]) -> Setting:
-    """Parse a line of a profile; raise `Stop` if a profile can't have its option. The message
-    quotes only a known option: the file may be a private one, given by mistake."""
+    """Parse a line of a profile; raise `Stop` if a profile can't have the option. The message
+    quotes only known options, since the user may have given a private file by mistake."""
     name = arguments[0].partition("=")[0]
     option = next((one for one in OPTIONS if one.name == name), None)
     if option is None or not option.is_in_profile:
@@ -158,7 +158,7 @@ def resolve_setting_path(setting: Setting, folder: str) -> Setting:
     return setting._replace(value=os.path.join(folder, setting.value))
 
 
-# Options of a line, of the command line and of a profile.
+# The options of a line in a list, of the command line and of a profile.
 def read_options(parser: ToolParser, line: Sequence[str], defaults: Mapping[str, Any],
                  own_defaults: Mapping[str, Any], folder: str = "", is_typed: bool = False) \
         -> argparse.Namespace:
@@ -184,19 +184,19 @@ def read_options(parser: ToolParser, line: Sequence[str], defaults: Mapping[str,
         options = parser.parse_args([*line], argparse.Namespace(**defaults))
         options.profile, options.own_defaults = profile, own_options
     if options.within != defaults.get("within", options.within) and "--late" not in typed:
-        options.late = None  # it belongs to the replaced --within
+        options.late = None  # belongs to the old --within
     return options
 
 
 def remove_replaced_clock(options: Mapping[str, Any], names: Collection[str]) -> dict[str, Any]:
-    """Remove `origin` from options if `names` has `--start`, and `start` if it has `--origin`."""
+    """Remove the option `origin` if `names` has `--start`, and `start` if it has `--origin`."""
     replaced = [other for field, other in (("origin", "start"), ("start", "origin"))
                 if f"--{field}" in names]
     return {**options, **dict.fromkeys(replaced)}
 
 
 def describe_mode_conflict(name: str, modes: Sequence[Mode], mode: Mode) -> str:
-    """Return the message that an option can't be used in a mode."""
+    """Return a message that an option can't be used in a mode."""
     *others, last = (mode_.text for mode_ in modes)
     accepted = f"{', '.join(others)} or {last}" if others else last
     return f"{name} may be given with {accepted}, not with {mode.text}"
@@ -204,7 +204,7 @@ def describe_mode_conflict(name: str, modes: Sequence[Mode], mode: Mode) -> str:
 
 @functools.lru_cache(maxsize=None)
 def make_line_parser() -> ToolParser:
-    """Return the parser for lines of a list; cached, since making it takes longer than using it."""
+    """Return the parser for lines of a list, cached because it takes longer to make than to use."""
     parser = ToolParser("")
     parser.add_argument("stl")
     parser.add_argument("recording")
@@ -214,7 +214,7 @@ def make_line_parser() -> ToolParser:
 
 def make_line_request(line: Sequence[str], defaults: argparse.Namespace,
                       folder: str = "") -> Request:
-    """Return the request of a line of a list. `folder` is the folder of the list, `defaults` are
+    """Return the request for a line of a list. `folder` is the folder of the list, `defaults` are
     the options of the command line."""
     own_defaults = option_values(getattr(defaults, "own_defaults", defaults))
     request = make_request(read_options(make_line_parser(), line, option_values(defaults),
@@ -224,16 +224,16 @@ def make_line_request(line: Sequence[str], defaults: argparse.Namespace,
     return request
 
 
-# Pairs of a folder, by their file names, and of a list, by its lines.
+# Pairs in a folder, found by their file names, or in a list.
 
 SUBTITLE_ENDING = ".stl"
-# Transport streams of all packet sizes, and files of PES packets.
+# Suffixes of transport streams with any packet size, and of files of PES packets.
 RECORDING_ENDINGS = (".ts", ".m2t", ".m2ts", ".mts", ".trp", ".pes")
 
 
 class BatchItem(NamedTuple):
-    """A pair of a batch. `request` is `None` if it can't be judged, and `reason` says why. `files`
-    are all input files that it may name."""
+    """A pair in a batch. If it can't be judged, `request` is `None` and `reason` says why. `files`
+    are all input files that the pair may have."""
 
     name: str
     request: Request | None
@@ -242,7 +242,7 @@ class BatchItem(NamedTuple):
 
 
 def read_pairs(path: str, defaults: argparse.Namespace) -> list[BatchItem]:
-    """Return the pairs of a folder or a list."""
+    """Return the pairs in a folder or a list."""
     items = find_folder_pairs(path, defaults) if os.path.isdir(path) else [
         *map(check_files, read_list_pairs(path, split_lines(read_list(path, may_be_pipe=True)),
                                           defaults))]
@@ -252,7 +252,7 @@ def read_pairs(path: str, defaults: argparse.Namespace) -> list[BatchItem]:
 
 
 def find_folder_pairs(folder: str, defaults: argparse.Namespace) -> list[BatchItem]:
-    """Return the pairs of a folder: files with the same name, ignoring case."""
+    """Return the pairs in a folder: files with the same base name, ignoring case."""
     files_by_stem: dict[str, list[str]] = collections.defaultdict(list)
     for file in sorted(os.listdir(folder)):
         stem, ending = os.path.splitext(file)
@@ -263,12 +263,12 @@ def find_folder_pairs(folder: str, defaults: argparse.Namespace) -> list[BatchIt
 
 
 def collect_inputs(items: Iterable[BatchItem], *more: str) -> Inputs:
-    """Return the input files of some pairs, and `more`."""
+    """Return the input files of some pairs, and the additional files `more`."""
     return Inputs(*more, *(name for item in items for name in item.files))
 
 
 def find_path_problem(path: str) -> str | None:
-    """Return why a path can't be judged, `None` if it is a regular file."""
+    """Return the reason why a path can't be judged, or `None` if it is a regular file."""
     try:
         kind = describe_kind(os.stat(path).st_mode)
     except OSError as error:
@@ -279,7 +279,7 @@ def find_path_problem(path: str) -> str | None:
 
 
 def make_item(name: str, stl: str, recording: str, defaults: argparse.Namespace) -> BatchItem:
-    """Return the pair of two files."""
+    """Return the pair of a subtitle file and a recording."""
     try:
         request = make_file_request(stl, recording, defaults)
     except Stop as reason:
@@ -288,7 +288,7 @@ def make_item(name: str, stl: str, recording: str, defaults: argparse.Namespace)
 
 
 def check_files(item: BatchItem) -> BatchItem:
-    """Add the files of a pair; remove its request if one of them can't be judged."""
+    """Return a pair with its files, but without its request if a file can't be judged."""
     request = item.request
     if request is None:
         return item
@@ -299,8 +299,8 @@ def check_files(item: BatchItem) -> BatchItem:
 
 
 def pair_files(folder: str, files: list[str], defaults: argparse.Namespace) -> Iterable[BatchItem]:
-    """Return the pair of files whose names differ only in case. If there are too many files, pair
-    those with the same name."""
+    """Return the pair among files whose names differ only in case. If there are more than two
+    files, choose those with exactly the same name."""
     subtitles, recordings = separate_files(files)
     if len(subtitles) > 1 or len(recordings) > 1:
         files_by_stem: dict[str, list[str]] = collections.defaultdict(list)
@@ -323,7 +323,7 @@ def pair_files(folder: str, files: list[str], defaults: argparse.Namespace) -> I
 
 
 def separate_files(files: list[str]) -> tuple[list[str], list[str]]:
-    """Separate subtitle files from recordings."""
+    """Separate the subtitle files in a list of names from the recordings."""
     is_subtitles = [os.path.splitext(file)[1].lower() == SUBTITLE_ENDING for file in files]
     return ([file for file, is_subtitle_file in zip(files, is_subtitles) if is_subtitle_file],
             [file for file, is_subtitle_file in zip(files, is_subtitles) if not is_subtitle_file])
@@ -331,8 +331,8 @@ def separate_files(files: list[str]) -> tuple[list[str], list[str]]:
 
 def read_list_pairs(path: str, lines: Iterable[Line],
                     defaults: argparse.Namespace) -> Iterator[BatchItem]:
-    """Yield the pairs of a list's lines (subtitle file, recording, options), without looking at the
-    files."""
+    """Yield the pairs in a list (subtitle file, recording, options), without checking that the
+    files exist."""
     names, folder = ListNames(), list_folder(path)
     for line in lines:
         try:
@@ -348,15 +348,15 @@ def read_list_pairs(path: str, lines: Iterable[Line],
 
 
 def list_possible_paths(words: Sequence[str], folder: str) -> list[str]:
-    """Return all words of a faulty line that may be input files, which must not be overwritten."""
+    """Return all words in a faulty line that may be input files and must not be overwritten."""
     values = [value for word in words for value in {word, word.partition("=")[2]} if value]
     return [*values, *(os.path.join(folder, value) for value in values)]
 
 
 def read_line_pair(path: str, number: int, defaults: argparse.Namespace) \
         -> tuple[BatchItem, list[str]]:
-    """Return the pair in line `number` of a list, and the words of all lines, which may be input
-    files. Earlier lines are read too, since they decide its name."""
+    """Return the pair in line `number` of a list, and the words in all lines, which may be input
+    files. Earlier lines are read too, since the name of the pair depends on them."""
     if os.path.isdir(path):
         raise Stop(f"{path} is not a list: --line needs a LIST")
     lines = [*split_lines(read_list(path, may_be_pipe=True))]

@@ -1,4 +1,4 @@
-"""The request for a pair: the table of options, profiles, and the choices of qc."""
+"""The request for a pair: the table of options, profiles, and the choices that qc makes."""
 from __future__ import annotations
 
 import argparse
@@ -30,7 +30,7 @@ from ..formats.teletext import OPTION_WORDS, option_for_language, page_name
 
 
 class Mode(NamedTuple):
-    """A way to use the tool: its name in the manual, and its text in messages."""
+    """A way to use the tool: its name in the manual, and its name in messages."""
 
     name: str
     text: str
@@ -49,7 +49,7 @@ PAIRS = (PAIR, BATCH, WATCH, LINE)
 JUDGED = (*PAIRS, ALONE)
 MEASURED_PAIRS, MEASURED = (*PAIRS, MEASURE), (*JUDGED, MEASURE)
 
-NOT_TAKEN = object()  # `check` does not have the option
+NOT_TAKEN = object()  # `check` does not take the option
 
 
 class Option(NamedTuple):
@@ -84,18 +84,18 @@ class Option(NamedTuple):
 
     @property
     def help(self) -> str:
-        """Its line in --help."""
+        """The help text of the option."""
         default = f" (default: {self.default_text})" if self.default_text and self.metavar else ""
         return remove_markup(self.description + default)
 
     @property
     def form(self) -> str:
-        """The option with the name of its value."""
+        """The option, followed by the name of its value if it has one."""
         return f"{self.name} {self.metavar}" if self.metavar else self.name
 
     @property
     def member(self) -> Member | None:
-        """Its member of `request` in a JSON result."""
+        """The definition of the option's member in the object `request` of a JSON result."""
         if self.shape is None:
             return None
         meaning = remove_markup(self.description[0].upper() + self.description[1:] + ".")
@@ -126,17 +126,17 @@ def remove_markup(text: str) -> str:
 
 
 def check_time(text: str) -> str:
-    """Return a time of day unchanged; raise `ArgumentTypeError` if it is invalid."""
+    """Check a time of day and return it unchanged; raise `ArgumentTypeError` if it is invalid."""
     parse_time(text)
     return text
 
 
-AUTO = "auto"  # --option: use the language of the subtitle file
-NONE = "none"  # --pace: do not check the PES interval
+AUTO = "auto"  # value of --option: use the language of the subtitle file
+NONE = "none"  # value of --pace: do not check the PES interval
 
 
 def check_layout(text: str) -> str:
-    """Return a layout unchanged; raise `ArgumentTypeError` if it is invalid."""
+    """Check a layout and return it unchanged; raise `ArgumentTypeError` if it is invalid."""
     if text == AUTO:
         raise argparse.ArgumentTypeError(
             "auto is no longer a layout: find the layout of your inserter with `--measure STL "
@@ -153,7 +153,7 @@ def parse_pace_or_none(text: str) -> str:
 
 
 def format_range(pes: tuple[int, int]) -> str:
-    """Format a range of PES packets for --pes."""
+    """Format a range of PES packets as the value of --pes."""
     return f"{pes[0]}-{pes[1]}"
 
 
@@ -242,7 +242,7 @@ OPTIONS: tuple[Option, ...] = (
            note="The other keys have its options."),
 )
 
-# The options in each group of the help; options that are missing here are in `ACCEPTED`.
+# The options in each group of the help. All other options are in `ACCEPTED`.
 ACCEPTED = "acceptance"
 GROUPS = {
     "input": ("--page", "--option", "--pid", "--breaks", "--pes", "--from", "--to", "--layout",
@@ -255,7 +255,7 @@ GROUPS = {
 
 
 def add_options(parser: ToolParser, options: Iterable[Option] | None = None) -> None:
-    """Add options to a parser in their groups; by default the options for a pair."""
+    """Add options to a parser in groups; by default, add the options for a pair."""
     for option in sorted(OPTIONS if options is None else options, key=group_number):
         arguments: dict[str, Any] = {"help": option.help, "dest": option.field,
                                  "default": option.default}
@@ -275,7 +275,7 @@ def group_number(option: Option) -> int:
 
 
 def list_arguments(request: Any) -> list[list[str]]:
-    """Return the arguments of a request, option by option, without those that its profile has."""
+    """Return the command-line arguments for a request, except the options in its profile."""
     profile = request.profile
     return [option.format_arguments(
         option.get_value(request), profile.get_value(option.field, option.default)
@@ -291,7 +291,7 @@ def request_members() -> list[Member]:
 
 
 class Setting(NamedTuple):
-    """A line of a profile: an option, its field in a request, and the value."""
+    """A setting in a profile: its option, the field in a request, and the value."""
 
     name: str
     field: str
@@ -299,22 +299,22 @@ class Setting(NamedTuple):
 
 
 class Profile(NamedTuple):
-    """A profile: its path as typed, its SHA-256, and its settings by field."""
+    """A profile: its path as typed, its SHA-256, and its settings by field name."""
 
     name: str
     sha256: str
     settings: Mapping[str, Setting]
 
     def get_value(self, field: str, default: Any) -> Any:
-        """Return the value of a field, or the default."""
+        """Return the value that the profile sets for a field, or the default."""
         setting = self.settings.get(field)
         return setting.value if setting else default
 
 
 # The request for a pair.
 
-LC = slice(14, 16)  # bytes of the field in the GSI block
-COPY_NAME = "subtitles.stl"  # of a copy in the temporary folder
+LC = slice(14, 16)  # bytes of the language code (LC) in the GSI block
+COPY_NAME = "subtitles.stl"  # file name of the copy in the temporary folder
 
 
 @dataclasses.dataclass
@@ -335,7 +335,7 @@ class Request:
     breaks: int
     pes: tuple[int, int] | None
     start: str | None
-    is_relative_allowed: bool = False  # give `relative` status 0
+    is_relative_allowed: bool = False  # exit with status 0 if the verdict is `relative`
     within: int = 0  # frames from a cue until its page must be complete
     is_strict: bool = False  # treat warnings as faults
     from_time: str | None = None
@@ -343,11 +343,11 @@ class Request:
     layout: str | None = None
     is_open: bool = False  # accept open subtitles
     may_keep: bool = False  # accept repeated headers with C4 clear
-    pace_word: str | None = None  # frames, or `none`
+    pace_word: str | None = None  # maximum PES interval in frames, or `none`
     late: Lateness | None = None  # usual delays of the inserter
-    profile: Profile | None = None  # its values are in the other fields, too
+    profile: Profile | None = None  # the other fields contain its values
     kept_stl: str | None = None  # path of the copy, if the subtitle file is a pipe
-    language: str | None = None  # language code, if `option` was chosen by it
+    language: str | None = None  # language code by which `option` was chosen, if any
 
     @property
     def stl_path(self) -> str:
@@ -356,7 +356,7 @@ class Request:
 
     @property
     def other_files(self) -> tuple[str | None, ...]:
-        """Its other input files: severity file and profile."""
+        """The paths of the other input files: severity file and profile."""
         return self.severity, self.profile and self.profile.name
 
     @property
@@ -366,23 +366,23 @@ class Request:
 
     @property
     def between(self) -> Between:
-        """The judged range: subtitles with a TCI in it are judged."""
+        """The judged range: only subtitles that begin in it are judged."""
         begin, end = frame_of(self.from_time or ""), frame_of(self.to_time or "")
         return Between(begin or 0, FRAMES_OF_A_DAY if end is None else end)
 
     def restrict_to(self, begin: int, end: int) -> Request:
-        """Return the request for the subtitles from frame `begin` to before frame `end`."""
+        """Return the request for the subtitles that begin from frame `begin` to before `end`."""
         return dataclasses.replace(self, from_time=time_of(begin), to_time=time_of(end))
 
     @property
     def pace(self) -> int | None:
-        """The maximum PES interval in frames; `None` if it is not given."""
+        """The maximum PES interval in frames, or `None` if it is not given."""
         word = self.pace_word
         return None if word is None or word == NONE else int(word)
 
     @property
     def has_clock(self) -> bool:
-        """Whether the clock is given, or there is no recording."""
+        """Whether the clock is given, or the pair has no recording."""
         return not self.recording or self.origin is not None or self.start is not None
 
     @property
@@ -394,17 +394,17 @@ class Request:
                 and self.profile.get_value(option.field, None) == option.get_value(self)]
 
     def schedule_arguments(self) -> list[str]:
-        """Return the arguments of `schedule`: the options that change the expected pages."""
+        """Return the arguments for `schedule`: the options that change the expected pages."""
         return self.program_arguments([option for option in OPTIONS if option.changes_pages])
 
     def check_arguments(self, is_file_alone: bool = False) -> list[str]:
-        """Return the arguments of `check` except the origin."""
+        """Return the arguments for `check`, except the origin."""
         return self.program_arguments([
             option for option in OPTIONS if option.check_default is not NOT_TAKEN
             and (ALONE in option.modes or not is_file_alone)])
 
     def program_arguments(self, options: Iterable[Option]) -> list[str]:
-        """Return the program's arguments for some options, without `--pace none`."""
+        """Return the arguments of the program for some options, except `--pace none`."""
         request = dataclasses.replace(
             self, pace_word=None if self.pace_word == NONE else self.pace_word)
         return [word for option in options for word in
@@ -412,17 +412,17 @@ class Request:
 
 
 def option_values(args: argparse.Namespace) -> dict[str, Any]:
-    """Return the values of a pair's options by field."""
+    """Return the values of options by field name."""
     return {option.field: getattr(args, option.field) for option in OPTIONS}
 
 
 def make_request(args: argparse.Namespace) -> Request:
-    """Return the request of a command line."""
+    """Return the request for the pair on a command line."""
     return make_file_request(args.stl, args.recording, args)
 
 
 def make_file_request(stl: str, recording: str | None, options: argparse.Namespace) -> Request:
-    """Return the request for two files with parsed options."""
+    """Return the request for a subtitle file and a recording, with parsed options."""
     recording_name = recording and (recording if recording == "-" else make_safe_name(recording))
     if options.origin is not None and options.start is not None:
         raise Stop("--start and --origin both give the clock: remove one")
@@ -436,13 +436,13 @@ def make_file_request(stl: str, recording: str | None, options: argparse.Namespa
 
 
 def is_pipe(name: str) -> bool:
-    """Return whether a path is a pipe, which can be read only once."""
+    """Return whether a path is a pipe, which can only be read once."""
     return os.path.exists(name) and stat.S_ISFIFO(os.stat(name).st_mode)
 
 
 def keep_stl(request: Request, folder: str) -> None:
-    """Copy a subtitle file that is a pipe into a folder. Choose `--option auto` again, since the
-    file may have changed since a list was read."""
+    """Copy a subtitle file that is a pipe into a folder. Choose the national option again, since
+    the file may have changed since a list was read."""
     if is_pipe(request.stl):
         request.kept_stl = os.path.join(folder, COPY_NAME)
         data = read_stl(request.stl)
@@ -453,9 +453,9 @@ def keep_stl(request: Request, folder: str) -> None:
 
 
 def choose_option(request: Request) -> None:
-    """Choose the national option by the language of the subtitle file (GSI block, LC)."""
+    """Choose the national option from the language code (LC) in the subtitle file's GSI block."""
     language = b""
-    with contextlib.suppress(Stop, OSError):  # judging reports the error
+    with contextlib.suppress(Stop, OSError):  # the error is reported later
         language = read_first_bytes(request.stl_path, LC.stop)[LC]
     request.option = option_for_language(language).word
     request.language = language.decode("latin-1")
@@ -468,15 +468,15 @@ def describe_option(request: Request) -> str:
     return f"option: {request.option}, since {language}"
 
 
-# Choices of qc, by the option that would replace the choice.
+# The options that can replace a choice made by qc
 PID_CHOICE, ORIGIN_CHOICE, PES_CHOICE = "pid", "origin", "pes"
 PACE_CHOICE, OPTION_CHOICE = "pace", "option"
 CHOICES = (PID_CHOICE, ORIGIN_CHOICE, PES_CHOICE, PACE_CHOICE, OPTION_CHOICE)
 
 
 class Selection(NamedTuple):
-    """A choice of qc: the option with the chosen value (`None`: none), the printed line, how many
-    of how many items match, and the part (`None`: all parts)."""
+    """A choice made by qc: the option with the chosen value, or `None` for no value; the line to
+    print; how many of how many items match; and the part, or `None` for all parts."""
 
     option: str
     value: str | None
@@ -487,7 +487,7 @@ class Selection(NamedTuple):
 
 
 class Unclear(Exception):
-    """A pair can't be judged: the reason, and the commands that may help."""
+    """Raised if a pair can't be judged, with the reason and commands that may help."""
 
     def __init__(self, reason: str, *commands: str) -> None:
         super().__init__(reason)
@@ -495,4 +495,4 @@ class Unclear(Exception):
 
 
 class IncompleteAnswer(Unclear):
-    """The program ended before its output was complete, for example because it was killed."""
+    """Raised if the program ended before its output was complete, for example by a signal."""
