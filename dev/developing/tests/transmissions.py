@@ -21,7 +21,7 @@ Sent = list[tuple[int, list[bytes]]]  # unwrapped PTS, and the packets with this
 Change = Callable[[Sent], Sent]
 Shown = tuple[int, int, bytes]  # first frame, end frame and text of a subtitle on screen
 PAGE = (0, 0x88)
-HEADER = make_packet(0, 0, [8, 8, 0, 8, 0, 8, 1, 0], b" " * 32)  # header of page 888 with erase_page
+HEADER = make_packet(0, 0, [8, 8, 0, 8, 0, 8, 1, 0], b" " * 32)  # page 888's header with erase_page
 CLOSING = make_packet(0, 0, [15, 15, 15, 7, 15, 3, 0, 0], b" " * 32)
 
 
