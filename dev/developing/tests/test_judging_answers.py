@@ -1,4 +1,4 @@
-"""How answers of `check --all` are read, files that change meanwhile, and stored recordings."""
+"""Test how output of `check --all` is read, files that change meanwhile, and stored recordings."""
 from __future__ import annotations
 
 import contextlib
@@ -34,33 +34,33 @@ FIRST, SECOND = "refused 72 Content frame 00:00:05:00 row 20 column 1", \
 GOOD, TRUSTED, ENDED = "accepted 10 frames 2 transmissions", \
     "trusted frames 00:00:06:00 00:00:07:00", "ended 72 Content frame 00:00:07:00"
 NONE = [f"refused {number} Flags pes 0" for number in ("\u0663\u0663", "+33", "")]
-# A space before or after a line; a byte that is not a character.
+# Invalid lines with a space at either end, or with a byte that is not a character.
 AROUND = [*(f" {one}" for one in (FIRST, GOOD, TRUSTED, ENDED, "1 faults")),
           *(f"{one} " for one in (GOOD, TRUSTED, ENDED, "1 faults")),
           *(one.replace("0", "0\udcff", 1) for one in (GOOD, ENDED))]
 STRANGE = ("hello", f"{GOOD} more", "accepted of course", "refused", *NONE[1:], *AROUND)
-# Lines, the status, and the verdict; `None` for an invalid answer.
+# Output of `check --all`, its exit status, and the verdict (`None` for invalid output).
 LISTS: list[tuple[list[str], int, str | None]] = [
     ([GOOD], 0, "accepted"), ([GOOD, GOOD], 0, "accepted"), ([TRUSTED, GOOD], 0, "accepted"),
     ([FIRST, "1 faults"], 1, "refused"), ([FIRST, FIRST, "2 faults"], 1, "refused"),
     ([SECOND, "ended 38 UnitLength pes 9", FIRST, ENDED, TRUSTED, "2 faults"], 1, "refused"),
-    # Without lines, or without a last line.
+    # The output is empty, or its last line is missing.
     ([], 0, None), ([], 1, None), ([], 2, None), ([], -9, None), ([TRUSTED], 0, None),
     (["0 faults"], 0, None), (["0 faults"], 1, None), ([""], 0, None),
-    # A status that contradicts the lines.
+    # The status contradicts the lines.
     *(([GOOD], status, None) for status in (1, 2, -9, -15)),
     *(([FIRST, "1 faults"], status, None) for status in (0, 2, -9)),
-    # A truncated list, or a wrong count.
+    # The list is truncated, or the number of faults is wrong.
     ([FIRST], 1, None), ([FIRST, ENDED], 1, None), ([FIRST, "2 faults"], 1, None),
     ([FIRST, SECOND, "1 faults"], 1, None), ([FIRST, "1 faults", FIRST], 1, None),
-    # Accepted and refused, or accepted before the end.
+    # The recording is accepted and refused, or accepted before the last line.
     ([FIRST, GOOD], 0, None), ([FIRST, GOOD, "1 faults"], 0, None),
     ([GOOD, FIRST, "1 faults"], 1, None), ([GOOD, "0 faults"], 0, None),
     ([GOOD, "0 faults"], 1, None), ([GOOD, TRUSTED], 0, None),
-    # An error of the program.
+    # The program reports an error.
     (["fault 91 Memory"], 2, None), (["usage 80 Every"], 2, None),
     ([FIRST, "fault 41 Read pes 4"], 2, None),
-    # Foreign lines.
+    # The output has foreign lines.
     ([GOOD, "hello"], 0, None), (["hello", "?", GOOD], 0, None),
     ([FIRST, "hello", "1 faults"], 1, None), ([f"{GOOD} more"], 0, None),
     (["accepted of course"], 0, None), (["refused", "1 faults"], 1, None),
@@ -121,7 +121,7 @@ class Answers(Case):
         for line, reported in ((FIRST, "all up to 00:00:05:00"), (SECOND, "nothing yet")):
             pair.current_part = make_part(0, 9, 0, CheckOutput(self.path("list")))
             pair.current_part.check_output.read_line(line)
-            # only the first call counts
+            # A second call of `stop` has no effect.
             for words in (f"10:00, when check had reported {reported}", "10:00"):
                 self.assertEqual((pair.stop("10:00"), verdict.parts[-1]),
                                  (words, pair.current_part), (line, reported, words))

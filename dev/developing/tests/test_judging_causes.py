@@ -1,4 +1,4 @@
-"""The causes of refused subtitles, by tables and for random pages."""
+"""Test the search for the causes of refused subtitles with tables and random pages."""
 from __future__ import annotations
 
 import os
@@ -29,7 +29,7 @@ TIMES = [(BEGIN + 100 * at, BEGIN + 100 * at + 50) for at in range(6)]
 
 
 def with_page(sent: Sent, frame: int, *rows: bytes) -> Sent:
-    """Replace what is sent at a frame by a page."""
+    """Replace the Teletext sent at a frame by a page with these rows."""
     pts = frame * TICKS
     return sorted([*(one for one in sent if one[0] != pts), (pts, [HEADER, *rows, CLOSING])])
 
@@ -119,19 +119,20 @@ class SenderFaults(ProgrammeCase):
             self.must(name, any(f"`{name}" in one for one in begins))
 
 
-# Random causes: each row of dev/vectors/causes.tsv has subtitles, the decoded pages, and the causes
-# when the row was last reviewed.
+# Test random causes: each row of dev/vectors/causes.tsv has subtitles, decoded pages, and the
+# causes found when the row was last reviewed.
 
 VECTORS = os.path.join(DEV, "vectors", "causes.tsv")
-COUNT = 500  # rows
-BY = (-260, -30, -3, -1, 1, 1, 2, 3, 5, 8, 30, 240, 260)  # frames by which something is moved
-END = 1600  # frames that are examined
+COUNT = 500  # number of rows
+BY = (-260, -30, -3, -1, 1, 1, 2, 3, 5, 8, 30, 240, 260)  # frames by which cues are moved
+END = 1600  # end frame of the examined frames
 
 
 def page_of(name: str) -> Rows:
-    """Return a page by its name:
-    two lines of a subtitle; `-` is blank. After a comma, one line is replaced, moved, coloured or
-    deleted.
+    """Return the page with a name: a letter names a page with two lines, and `-` the blank page.
+
+    A second letter after a comma changes the first line: t (text), a (attribute), r (removed),
+    m (margin) or p (position).
     """
     page = list(BLANK_PAGE)
     if name[0] == "-":
@@ -145,26 +146,24 @@ def page_of(name: str) -> Rows:
 
 
 def empty(within: int = 0) -> Timeline:
-    """Return a timeline in which nothing was received."""
+    """Return a timeline without any decoded page."""
     return Timeline(Packets(0), PAGE, 0, within)
 
 
 def steady(decoded: Timeline) -> None:
-    """Give a timeline 500 PES packets, so that a pause counts."""
+    """Set the count of PES packets to 500, so that pauses between them are used."""
     decoded.count = 500
 
 
 def fake_answer(spans: list[tuple[int, int]], *edges: tuple[int, int]) -> Any:
-    """Return what `check` reported:
-    frames with refused content, and other faults by number and frame.
-    """
+    """Return an answer of `check` with refused content in `spans`, and other faults."""
     firsts = {number: parse_fault_line(f"refused {number} Edge frame {time_of(frame)}")
               for number, frame in edges}
     return SimpleNamespace(first_faults=firsts, fault_spans={72: Spans(spans)})
 
 
 class RandomRow:
-    """A programme and the decoded pages of a seed."""
+    """A row of the table, made from a seed: a random programme and its decoded pages."""
 
     def __init__(self, number: int) -> None:
         self.chance = chance = random.Random(number)
@@ -189,7 +188,7 @@ class RandomRow:
                                   for (begin, end), text in zip(times, texts))
 
     def wrong(self, due: dict[int, str], texts: list[str]) -> dict[int, str]:
-        """Return the transmission with one more fault."""
+        """Return the sent pages with one more random fault."""
         chance = self.chance
         frame = chance.choice(list(due)[1:] or list(due))
         text, kind = due[frame], chance.randrange(9)
@@ -209,7 +208,7 @@ class RandomRow:
         return {**due, frame + chance.choice((1, 3, 10, 40)): chance.choice([*texts, "z", "-"])}
 
     def decode(self) -> Timeline:
-        """Return the decoded pages; in some rows with unreadable frames or pauses."""
+        """Return the decoded pages, sometimes with unreadable frames, pauses or stray rows."""
         chance, decoded = self.chance, empty(self.within)
         decoded.first = chance.choice((0, 0, self.programme.begins[0] - 20))
         for frame, text in self.sent:
@@ -230,7 +229,7 @@ class RandomRow:
         return decoded
 
     def row(self) -> str:
-        """Return the row: expected pages, decoded pages, and causes."""
+        """Return the text of the row: subtitles, sent pages, and causes."""
         decoded, chance, begin = self.held, self.chance, self.programme.begins[0]
         lost = [Span(one, one + 30) for one in (begin - 10, begin + 200)
                 if chance.randrange(5) == 0]
@@ -272,12 +271,12 @@ class StoredRows(unittest.TestCase):
             self.assertEqual(RandomRow(number).row(), row, number)
 
 
-# Subtitles, decoded pages by first frame, and the expected causes: subtitle's place, name, frames,
-# place of another subtitle, page sent.
+# Subtitles, decoded pages with their first frames, and the expected causes (index of the subtitle,
+# name, frames, index of another subtitle, sent page).
 BY_HAND: list[tuple[str, str, list[tuple[int, str, int | None, int | None, str | None]]]] = [
     ("100-150 a", "0:- 100:a 150:-", []), ("100-150 a", "0:- 103:a 150:-", [
         (0, "late", 3, None, "a")]),
-    # All or one are moved, also into the time of another.
+    # One or all subtitles are moved, in part to the time of another subtitle.
     ("100-200 a;200-300 b", "0:- 200:a 300:b 400:-", [(0, "late", 100, None, "a"),
                                                      (1, "late", 100, None, "b")]),
     ("200-300 a;300-400 b", "0:- 100:a 200:b 400:-", [(0, "early", 100, None, "a"),
@@ -286,19 +285,19 @@ BY_HAND: list[tuple[str, str, list[tuple[int, str, int | None, int | None, str |
         (0, "never sent", None, None, None), (1, "another subtitle's text", None, 0, "a")]),
     ("100-150 a;200-250 b;300-350 c", "0:- 100:a 150:- 200:c 250:- 300:c 350:-", [
         (1, "another subtitle's text", None, 2, "c")]),
-    # Searched up to 250 frames around the TCI, nearer only if another subtitle is there.
+    # A subtitle is searched up to 250 frames around its TCI.
     ("100-150 a;300-340 b", "0:- 300:b 340:- 350:a 380:-", [(0, "late", 250, None, "a")]),
     ("100-150 a;300-340 b", "0:- 300:b 340:- 351:a 380:-", [
         (0, "never sent", None, None, None), (1, "unknown", None, None, "a")]),
-    # Two edits: a foreign text early between adjoining subtitles, or after a moved TCO. It belongs
-    # to the next subtitle if it stays longer in its time.
+    # A foreign text between adjoining subtitles belongs to the subtitle in whose time it stays
+    # longer.
     ("100-203 a;203-260 b", "0:- 100:a 200:z 260:-", [(1, "wrong text", None, None, "z")]),
     ("100-190 a;203-260 b", "0:- 100:a 195:- 200:z 260:-", [
         (0, "not erased", None, None, "a"), (1, "wrong text", None, None, "z")]),
     ("100-203 a;203-260 b", "0:- 100:a 120:z 210:b 260:-", [
         (0, "wrong text", None, None, "z"), (1, "late", 7, None, "b")]),
     ("10-20 a;400-450 b", "0:- 10:a 20:- 150:b 160:-", [(1, "early", 250, None, "b")]),
-    # Of several pages the one that lasts longest; before and after the right one.
+    # If several wrong pages were sent, the page that lasted longest is reported.
     ("100-150 a", "0:- 100:z 110:y 150:-", [(0, "wrong text", None, None, "y")]),
     ("100-150 a", "0:- 100:z 140:y 150:-", [(0, "wrong text", None, None, "z")]),
     ("100-150 a", "0:- 100:z 105:y 108:x 150:-", [(0, "wrong text", None, None, "x")]),
@@ -306,13 +305,13 @@ BY_HAND: list[tuple[str, str, list[tuple[int, str, int | None, int | None, str |
     ("100-150 a", "0:- 100:z 120:a 150:-", [(0, "wrong text", None, None, "z")]),
     ("100-150 a", "0:z 120:a 150:-", [(0, "late", 20, None, "a")]),
     ("100-150 a", "0:- 50:z 160:-", [(0, "wrong text", None, None, "z")]),
-    # Before the first decoded page.
+    # Subtitles before the first decoded page.
     ("10-50 a;100-150 b", "60:b 150:-", [
         (0, "never sent", None, None, None), (1, "early", 40, None, "b")]),
-    # A foreign page in a pause that stays into the next subtitle is wrong there too.
+    # A foreign page sent in a pause stays into the next subtitle.
     ("100-150 a;200-250 b", "0:- 100:a 150:- 180:z 220:b 250:-", [
         (0, "another text in a pause", None, None, "z"), (1, "wrong text", None, None, "z")]),
-    # At the TCO a foreign page is no text that stays; at the last TCO it is the next programme's.
+    # A foreign page is sent at a TCO; after the last TCO, it belongs to the next programme.
     ("100-150 a;200-250 b", "0:- 100:a 150:z 170:- 200:b 250:-", [
         (0, "another text in a pause", None, None, "z")]),
     ("100-150 a;200-250 b", "0:- 100:a 150:- 200:b 250:z 270:-", [(1, "unknown", None, None, "z")]),
@@ -324,19 +323,18 @@ BY_HAND: list[tuple[str, str, list[tuple[int, str, int | None, int | None, str |
     ("100-150 a", "0:- 100:a 120:z 130:a 160:-", [(0, "wrong text", None, None, "z")]),
     ("50-60 c;100-150 a;300-350 b", "0:- 50:c 110:- 120:b 150:- 300:b 350:-", [
         (0, "not erased", None, None, "c"), (1, "another subtitle's text", None, 2, "b")]),
-    # No PES packet for some frames of a stream that sends one a frame: until the page changes, or
-    # longer, or shorter.
+    # A regular stream pauses until the page changes, or ends its pause before or after.
     ("100-150 a", "0:- 100:a 161:- !148-160", [(0, "unknown", None, None, "a")]),
     ("100-150 a", "0:- 100:a 165:- !148-160", [(0, "not erased", None, None, "a")]),
     ("100-150 a", "0:- 111:a 150:- !95-110", [(0, "unknown", None, None, None)]),
     ("100-150 a", "0:- 112:a 150:- !95-110", [(0, "late", 12, None, "a")]),
     ("100-150 a", "0:- 160:- !95-149", [(0, "unknown", None, None, None)]),
     ("100-150 a", "0:- 160:- !95-148", [(0, "never sent", None, None, None)]),
-    # Rows of the page while it is not open: before, within, and after its time.
+    # Rows are sent while the page is not open, before, within and after the subtitle's time.
     ("100-150 a", "0:- 160:- @99 @150", [(0, "never sent", None, None, None)]),
     ("100-150 a", "0:- 160:- @90 @120", [(0, "unknown", None, None, None)]),
     ("100-150 a", "0:- 160:- @149 @160", [(0, "unknown", None, None, None)]),
-    # Unreadable frames: after a stretch of faulty frames, and within it.
+    # Frames are unreadable after or within faulty frames.
     ("100-150 a", "0:- 100:a 110:z 130:a 150:- ?130-140", [(0, "wrong text", None, None, "z")]),
     ("100-150 a", "0:- 100:a 110:z 130:a 150:- ?129-140", [(0, "unknown", None, None, "z")]),
     ("100-150 a", "0:- 100:a 110:z 130:a 150:- ?100-109", [(0, "wrong text", None, None, "z")]),
@@ -348,7 +346,7 @@ BY_HAND: list[tuple[str, str, list[tuple[int, str, int | None, int | None, str |
     ("100-150 a", "0:- 100:a,r 150:-", [(0, "wrong text", None, None, "a,r")]),
     ("100-150 a", "0:- 100:a,m 150:-", [(0, "wrong place", None, None, "a,m")]),
     ("100-150 a", "0:- 100:a,a 150:-", [(0, "wrong colour or attribute", None, None, "a,a")]),
-    # Not erased: up to another text, up to the same text, and forever.
+    # A subtitle is not erased until another text, until the same text, or forever.
     ("100-150 a;200-250 b", "0:- 100:a 200:b 250:-", [(0, "not erased", None, None, "a")]),
     ("100-150 a;160-250 a", "0:- 100:a 250:-", [(0, "not erased", None, None, "a")]),
     ("100-150 a", "0:- 100:a", [(0, "not erased", None, None, "a")])]

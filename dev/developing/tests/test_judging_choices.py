@@ -1,4 +1,4 @@
-"""What qc chooses by itself, with its evidence, and what --measure proposes."""
+"""Test the values that qc chooses by itself, and the options that --measure proposes."""
 from __future__ import annotations
 
 import itertools
@@ -37,7 +37,7 @@ CUT = "pes", "2-6", 5, 7, 1, "range: 5 of 7 PES packets, from 20:15:00:00 to 20:
 PID = "pid", "0x101", 7, 7, None, RECORDING_PID
 PACE = "pace", None, None, None, 1, "not checked for losses on this PID alone: its PES packets " \
     "are too few to measure their interval"
-# Arguments of a call, and the choices: option, value, matches, total, part, line.
+# Arguments, and the expected choices: option, value, matches, total, part, printed line.
 ROWS: list[tuple[Sequence[str], list[tuple[Any, ...]]]] = [
     (TS, [PID, ORIGIN_OF_TS, CUT, PACE]),
     ((*TS, "--pid", "0x101"), [ORIGIN_OF_TS, CUT, PACE]),
@@ -56,7 +56,7 @@ LANGUAGES = {b"08": ("german", "the language of the file (LC) is 08"),
 
 
 def choices_of(found: JudgedPair) -> list[tuple[Any, ...]]:
-    """Return the choices in a result, in the order of the options."""
+    """Return the values that qc chose, sorted by the order of their options."""
     keys = ("option", "value", "matches", "total", "part", "line")
     return sorted((tuple(choice[key] for key in keys) for choice in found.result["choices"]),
                   key=lambda values: CHOICES.index(values[0]))
@@ -64,7 +64,7 @@ def choices_of(found: JudgedPair) -> list[tuple[Any, ...]]:
 
 class Choices(Case):
     def check_choices(self, name: str, found: JudgedPair, wanted: list[tuple[Any, ...]]) -> None:
-        """Check the choices in the result, and that each was printed."""
+        """Check the values that qc chose, and check that it printed each of them."""
         wrong = [*choice_errors(found.result, found.said)]
         self.must(name, choices_of(found) == wanted and not wrong,
                   (choices_of(found), wrong, found.said))
@@ -180,7 +180,7 @@ class ForeignPackets(ProgrammeCase):
         self.pes += [make_pes_packet(last + 90_000 * at, blank) for at in range(1, 5)]
 
     def make_stream(self, first: int, number: int) -> bytes:
-        """Return a stream that from a PES packet on has another stream_id or a wrong length."""
+        """Return a stream with wrong stream_ids or lengths (fault 31 or 32) from a packet on."""
         def carried(at: int) -> list[tuple[int, bytes]]:
             one = self.pes[at]
             if at >= first:
@@ -213,33 +213,33 @@ class ForeignPackets(ProgrammeCase):
                   "no PES packets of private_stream_1" in found.told[0], found.told)
 
 
-FIRST, EACH, LASTS = 900_000, 100, 60  # frames: first TCI, from one to the next, length of each
+FIRST, EACH, LASTS = 900_000, 100, 60  # first TCI, distance of TCIs, duration, in frames
 LINES = ("Good evening.", "Here", "is the news of today", "Thank you, Anne.", "Yes", "No no no")
 CLOCK_WORDS = ["--start", time_of(FIRST - 50)]
 
 
 def text_of(number: int, end: str = "") -> bytes:
-    """Return the text of a subtitle: two lines of different lengths."""
+    """Return a text with two lines of different lengths."""
     both = [f"{end}{number} {LINES[(number + at) % len(LINES)]}{end}" for at in (0, 1)]
     return "\x8a\x8a".join(both).encode("latin-1")
 
 
 class Profiles(Case):
     def write_stl(self, name: str, end: str = "", justify: int = 2, count: int = 12) -> str:
-        """Write a subtitle file; `end` is added at both ends of each line."""
+        """Write a subtitle file, with `end` before and after each line; return its path."""
         return write_subtitle_file(self, [(begin, begin + LASTS, text_of(number, end))
                                     for number in range(count)
                                     for begin in [FIRST + EACH * number]], name, 0, 20, justify)
 
     def profile(self, *words: str) -> list[str]:
-        """Return the output of `--measure`; check that it is a valid profile."""
+        """Run `--measure`, check that it prints a valid profile, and return its lines."""
         done = self.tool("qc", "--measure", *words)
         self.must(f"{words}", done.status == 0 and not done.told, done)
         read_profile(self.write("profile", done.out))
         return done.out.decode().splitlines()
 
     def proposed(self, *words: str) -> list[str]:
-        """Return the proposed options."""
+        """Run `--measure`, and return the proposed options."""
         return [line for line in self.profile(*words) if not line.startswith("#")]
 
     def test_proposes_the_longest_pace_if_all_are_regular(self) -> None:

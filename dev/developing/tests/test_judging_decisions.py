@@ -1,4 +1,4 @@
-"""Tables for functions of qc that decide something."""
+"""Test decisions of qc about folders, watched pairs, subtitles and pages with tables."""
 from __future__ import annotations
 
 import contextlib
@@ -107,7 +107,7 @@ class Folders(Case):
             self.must(f"{first} {second}", (item.request is not None) == is_pair, item)
         wrong = default_options("--origin", "5")
         wrong.start = "tcp"
-        for options in (default_options(), wrong):  # inputs in both cases
+        for options in (default_options(), wrong):  # valid and invalid options
             [item] = find_folder_pairs(self.path("0"), options)
             self.must("files", ((item.request is None) == (options is wrong), {*item.files} -
                                 {None})
@@ -137,7 +137,7 @@ class Folders(Case):
         self.must("somebody says so", due(lambda: 311) == ["two"])
         os.unlink(self.path("in/two.done"))
         self.write("in/two.ts", b"22")
-        times = iter([400.0, 409.0, 418.0, 419.0])  # a look of nine seconds, and two more
+        times = iter([400.0, 409.0, 418.0, 419.0])  # one search takes nine seconds
         self.must("from when it was seen", [due(lambda: next(times)) for _ in range(3)] ==
                   [[], [], ["two"]])
         self.must("what was seen", isinstance(watch.seen["one"], Sighting))
@@ -161,7 +161,7 @@ class Folders(Case):
 
 
 def subtitle(index: int, begin: int) -> Subtitle:
-    """Return a subtitle of one frame."""
+    """Return a subtitle that lasts one frame."""
     return Subtitle(index, index, begin, begin + 1, 20, 2, b"text")
 
 
@@ -244,7 +244,7 @@ class EstimatedOrigins(Case):
 
 class DecodedPages(Case):
     def decode(self, data: bytes) -> Timeline:
-        """Decode PES packets."""
+        """Decode a PES file, and return its timeline."""
         return decode_packets(self, data)
 
     def test_a_page_must_be_closed_before_its_tco(self) -> None:

@@ -1,4 +1,4 @@
-"""The details of each fault in a result, part by part."""
+"""Test the details that a result gives about the faults in each part."""
 from __future__ import annotations
 
 import dataclasses
@@ -35,7 +35,7 @@ class FaultDetails(Case):
         "frame 00:00:0{}:05", "5 faults"], "s": ["refused 50 Character block {} at 1", "1 faults"]}
 
     def part(self, kind: str, number: int, stl: str) -> Part:
-        """Return a part with the subtitles of one second and the causes of its faults."""
+        """Return a part that lasts one second, with its subtitles and the causes of its faults."""
         lines = [line.replace("{}", str(number)) for line in self.LINES[kind]]
         times = [f"00:00:0{at}:00" for at in (number, number + 1)]
         frames = range(25, 151, 25)
@@ -158,7 +158,7 @@ class FaultDetails(Case):
                 "expected", "decoded")] for one in make_faults(verdict)], [
                     [("5B", letter), ("01", None)], [("62", "b"), ("78", "x")],
                     [("20", " "), ("79", "y")]], (within, option, letter))
-            part = dataclasses.replace(part, pes=None)  # unknown if the part was not read
+            part = dataclasses.replace(part, pes=None)  # the cause is unknown for an unread part
             self.assertEqual(describe_first_hint(fault_of("refused 67 X frame 00:00:01:00"), part,
                                                  verdict),
                              "", (within, option, letter))

@@ -1,4 +1,4 @@
-"""The descriptions of faults: places, cells, hints, causes in a sentence, first lines of a list."""
+"""Test the descriptions of faults: their places, cells, hints and causes."""
 from __future__ import annotations
 
 import contextlib
@@ -30,7 +30,7 @@ from .parts import make_answer, request_for, survey_packets, make_part, shell_sc
 from .transmissions import CLOSING, HEADER, ORIGIN, row_packet
 from .test_judging_verdicts import verdict_of
 
-BEFORE = CLOCK - 60 * TICKS  # an origin whose frames cross the PTS wrap
+BEFORE = CLOCK - 60 * TICKS  # origin one minute before the PTS wrap
 NO_C4 = make_packet(0, 0, [8, 8, 0, 0, 0, 8, 1, 0], b" " * 32)
 
 
@@ -39,7 +39,7 @@ def cause(place: int, name: str, frames: int | None = None, words: str = "") -> 
 
 
 def causes_of(*several: Cause, count: int = 9, text: bytes = b"text") -> Any:
-    """Return causes of a programme with a subtitle each second, all with the same text."""
+    """Return the causes of faults in a programme that repeats a text each second."""
     subtitles = [SimpleNamespace(begin=25 * at, end=25 * at + 20, name=f"subtitle {at + 1}")
                  for at in range(count)]
     page = (b" " * 40,) * 19 + (text.ljust(40),) + (b" " * 40,) * 4
@@ -155,7 +155,7 @@ class Descriptions(Case):
             "refused 72 X frame 00:00:00:10 row 20 column 2"), decode_packets(
             self, data)
         assert fault
-        for number in (0, 1):  # the last one that changes the cell
+        for number in (0, 1):  # number of the last PES packet that changes the cell
             due = decoded.state_after(1 - number).rows
             self.must(f"{number}",
                       find_fault_place(fault, decoded.packets, decoded, due).pes == number)

@@ -1,7 +1,7 @@
-"""Recordings with other layouts, and files of open subtitles.
+"""Test recordings with other layouts, and files with open subtitles.
 
-From dev/, `python3 -m developing.tests.test_judging_layouts PROGRAM FIRST END` judges the random
-programmes of other seeds.
+From dev/, `python3 -m developing.tests.test_judging_layouts PROGRAM FIRST END` judges random
+programmes with the seeds FIRST to END - 1.
 """
 from __future__ import annotations
 
@@ -27,7 +27,7 @@ from .parts import decode_packets
 from .transmissions import CLOSING, HEADER, Sent, pes_file, row_packet, schedule_pages
 from .test_stream_layouts import HOUSES, line
 
-FIRST, EACH, LASTS = 3000, 60, 45  # frames: first TCI, from one to the next, length of each
+FIRST, EACH, LASTS = 3000, 60, 45  # first TCI, distance of TCIs, and duration, in frames
 DSC = slice(11, 12)
 FAULTS = [
     ("left=40", "left=40 is not an item: left takes 0 to 39"), ("fit,fit", "fit is given twice"),
@@ -36,7 +36,7 @@ FAULTS = [
     ("up,after=0E", "after=0E is not an item: after takes up to 4 codes 01 to "
                     "0D"), ("fit,up", None)]
 def file_of(case: Case, texts: list[tuple[bytes, int]], name: str, dsc: bytes = b"1") -> str:
-    """Write a subtitle file of texts with justification codes."""
+    """Write a subtitle file with these texts and justification codes; return its path."""
     blocks = b"".join(make_subtitle_blocks(
         at, FIRST + EACH * at, FIRST + EACH * at + LASTS, 18, justify, text)
                       for at, (text, justify) in enumerate(texts))
@@ -47,7 +47,7 @@ def file_of(case: Case, texts: list[tuple[bytes, int]], name: str, dsc: bytes = 
 
 def texts_of(some: random.Random, has_codes: bool, between: bytes, count: int
              ) -> list[tuple[bytes, int]]:
-    """Return texts of one or two lines, some with a number that distinguishes them."""
+    """Return random texts of one or two lines, with their justification codes."""
     return [(between.join(line(some, has_codes) for _ in range(some.choice([1, 2, 2]))),
              some.choice([2, 2, 2, 1, 3, 0])) for _ in range(count)]
 
@@ -55,7 +55,7 @@ def texts_of(some: random.Random, has_codes: bool, between: bytes, count: int
 class OtherLayouts(Case):
     def judge(self, texts: list[tuple[bytes, int]], drawn: str, *words: str,
               sent: list[tuple[bytes, int]] | None = None) -> JudgedPair:
-        """A pair whose recording is drawn by a layout, of other texts where these are given."""
+        """Judge a pair whose recording is drawn by a layout, from the texts `sent` if given."""
         number = str(len(os.listdir(self.folder)))
         stl = file_of(self, texts, f"{number}.stl")
         other = file_of(self, sent or texts, f"{number}.sent.stl")
@@ -133,7 +133,7 @@ class LayoutMessages(Case):
 
 class OpenSubtitles(Case):
     def test_judges_open_subtitles_with_the_advised_option(self) -> None:
-        texts = [(b"Number %d\x0a" % at, 2) for at in range(12)]  # a code that may hide text
+        texts = [(b"Number %d\x0a" % at, 2) for at in range(12)]  # 0A may hide text
         for dsc, kind in ((b"0", "0 (open subtitles)"), (b" ", "blank"), (b"3", None)):
             stl = file_of(self, texts, "open.stl", dsc)
             alone = judge_files(self, stl)
@@ -158,20 +158,17 @@ class OpenSubtitles(Case):
                       and len(late.result["causes"]) == 12, late.said)
 
 
-# Random programmes in some layout, with one fault: a few subtitles transmitted differently, one a
-# frame early, a row never sent, or a wrong page within a loss.
+# Random programmes in a random layout, some with a fault.
 
-# Seeds that the gate judges.
+# Seeds of the programmes that are always judged.
 GATE = (3, 5, 11, 17, 24, 31, 42, 50, 57, 68, 77, 89, 101, 123, 150, 171, 200, 217, 260, 299)
 UNSEEN = "not checked: whether"
 WRONG = [HEADER, row_packet(20, b"Nobody wrote this"), CLOSING]
-Said = tuple[bytes, int]  # a text with its justification code
+Said = tuple[bytes, int]  # subtitle text and justification code
 
 
 def altered(printed: Said, kind: int) -> Said:
-    """Return the file's text if this text is transmitted:
-    with more codes than an inserter draws, or other characters.
-    """
+    """Return a text with other codes, characters, lines or justification than the sent text."""
     text, justify = printed
     return [(b"\x03" + text, justify), (b"\x08" + text, justify), (b"\x0d" + text, justify),
             (b"  " + text, justify), (text.replace(b"\x8a", b"\x8a\x8a\x8a", 1), justify),
@@ -180,24 +177,21 @@ def altered(printed: Said, kind: int) -> Said:
 
 
 class Programme(NamedTuple):
-    """A pair of a seed:
-    the file's texts, the transmitted texts and their layout, how PES packets come and how many are
-    lost where, the kind of recording, and whether a wrong page was sent in the loss.
-    """
+    """A random pair: texts in the file, texts sent and their layout, losses and other faults."""
 
     text: str
     file: list[Said]
     sent: list[Said]
-    step: int  # most frames between PES packets; 0: only at changes
-    place: int  # of the loss, in PES packets
+    step: int  # maximum frames between PES packets; 0 sends them only at page changes
+    place: int  # number of the first lost PES packet
     lost: int
     is_stream: bool
     is_announced: bool
     has_wrong: bool
-    early: int | None = None  # the subtitle that comes a frame early
-    missing: int | None = None  # the subtitle that lacks a row
+    early: int | None = None  # index of the subtitle that is sent a frame early
+    missing: int | None = None  # index of the subtitle that is sent without its last row
     profile: str = ""  # profile options besides the layout
-    is_known: bool = True  # whether a clock is given
+    is_known: bool = True  # whether --origin is given
 
     @property
     def layout(self) -> Layout:
@@ -206,12 +200,12 @@ class Programme(NamedTuple):
         return found
 
     def page(self, printed: Said) -> object:
-        """Return the page of a text in the layout."""
+        """Return the rows that the layout draws for a text, or a fault in the text."""
         lines = draw_text(printed[0], 18, printed[1], self.layout, ENGLISH)
         return lines if isinstance(lines, TextFault) else make_page_rows(lines)
 
     def is_right(self) -> bool:
-        """Return whether each transmitted cell is correct."""
+        """Return whether each sent page is the expected page, at its time."""
         pages = [(self.page(one), self.page(other)) for one, other in zip(self.file, self.sent)]
         return not self.has_wrong and self.early is None and self.missing is None and \
             all(one == other for one, other in pages)
@@ -236,9 +230,9 @@ def programme_of(seed: int) -> Programme:
         printed = altered(found.file[at], kind)
         if not isinstance(found.page(printed), TextFault):
             found.file[at] = printed
-    # After all else, so that seeds keep their programmes.
+    # Draw these values last, so that each seed keeps the programme that it had before.
     kind = some.randrange(4)
-    lost = found.lost if kind == 0 else 0  # a loss only without another fault
+    lost = found.lost if kind == 0 else 0  # no loss besides another fault
     return found._replace(
         lost=lost, has_wrong=found.has_wrong and lost > 0,
         early=some.randrange(1, count) if kind == 1 else None,
@@ -249,7 +243,7 @@ def programme_of(seed: int) -> Programme:
 
 
 def with_fault(one: Programme, sent: Sent) -> Sent:
-    """Send one subtitle a frame early, or another without its last row."""
+    """Send a programme's subtitle `early` a frame early, and `missing` without its last row."""
     made = []
     for pts, some in sent:
         place, rest = divmod(pts // TICKS - FIRST, EACH)
@@ -262,7 +256,7 @@ def with_fault(one: Programme, sent: Sent) -> Sent:
 
 
 def with_empty_packets(sent: Sent, step: int) -> Sent:
-    """Insert PES packets without Teletext, at most some frames apart."""
+    """Insert PES packets without Teletext into every `step`-th frame."""
     if not step:
         return sent
     known = dict(sent)
@@ -272,7 +266,7 @@ def with_empty_packets(sent: Sent, step: int) -> Sent:
 
 
 def recording_of(one: Programme, sent: Sent) -> bytes:
-    """Return the recording after the loss, as a transport stream or PES packets."""
+    """Return the recording as a transport stream or PES file, without the lost packets."""
     place = min(one.place, max(len(sent) - 60, len(sent) // 2))
     if one.has_wrong:
         sent = [*sent[:place], (sent[place][0], WRONG), *sent[place + 1:]]
@@ -283,7 +277,7 @@ def recording_of(one: Programme, sent: Sent) -> bytes:
 
 
 def judge(case: Case, seed: int) -> tuple[Programme, JudgedPair]:
-    """Judge a pair whose recording has another layout, or other texts."""
+    """Make the programme of a seed, judge it, and return the programme and the judged pair."""
     one = programme_of(seed)
     stl = file_of(case, one.file, f"{seed}.stl")
     other = file_of(case, one.sent, f"{seed}.sent.stl")
@@ -298,15 +292,15 @@ def judge(case: Case, seed: int) -> tuple[Programme, JudgedPair]:
 
 
 def is_correct(one: Programme, told: JudgedPair) -> bool:
-    """Return whether a fault is accepted only with a note on what was not checked, and a correct
-    recording is accepted."""
+    """Return whether a correct recording without losses is accepted, and a faulty recording is
+    refused, or accepted with a note."""
     if told.word not in ("accepted", "waived"):
         return bool(one.lost) or not one.is_right()
     return one.is_right() or any(UNSEEN in note for note in told.result["notes"])
 
 
 class RandomProgrammes(Case):
-    """Some of them."""
+    """Tests of random programmes, one method for each seed in `GATE`."""
 
 
 def test_of(seed: int) -> Callable[[RandomProgrammes], None]:
@@ -322,7 +316,7 @@ for _seed in GATE:
 
 
 def main(program: str, first: int, end: int) -> None:
-    """Judge the programmes of some seeds."""
+    """Judge the programmes of some seeds, and print the wrong verdicts."""
     BENCH.chosen = program
     case, wrong = RandomProgrammes(f"test_{GATE[0]:03}"), list[int]()
     case.setUp()

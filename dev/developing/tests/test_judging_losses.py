@@ -1,6 +1,4 @@
-"""A wrong page within a loss is never accepted:
-the pace reveals the loss, or a note says that none was measured.
-"""
+"""Test that a wrong page within lost packets is not accepted without a note."""
 from __future__ import annotations
 
 import unittest
@@ -18,19 +16,19 @@ from .transmissions import CLOSING, HEADER, Sent, write_programme, row_packet, s
 from .test_stream_pace import BEGIN, TIMES, filled
 
 WRONG = [HEADER, row_packet(22, b"Wrong"), CLOSING]
-AT = BEGIN + 300  # frame of the wrong page, within a subtitle that is repeated 25 frames later
-PLACE = AT - BEGIN  # its PES packet
+AT = BEGIN + 300  # frame of the wrong page, within a subtitle
+PLACE = AT - BEGIN  # index of the PES packet with the wrong page
 
 
 def large(data: bytes, count: int) -> bytes:
-    """Stuff a PES packet so that it takes some TS packets."""
+    """Add stuffing to a PES packet so that it fills `count` TS packets."""
     made = data + STUFFING_UNIT * (4 * count - len(data) // 46)
     return made[:4] + (len(made) - 6).to_bytes(2, "big") + made[6:]
 
 
 def lost(made: list[Packet], count: int, is_announced: bool = False, frame: int = AT
          ) -> list[Packet]:
-    """Delete TS packets of the PID from the wrong page on."""
+    """Delete `count` TS packets of the Teletext PID, beginning at the wrong page."""
     return with_loss(made, frame * TICKS, count, is_announced)
 
 
@@ -38,12 +36,12 @@ class HiddenPages(ProgrammeCase):
     due = TIMES
 
     def with_wrong(self, every: int = 25) -> Sent:
-        """Return a PES packet for each frame, one with a wrong page."""
+        """Return a transmission with a PES packet in each frame, one with a wrong page."""
         sent = filled(schedule_pages(self, self.stl, every=every))
         return [*sent[:PLACE], (sent[PLACE][0], WRONG), *sent[PLACE + 1:]]
 
     def multiplexed(self, sent: Sent, first: int, count: int, size: int) -> list[Packet]:
-        """Return a multiplex in which some PES packets take several TS packets."""
+        """Return a multiplex in which `count` PES packets have a size of `size` TS packets."""
         made = [make_pes_packet(pts, some) for pts, some in sent]
         made[first:first + count] = [large(one, size) for one in made[first:first + count]]
         return make_multiplex(made, Shape(400))
@@ -115,7 +113,7 @@ class HiddenPages(ProgrammeCase):
                                  "--breaks", "1")
         self.must("before a break", judged.word == "lost" and line in judged.told
                   and [one["judged"] for one in judged.result["losses"]] == [True], judged.said)
-        judged = self.judge_stream(lost(made, 5, True))  # one, and two thirds of the next
+        judged = self.judge_stream(lost(made, 5, True))  # one PES packet and two thirds of another
         self.must("five", judged.word == "refused" and
                   judged.result["line"] == "refused 45 Lost pes 300", judged.said)
         judged = self.judge_stream(lost(made, 6, True))
@@ -147,7 +145,7 @@ class HiddenPages(ProgrammeCase):
         sent = self.with_wrong(50)
         sent = [one for at, one in enumerate(sent) if at % 2 == 0 or one[1]]
         wrong = sent.index((AT * TICKS, WRONG))
-        frame = sent[wrong - 1][0] // TICKS + 1  # between two that stay
+        frame = sent[wrong - 1][0] // TICKS + 1  # between two PES packets
         sent[wrong:wrong + 1] = [(frame * TICKS, WRONG), (AT * TICKS, [])]
         made = self.multiplexed(sent, 0, 1 << 20, 3)
         note = "not checked for losses on PID 0x101 at 1 place where a jump of its counter is " \

@@ -1,6 +1,4 @@
-"""Pairs judged from the recording to the verdict:
-unreadable packets, losses, and the sentences about them.
-"""
+"""Test verdicts on pairs with unreadable packets or losses, and the sentences about them."""
 from __future__ import annotations
 
 from typing import Any, Sequence
@@ -27,7 +25,7 @@ from .test_judging_verdicts import verdict_of
 
 STORY, HELLO, ACCENT = example("story.stl"), example("hello.stl"), example("accent.stl")
 UNREAD = "nothing of the recording was read, and --severity makes all faults warnings"
-EVERY = ["--every", "40"]  # frames; two page transmissions in a row may be missing
+EVERY = ["--every", "40"]  # frames; allows the loss of two page transmissions
 BITS = {33: (6, 0xC0), 34: (7, 0x80), 35: (8, 1), 36: (13, 1), 37: (DATA - 1, 0x30),
         38: (DATA + UNIT + 1, 1), 39: (DATA + UNIT + 3, 1), 40: (DATA + UNIT + 2, 0x0F)}
 NAMES = {33: "Flags", 34: "NoTime", 35: "HeaderLength", 36: "Time", 37: "DataId",
@@ -35,7 +33,7 @@ NAMES = {33: "Flags", 34: "NoTime", 35: "HeaderLength", 36: "Time", 37: "DataId"
 
 
 def broken(packet: bytes, number: int) -> bytes:
-    """Damage a PES packet so that this number is reported."""
+    """Damage a PES packet so that `check` reports this fault number."""
     if number == 61:
         return packet[:9] + encode_pts(decode_pts(packet) + 90) + packet[14:]
     at, bits = BITS[number]
@@ -120,7 +118,7 @@ class UnreadablePackets(ProgrammeCase):
 
 class Steps(Case):
     def pair(self, *words: str, count: int = 0) -> PairJudge:
-        """Return a pair with judged parts."""
+        """Return the judge of a pair with `count` judged parts."""
         verdict, nothing = verdict_of([make_part(0, 9, 0, number=number)
                                        for number in range(1, count + 1)]), mock.Mock()
         verdict.request = request_for("one.stl", "one.pes", *words)
@@ -306,8 +304,8 @@ class Sentences(ProgrammeCase):
                 (one["text_offset"], one["byte"]) for one in found.result["faults"]] == [(0, "A3")],
                   found.result)
         data = bytearray(example_bytes("hello.pes"))
-        at = DATA + 4 + 2 + 7  # in the first PES packet: C11 to C14 of its first header
-        data[at:at + 1] = reverse_bits(b"\xd0")  # the code word of 8: C12 to C14 select German
+        at = DATA + 4 + 2 + 7  # offset of C11 to C14 in the first header of the file
+        data[at:at + 1] = reverse_bits(b"\xd0")  # code word of 8: German
         found = judge_files(self, HELLO, self.write("one.pes", data))
         words = "the header is German, but --option is english"
         self.must("header", found.result["hints"] == [f"67: {words}"] and found.said[-3::2] == [

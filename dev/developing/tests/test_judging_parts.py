@@ -1,4 +1,4 @@
-"""Recordings with several parts, and recordings judged with a tolerance."""
+"""Test recordings with several parts, and recordings judged with a tolerance."""
 from __future__ import annotations
 
 import random
@@ -42,8 +42,7 @@ class SeveralParts(ProgrammeCase):
 
     def judge_parts(self, shift_texts: tuple[int, ...], changes: dict[int, int], *words: str,
                     marks: Sequence[int] = ()) -> JudgedPair:
-        """Judge parts with shifted PTS, delayed subtitles, and gap markers before some PES packets.
-        """
+        """Judge a recording whose parts have shifted PTS, delayed subtitles and gap markers."""
         sent = self.sent
         for number, by in changes.items():
             sent = delay_subtitle(number, by)(sent)
@@ -207,7 +206,7 @@ def in_fields(sent: Sent) -> Sent:
 
 
 def in_fields_at_once(sent: Sent) -> Sent:
-    """Send header and rows apart, with the PTS of the frame."""
+    """Send the header and the rows in two PES packets with the same PTS."""
     return [one for pts, some in sent for one in ((pts, some[:1]), (pts, some[1:]))]
 
 
@@ -218,7 +217,7 @@ def with_late_rows(sent: Sent, by: int = 1) -> Sent:
 
 
 def in_three_frames(sent: Sent) -> Sent:
-    """Send the header and each of two rows in a frame of its own."""
+    """Send the header, the first row and the second row in three consecutive frames."""
     return [(pts + TICKS * number, part) for pts, some in sent for number, part in enumerate(
         [some] if len(some) == 2 else [some[:1], some[1:2], some[2:]])]
 
@@ -231,7 +230,7 @@ def with_jitter(sent: Sent) -> Sent:
 
 
 def under_load(sent: Sent) -> Sent:
-    """Delay each page transmission by up to two frames."""
+    """Delay each page transmission by zero to two frames."""
     chance = random.Random(2)
     return [(pts + TICKS * chance.randrange(3), some) for pts, some in sent]
 

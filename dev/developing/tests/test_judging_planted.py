@@ -1,8 +1,7 @@
-"""Which subtitle and fault a sentence names first.
+"""Test that the sentence on a refused programme names the fault planted in it.
 
-The gate plants a fault in 100 programmes. From dev/, `python3 -m
-developing.tests.test_judging_planted PROGRAM FIRST LAST` tries other seeds and prints each unnamed
-fault.
+From dev/, `python3 -m developing.tests.test_judging_planted PROGRAM FIRST LAST` tries the seeds
+FIRST to LAST - 1 and prints each fault that is not named.
 """
 from __future__ import annotations
 
@@ -17,12 +16,12 @@ from .streams import mpeg_2_picture, with_pictures
 from .planted import FIRST, Programme, plant_fault
 from .transmissions import Sent, pes_file, write_subtitle_file
 
-JPEG_2000 = 0x21  # stream_type of an unsupported video format
+JPEG_2000 = 0x21  # stream_type of a video format that is not supported
 ADVICE = ("--within", "--keeping", "--no-complete", "--allow-lost", "--severity", "--pace")
 
 
 def off_grid(sent: Sent, every: int, first: int, ticks: int) -> Sent:
-    """Move every n-th PES packet some ticks off its frame."""
+    """Shift the PTS of every n-th PES packet by ticks, beginning with packet `first`."""
     return [(pts + ticks * (at >= first and (at - first) % every == 0), some)
             for at, (pts, some) in enumerate(sent)]
 
@@ -115,11 +114,11 @@ class Advice(ProgrammeCase):
             self.check(f"{number}", [one for one in ADVICE if one in words and number != 79], [])
 
 
-COUNT, NAMED = 100, 95  # programmes in the gate, and how many faults must be named
+COUNT, NAMED = 100, 95  # programmes, and minimum number of faults that must be named
 
 
 def sentence_of(case: Case, made: Programme) -> str:
-    """Return the sentence on a programme, judged with its clock."""
+    """Judge a programme with --origin, and return the sentence about its verdict."""
     path = case.write("planted.pes", pes_file(made.sent()))
     return judge_files(case, made.stl, path, "--origin", "0",
                   *made.inserter.options()).verdict.sentence
@@ -138,7 +137,7 @@ class PlantedFaults(Case):
 
 
 def main(program: str, first: int, last: int) -> None:
-    """Plant faults; print those that are not named, and the counts."""
+    """Plant faults with the seeds; print each fault that is not named, and the counts."""
     BENCH.chosen = program
     case = PlantedFaults("test_names_at_least_95_of_100_planted_faults")
     counts = collections.Counter[str]()

@@ -1,4 +1,4 @@
-"""The reasons for which a pair is refused or not judged, and headers that keep the page."""
+"""Test the reported reasons for a verdict, and headers that keep the page."""
 from __future__ import annotations
 
 from typing import Sequence
@@ -33,11 +33,11 @@ from .transmissions import (
 
 
 WORDS = "--every", "100"
-OTHER_PAGE = make_packet(0, 0, [0, 0, 0, 8, 0, 0, 0, 0], b" " * 32)  # a header of page 800
+OTHER_PAGE = make_packet(0, 0, [0, 0, 0, 8, 0, 0, 0, 0], b" " * 32)  # header of page 800
 
 
 def changed(one: bytes, at: int, off: int, on: int) -> bytes:
-    """Clear and set bits of one number in a header of page 888; return other packets unchanged."""
+    """Clear and set bits in one number of a header of page 888; return other packets unchanged."""
     address = decode_address(one)
     numbers = decode_header(one) if address and address[1] == 0 else None
     if numbers is None or numbers[:2] != b"\x08\x08":
@@ -191,7 +191,7 @@ class Reasons(ProgrammeCase):
                          "the PCR; the counter shows 3 of them, 4 TS packets scrambled")
 
 
-NUMBERS = bytes([8, 8, 0, 8, 0, 8, 1, 0])  # of HEADER
+NUMBERS = bytes([8, 8, 0, 8, 0, 8, 1, 0])  # header numbers of HEADER
 KEEPS = bytes([8, 8, 0, 0, 0, 8, 1, 0])
 KEEPING_HEADER = make_packet(0, 0, KEEPS, b" " * 32)
 FIRST, SECOND = row_packet(20, b"One"), row_packet(22, b"Two")
@@ -199,14 +199,12 @@ CLEAR = "C4 (erase page) is clear"
 
 
 def of_subcode(header: bytes, digit: int) -> bytes:
-    """Return the header with another first digit of its subcode."""
+    """Return the header numbers with a new first digit of the subcode."""
     return header[:2] + bytes([digit]) + header[3:]
 
 
 def numbers(**places: int) -> bytes:
-    """Return the numbers of a header that keeps the page, some of them changed (`p5`:
-    the fifth).
-    """
+    """Return the numbers in a header that keeps the page; `p5=1` changes the number at index 5."""
     made = bytearray(KEEPS)
     for name, value in places.items():
         made[int(name[1:])] = value
@@ -302,7 +300,7 @@ class HeaderCounts(Case):
 
 
 def packets_at(frames: Sequence[tuple[int, list[bytes]]]) -> bytes:
-    """Return the PES packets of some frames."""
+    """Return a PES file with the Teletext packets of some frames."""
     return b"".join(make_pes_packet(TICKS * frame, some) for frame, some in frames)
 
 
@@ -311,18 +309,19 @@ ONE_LESS, BARE = [KEEPING_HEADER, FIRST, CLOSING], [KEEPING_HEADER, CLOSING]
 
 
 def frame_text(frame: int) -> str:
-    """Format a frame as in a fault line."""
+    """Format a frame number as in a fault line."""
     return f"frame {time_of(frame)}"
 
 
 class MissingRows(Case):
     def decode(self, *frames: tuple[int, list[bytes]], within: int = 0) -> tuple[Timeline, Rows]:
-        """Return the decoded pages, and the first page."""
+        """Decode the packets of some frames; return the timeline and the page at the first frame.
+        """
         found = decode_packets(self, packets_at(frames), within=within)
         return found, found.page_at(frames[0][0])
 
     def answer_at(self, frame: int, *before: str) -> CheckOutput:
-        """Return the answer of `check --all` if row 22 is refused at a frame."""
+        """Return an answer of `check --all` that refuses row 22 at a frame."""
         lines = [*before, f"refused 72 Content {frame_text(frame)} row 22 column 0"]
         return make_answer([*lines, f"{len(lines)} faults"], path=self.path("told"))
 
@@ -391,8 +390,8 @@ class MissingRows(Case):
 
 
 def with_keeping_repeats(sent: Sent, way: str = "", frames: int = 0) -> Sent:
-    """Use headers that keep the page for repeats:
-    completely, with a missing row, with another subcode, or with late rows.
+    """Send repeated pages with headers that keep the page; `way` removes the rows of the first
+    repetition or changes its subcode, and `frames` delays all repeated rows.
     """
     made: Sent = []
     before: list[bytes] = []

@@ -1,6 +1,4 @@
-"""Judged files of PES packets, transport streams and pipes:
-warnings, stored copies, missing and foreign data.
-"""
+"""Test recordings in PES files, transport streams and pipes, with missing or foreign data."""
 from __future__ import annotations
 
 import hashlib
@@ -62,7 +60,7 @@ class Recordings(Case):
     def test_warns_without_changing_the_status_unless_strict(self) -> None:
         pes = example_bytes("story.pes")
         french = self.write("french.stl", example_bytes("story.stl")[:14] + b"00" +
-                            example_bytes("story.stl")[16:])  # without a language
+                            example_bytes("story.stl")[16:])  # language code 00: unknown
         rows: list[tuple[str, bytes, int, list[str]]] = [
             (STORY, teletext_descriptor(), 0, []), (STORY, teletext_descriptor(), 90_000, []),
             (STORY, teletext_descriptor(), -1, ["pts_behind"]),
@@ -92,7 +90,7 @@ class Recordings(Case):
         pes = example_bytes("story.pes")
         stream = stream_of_pids((TELETEXT_PID, pes))
         later = make_pes_packet(decode_pts(packets(pes)[-1]) + 100 * TICKS,
-                                [HEADER] * 5)  # two TS packets
+                                [HEADER] * 5)  # fills two TS packets
         for data in (pes + later[:100], stream_of_pids((TELETEXT_PID, pes + later))[:-188], stream):
             found = judge_files(self, STORY, self.write("cut.rec", data), "--origin", "0")
             self.must("cut", found.word == "accepted" and [

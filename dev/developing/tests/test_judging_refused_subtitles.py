@@ -1,4 +1,4 @@
-"""The other subtitles are judged although some of a file are refused; also in very long inputs."""
+"""Test that correct subtitles are judged if others in their file are refused; test long inputs."""
 from __future__ import annotations
 
 import csv
@@ -46,7 +46,7 @@ PAGE = 0, 0x88
 
 
 def stl_of(blocks: Sequence[Shown], changes: dict[int, dict[int, int]] | None = None) -> bytes:
-    """Return a subtitle file in which some bytes of some blocks are changed."""
+    """Return a subtitle file; `changes` maps block numbers to bytes changed in the block."""
     made = []
     for number, (begin, end, text) in enumerate(blocks, 1):
         one = bytearray(make_tti_block(number, begin, end, 22, 2, text))
@@ -66,7 +66,7 @@ class RefusedSubtitles(Case):
         self.pes = self.write("one.pes", pes_file(self.sent))
 
     def write_stl(self, *bad: int) -> str:
-        """Write the subtitle file, with an unsupported character in some subtitles."""
+        """Write the subtitle file, with an unsupported character in the subtitles `bad`."""
         return self.write("bad.stl", stl_of([
             (begin, end, BAD if number in bad else text)
             for number, (begin, end, text) in enumerate(self.blocks, 1)]))
@@ -229,7 +229,7 @@ class RefusedSubtitles(Case):
             f"the other subtitles were not judged: {empty} is empty" in found.verdict.notes and
             " (block 3), the national option " in found.verdict.sentence, found.said)
         odd, mild = bytearray(self.read("good.stl")), self.write("severity", b"others warning\n")
-        odd[11:12] = b"7"  # with this DSC no subtitle of the file is judged
+        odd[11:12] = b"7"  # an invalid DSC refuses all subtitles
         rows: list[tuple[str, list[str], str]] = [
             (self.write_stl(3), [empty], "not judged"), (self.write_stl(3), [], "waived"),
             (self.write("odd.stl", bytes(odd)), [self.pes], "not judged"),
@@ -316,8 +316,8 @@ class ExpectedPages(unittest.TestCase):
 
 class RandomFiles(Case):
     def random_file(self, chance: random.Random) -> bytes:
-        """Return a few subtitles with overlapping, falling, empty or invalid times, and random
-        characters."""
+        """Return a file of up to eight subtitles with random characters and, in part, with
+        overlapping, decreasing or invalid times."""
         blocks: list[Shown] = []
         frame = chance.randrange(1, 1000)
         for number in range(chance.randrange(1, 9)):
@@ -373,11 +373,11 @@ class RandomFiles(Case):
         self.must("some", beside > 60, beside)
 
 
-# Inputs are read completely: a test of what no proof covers for long inputs.
+# Test that very long inputs are read to their end.
 
 NULL_PID, PID = 0x1FFF, 0x101
 NULL = make_head(NULL_PID, 0, PAYLOAD).ljust(PACKET, b"\xff")
-AT_ONCE, TIMES = 1000, 1001  # null packets: over a million in all, 188 MB
+AT_ONCE, TIMES = 1000, 1001  # null packets in one write, and writes: 188 MB
 
 
 class LongInputs(Case):

@@ -1,4 +1,4 @@
-"""The sentence about a verdict, and subtitles that viewers can't see."""
+"""Test the sentence about a verdict, and the detection of text that viewers can't see."""
 from __future__ import annotations
 
 import ctypes
@@ -36,7 +36,7 @@ from .test_formats_characters import ANY_SUBCODE, CHARACTER, LEVEL_1, Receiver, 
 from .test_judging_faults import cause, causes_of
 
 ADD = f"was not checked: {clock_advice(False)}"
-OF_PACKETS = {3, 4}  # refusals of `normal` that `check` does not have
+OF_PACKETS = {3, 4}  # fault numbers that `check` does not report
 VERB = re.compile(r"\b(is|are|has|have|was|were|does|ends|comes|begins?|differs|fall|appeared|"
                   r"lacks|had|do)\b")
 
@@ -146,13 +146,13 @@ class Sentences(unittest.TestCase):
 
 BEGIN = 900_000
 TIMES = [(BEGIN + 50 * at, BEGIN + 50 * at + 40) for at in range(6)]
-KEEPS = make_packet(0, 0, [8, 8, 0, 0, 0, 8, 1, 0], b" " * 32)  # a header that does not erase
+KEEPS = make_packet(0, 0, [8, 8, 0, 0, 0, 8, 1, 0], b" " * 32)  # header without erase_page
 CONTROL, CONTENT = "67 Control frame 10:00:01:00 packet 0", \
     "72 Content frame 10:00:04:00 row 22 column 14"
 
 
 def with_two_faults(sent: Sent) -> Sent:
-    """Let one repeat keep the page, and send a wrong text later."""
+    """Replace a header by a header that keeps the page, and send a wrong text later."""
     found = list(sent)
     found[1:2] = [(found[1][0], [KEEPS, *found[1][1][1:]])]
     at = next(number for number, (_, some) in enumerate(sent) if b"3" in joined_rows(some))
@@ -161,7 +161,7 @@ def with_two_faults(sent: Sent) -> Sent:
 
 
 def joined_rows(packets: list[bytes]) -> bytes:
-    """Return the text bytes of packets without parity."""
+    """Return the text of the second packet, without parity bits."""
     return b"".join(bytes(byte & 0x7F for byte in one[2:]) for one in packets[1:2])
 
 
@@ -253,7 +253,7 @@ class NamedPlaces(ProgrammeCase):
             return make_packet(0, 0, [8, 8, 0, c4, 0, c5, c7, option], b" " * 32)
 
         def even(letter: bytes) -> Callable[[bytes], bytes]:
-            """Packets in which the last such letter has a wrong bit."""
+            """Return a function that gives the last such letter in a packet even parity."""
             def changed(one: bytes) -> bytes:
                 at = bytes(byte & 0x7F for byte in one).rfind(letter, 2)
                 return one if at < 0 else one[:at] + bytes([one[at] ^ 0x80]) + one[at + 1:]
@@ -312,15 +312,15 @@ class EmptyRanges(ProgrammeCase):
 NO_BOX = 'no receiver shows "Hi", which is outside of a box'
 ALIKE = 'no receiver shows "Hi", which has the colour of its background'
 ONE = 'libzvbi does not show "Hi", which follows a single start box (0B); ffmpeg does'
-# Cells of a row, its visibility, and the message.
+# Cells of a row, its visibility, and the expected message.
 ROWS: tuple[tuple[bytes, Visibility, str], ...] = (
     (b"", Visibility.ALL, ""), (b"\x0b\x0b\x0a\x0a", Visibility.ALL, ""),  # no characters
     (b"\x0b\x0bHi\x0a\x0a", Visibility.ALL, ""), (b"\x0b\x0bHi", Visibility.ALL, ""),
-    (b"\x0b\x0b\x0aHi", Visibility.ALL, ""),  # one end box closes nothing
-    (b"\x0b\x0b\x03\x1d\x04Hi", Visibility.ALL, ""),  # blue on yellow
-    (b"\x0b\x0b\x1d\x1cHi", Visibility.ALL, ""),  # black again
-    (b"\x0b\x0b\x1d\x01Hi", Visibility.ALL, ""),  # red on white
-    (b"\x0b\x0b\x1d\x11HI\x07", Visibility.ALL, ""),  # mosaic red, in which these are letters
+    (b"\x0b\x0b\x0aHi", Visibility.ALL, ""),  # a single end box does not close the box
+    (b"\x0b\x0b\x03\x1d\x04Hi", Visibility.ALL, ""),  # blue text on yellow
+    (b"\x0b\x0b\x1d\x1cHi", Visibility.ALL, ""),  # white text on black
+    (b"\x0b\x0b\x1d\x01Hi", Visibility.ALL, ""),  # red text on white
+    (b"\x0b\x0b\x1d\x11HI\x07", Visibility.ALL, ""),  # red mosaics, which show capital letters
     (b"Hi\x0b", Visibility.NONE, NO_BOX), (b"Hi\x0b\x0b", Visibility.NONE, NO_BOX),
     (b"\x0b\x0b\x0a\x0aHi", Visibility.NONE, NO_BOX), (b"Hi", Visibility.NONE, NO_BOX),
     (b"\x0b\x0b\x1dHi", Visibility.NONE, ALIKE), (b"\x0b\x0b\x03\x1dHi", Visibility.NONE, ALIKE),
@@ -336,14 +336,14 @@ ROWS: tuple[tuple[bytes, Visibility, str], ...] = (
     (b"H\x0bi", Visibility.SOME,
      'no receiver shows "H", which is outside of a box; libzvbi does not show "i", which follows a '
      'single start box (0B); ffmpeg does'))
-HIDDEN, OPACITY_AT, INK_AT, PAPER_AT = 0, 2, 3, 4  # of a character of libzvbi
+HIDDEN, OPACITY_AT, INK_AT, PAPER_AT = 0, 2, 3, 4  # offsets in libzvbi's characters
 
 
 class DrawingReceiver(Receiver):
-    """libzvbi, and the characters that it shows."""
+    """A receiver that decodes pages with libzvbi and reads the characters drawn by it."""
 
     def letters(self, cells: bytes) -> str:
-        """Return the visible characters of a row."""
+        """Return the characters that libzvbi shows for the cells of a row."""
         text = self.row([HEADER, make_packet(0, 20, (), cells.ljust(40)), CLOSING], 20)
         page = ctypes.create_string_buffer(65536)
         self.library.vbi_fetch_vt_page(self.decoder, page, 0x888, ANY_SUBCODE, LEVEL_1, 25, 0)

@@ -1,4 +1,4 @@
-"""The verdict, the worst fault, and fault lines."""
+"""Test the verdict, the choice of the worst fault, and the parser of fault lines."""
 from __future__ import annotations
 
 import itertools
@@ -25,7 +25,7 @@ from subtitles.judging.status import (
 from .bench import Case
 from .parts import make_answer, make_part
 
-ERROR, WARNING, NUMBER = 72, 67, 38  # of faults; the file below makes the second a warning
+ERROR, WARNING, NUMBER = 72, 67, 38  # fault numbers; `NAMED` makes WARNING a warning
 ENDS_READING, LOST_PACKETS, SILENT = (30, 31, 32, 44), 45, 79
 RIGHT = {
     "accepted": CheckSummary(0, is_accepted=True),
@@ -64,7 +64,7 @@ WRONG = {
 LOSSES: Sequence[Sequence[bool]] = (
     (), (False,), (True,), (True, False, False), (False, True), (False, False, True), (True, True))
 OUTPUTS: Sequence[Sequence[str]] = ((), ("one.json: full",), ("one.csv: full", "one.xml: full"))
-# With a clock, without one, and with --relative, which has no effect with a clock.
+# With and without a clock and --relative.
 CLOCKS: Sequence[dict[str, Any]] = (
     {"has_clock": True}, {"has_clock": False},
     {"has_clock": False, "is_relative_allowed": True},
@@ -72,7 +72,7 @@ CLOCKS: Sequence[dict[str, Any]] = (
 
 
 def severity_of(*lines: str, is_loss_allowed: bool = False) -> Severity:
-    """Return the severities of a file."""
+    """Return the severities read from a severity file with these lines."""
     with tempfile.NamedTemporaryFile("w", suffix=".severity") as file:
         file.write("".join(f"{line}\n" for line in lines))
         file.flush()
@@ -80,7 +80,7 @@ def severity_of(*lines: str, is_loss_allowed: bool = False) -> Severity:
 
 
 def by_clock(word: str, clock: dict[str, Any]) -> tuple[str, int]:
-    """Return the verdict and status, given the verdict with a clock."""
+    """Return the expected verdict and status, from the verdict expected with a clock."""
     if clock["has_clock"] or word not in (ACCEPTED, WAIVED):
         return word, STATUSES[word]
     return RELATIVE, 0 if "is_relative_allowed" in clock else 3
@@ -113,7 +113,7 @@ class Decisions(unittest.TestCase):
 
     @staticmethod
     def expected_word(names: Sequence[str]) -> str:
-        """Return the expected verdict on such parts without losses."""
+        """Return the expected verdict on parts without losses, from the names of their answers."""
         if set(names) & WRONG.keys():
             return NOT_JUDGED
         if any(name.startswith("refused") for name in names):
@@ -157,8 +157,8 @@ class Decisions(unittest.TestCase):
 
     def check_decision(self, name: str, seen: Grounds, is_allowed: bool,
                        clock: dict[str, Any]) -> None:
-        """Check a decision; --allow-lost and a severity file that makes 45 a warning are
-        equivalent."""
+        """Check a verdict on parts with losses and warnings; `is_allowed` accepts losses by
+        --allow-lost or by a severity file that makes 45 a warning."""
         found, losses, warnings = decide(seen), seen.judged_losses, seen.warnings
         if name in ("refused", "silent"):
             wanted = REFUSED if name == "refused" else NOT_JUDGED
@@ -266,12 +266,12 @@ SILENT_LINE = "refused 79 Silent frame 10:00:01:00"
 ORDER, START = "refused 62 Order pes 3", "refused 31 Start pes 4"
 LETTER, UNDECIDED = "refused 50 Character block 1 at 4", "refused 78 Undecided frame 10:00:00:00"
 LATER = "refused 72 Content frame 10:00:05:00 row 1 column 3"
-OF_PACKETS = {3, 4, 76, 82}  # refusals that `check` does not have
+OF_PACKETS = {3, 4, 76, 82}  # fault numbers that `check` does not report
 SECOND = 25
 
 
 def answer_with(*lines: str, path: str) -> CheckOutput:
-    """Return an answer with these fault lines."""
+    """Return an answer of `check --all` with these fault lines."""
     return make_answer([*lines, f"{len(lines)} faults"], path=path)
 
 
@@ -284,7 +284,7 @@ class LeadingFaults(Case):
             rank = rank_number(number)
             if number in STL_FAULTS:
                 self.must(f"{number}", rank == Rank.FILE)
-            elif number in (63, 74):  # without a cause the recording is too short
+            elif number in (63, 74):  # the recording is too short, unless a cause is known
                 self.must(f"{number}", rank == Rank.UNSEEN)
             elif one.name.partition("</a>")[2].startswith("now"):
                 self.must(f"{number}", rank <= Rank.SOME, rank)

@@ -1,4 +1,4 @@
-"""Tables of decisions about a pair and its parts."""
+"""Test decisions about pairs and their parts with tables."""
 from __future__ import annotations
 
 import itertools
@@ -74,7 +74,7 @@ class PartClocks(unittest.TestCase):
         with mock.patch.object(timing, "find_range") as cut:
             for packets, inside, begin, is_continued in (
                     (None, (2, 8), 3, False), ((4, 5), (4, 5), 3, False), (None, (2, 8), 3, True),
-                    (None, (2, 8), 5, True)):  # the first subtitle is not that of the file
+                    (None, (2, 8), 5, True)):  # the part begins later than the file
                 part = programme.full_range._replace(packets=packets, begin=begin)
                 cut_packets(programme._replace(is_continued=is_continued), recording, part, 6)
                 self.assertEqual(cut.call_args.args, (
@@ -205,7 +205,7 @@ class FrameGrids(Case):
                 ([0, 0], 0), ([1, 0], 1), ([0, -1], 1), ([1799, 0], 1799), ([1800, 5], 1800),
                 ([1801], 1799), ([-1799, 3], 1799), ([], 0), ([7, -9, 8], 9)]
             for offs, most in of_offs:
-                for hours in (0, 1, 13, 14, 23):  # 2^32 ticks are 13 h 15 min
+                for hours in (0, 1, 13, 14, 23):  # 2^32 ticks last 13 h 15 min
                     several = [(origin + TICKS * (90_000 * hours + 5 + at) + off) % CLOCK
                                for at, off in enumerate(offs)]
                     self.assertEqual(find_largest_offset(several, origin), most, (offs, hours))
@@ -230,7 +230,7 @@ class FrameGrids(Case):
 
 
 def page_with(*rows: tuple[int, bytes]) -> tuple[bytes, ...]:
-    """Return a page with codes in some rows."""
+    """Return a blank page in which some rows have been replaced."""
     page = list(BLANK_PAGE)
     for number, text in rows:
         page[number - 1] = text.ljust(40)
@@ -306,7 +306,7 @@ class NamesOfFiles(Case):
                           "--pid", "0x101", "--origin", "7", "--within", "2", "--breaks", "1",
                           "--pes", "2-9", "--option", "german")
         whole = "tools/qc one.stl one.ts --page 150 --every 50 --option german --origin 7 " \
-            "--no-complete --pid 0x101 --breaks 1 --pes 2-9 --within 2"  # in the order of the table
+            "--no-complete --pid 0x101 --breaks 1 --pes 2-9 --within 2"  # in the table's order
         for more, wanted in (((), whole), (("--page", "P"), whole.replace(" --page 150", "")
                                            + " --page P"),
                              (("--origin", "T"), whole.replace(" --origin 7", "") + " --origin T"),
@@ -457,7 +457,7 @@ class RepeatIntervals(unittest.TestCase):
             self.assertEqual(repeat_distance(frames, edges), every, (frames, edges))
         with mock.patch.object(gaps, "sum", side_effect=sum, create=True) as summed:
             self.assertEqual(repeat_distance(range(1000), []), 1)
-        self.assertLess(summed.call_count, 3)  # not once for each page transmission
+        self.assertLess(summed.call_count, 3)  # fewer calls than page transmissions
         of_gaps: list[tuple[list[int], int]] = [([], 0), ([5], 0), ([5, 5], 0), ([9, 5, 30], 21)]
         for frames, gap in of_gaps:
             self.assertEqual(longest_gap(frames), gap, (frames, gap))

@@ -1,4 +1,4 @@
-"""Verdicts on one to three parts."""
+"""Test the verdicts on pairs with one to three parts."""
 from __future__ import annotations
 
 import dataclasses
@@ -35,17 +35,17 @@ OTHER = ("refused 38 UnitLength pes 7", "refused 70 Repeat frame 00:00:09:00", "
 
 
 def verdict_of(parts: Sequence[Part], severity: Severity | None = None) -> Verdict:
-    """Return a verdict on parts with a given clock."""
+    """Return a verdict on these parts, with the clock given by the user."""
     return Verdict(of_pair(), severity or Severity(None), "now", list(parts))
 
 
 def of_pair(*words: str) -> Request:
-    """Return a request with a clock."""
+    """Return the request for a pair, with --origin and more options."""
     return request_for("one.stl", "one.pes", "--origin", "0", *words)
 
 
 def loss_between(before: int | None, after: int | None, shift: int = 0, **more: Any) -> LossPlace:
-    """Return a loss between two frames."""
+    """Return a loss between two frames, with all PTS shifted by some ticks."""
     first, last = (None if one is None else (shift + TICKS * one) % CLOCK
                    for one in (before, after))
     return LossPlace(first, last, **more)
@@ -53,7 +53,7 @@ def loss_between(before: int | None, after: int | None, shift: int = 0, **more: 
 
 class Verdicts(Case):
     def three(self, *refused: int) -> list[Part]:
-        """Return three parts of a hundred frames each, some of them refused."""
+        """Return three parts of a hundred frames each; refuse the parts with these numbers."""
         return [make_part(100 * at, 100 * at + 99, 5, make_answer(REFUSED if at in refused else
                           ("accepted 10 frames 2 transmissions",)), at + 1) for at in range(3)]
 
@@ -294,7 +294,7 @@ class PartDecisions(Case):
             self.must(f"{count} {pes} {lines}", part.is_read() == wanted)
 
         lines = [f"refused {refused}", trusted, "1 faults"]
-        for first, last in ((900_000, 900_024), (900_000, 900_049)):  # of 50 that may be trusted
+        for first, last in ((900_000, 900_024), (900_000, 900_049)):  # of the 50 clean frames
             part = make_part(900_000, 900_050, 0, make_answer(lines), pes=(0, 1), places=[
                 loss_between(first - 1, last + 2, missing=9)])
             self.must(f"a hole from {first} to {last}", part.is_read() == (last < 900_049))

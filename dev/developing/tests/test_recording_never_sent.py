@@ -1,6 +1,4 @@
-"""A page that the PMT announces but that is never sent:
-refused, or not judged if it is unclear whether it was expected.
-"""
+"""Test recordings in which the PMT announces a page that is never sent."""
 from __future__ import annotations
 
 import itertools
@@ -31,7 +29,7 @@ ONE, TWO, THREE = 257, 258, 259
 
 
 def announcements(*lines: str) -> list[Announcement]:
-    """Return the announcements of the page in lines of `survey`."""
+    """Return the announcements of page 888 in lines of `survey`."""
     return [*find_announcements(read_survey(*lines).programmes, PAGE)]
 
 
@@ -40,7 +38,7 @@ def pcr_at(seconds: float | None) -> int | None:
 
 
 def pmt_lines(number: int, *pids: int, clock: int = 100, page: str = "888") -> list[str]:
-    """Return the lines of a PMT that announces a page."""
+    """Return lines of `survey` about a PMT that announces a page."""
     return [f"programme {number} {clock}", *(line for pid in pids for line in (
         f"stream {pid} 6", f"announce {pid} {page} 656e67 2"))]
 
@@ -105,7 +103,7 @@ class Announcements(Case):
                 ([*pmt_lines(1, ONE), *pmt_lines(2, ONE)], {ONE}, set())]
         for lines, carriers, wanted in rows:
             self.must(f"{lines} {carriers}", silent_pids(announcements(*lines), carriers) == wanted)
-            for pes in (None, (0, 9)):  # a range makes the programme clear
+            for pes in (None, (0, 9)):  # with a range the programme is unambiguous
                 found = self.why_unclear(lines, carriers, pes)
                 pids = [f"--pid 0x{pid:X}" for pid in sorted(carriers | wanted)]
                 self.must(f"{lines} {carriers} {pes}: refused", found == (
@@ -113,7 +111,7 @@ class Announcements(Case):
 
     def why_unclear(self, lines: list[str], carriers: set[int], pes: tuple[int, int] | None) \
             -> list[str] | None:
-        """Return the advice if several programmes announce a page and one never sends it."""
+        """Return the commands suggested if it is unclear which programme should send the page."""
         request = mock.Mock(page=PAGE, pes=pes)
         recording = mock.Mock(survey=read_survey(*lines), request=request, said=str)
         recording.suggest_call = lambda *words: " ".join(words)
@@ -140,7 +138,7 @@ class Announcements(Case):
     def test_refuses_a_page_that_is_sent_nowhere(self) -> None:
         clock = ["pcr 100 0", f"pcr 100 {60 * SECOND}"]
         sent, scrambled = f"pes {ONE} 0 1 {SECOND} 0 h/ 1 0", f"end {TWO} 0 0 9 9 0 0 -"
-        known = f"pes {TWO} 0 1 {SECOND} 0 -/ 1 0; end {TWO} 0 0 9 9 31 0 -"  # refused later
+        known = f"pes {TWO} 0 1 {SECOND} 0 -/ 1 0; end {TWO} 0 0 9 9 31 0 -"  # unreadable Teletext
         short = f"pcr 200 0; pcr 200 {SECOND}"
         start = [f"stream {THREE} 2", f"video {THREE} 0", f"picture {THREE} {90 * SECOND}"]
         rows: list[tuple[list[str], list[str], bool]] = [
@@ -190,7 +188,7 @@ class JudgedStreams(ProgrammeCase):
         return [(OLD, self.pes[at])]
 
     def bare(self, at: int) -> Sequence[tuple[int, bytes]]:
-        """Return a PES packet without the page on the new PID."""
+        """Return a PES packet without Teletext packets, with the new PID."""
         return [(NEW, make_pes_packet(decode_pts(self.pes[at]), []))]
 
     def check_never_sent(self, name: str, told: JudgedPair, words: str) -> None:
@@ -270,12 +268,12 @@ class DeadSources(ProgrammeCase):
     words = ("--every", "25")
 
     def blank(self, first: int = 0, last: int = 1 << 30) -> Sent:
-        """Return the transmission without the rows between two frames."""
+        """Return the transmission with the rows between two frames removed."""
         return [(pts, [some[0], some[-1]] if first <= pts // TICKS <= last and some else some)
                 for pts, some in self.sent]
 
     def without(self, last: int) -> Sent:
-        """Return the transmission with no Teletext packets up to a frame."""
+        """Return the transmission of headers, without Teletext packets up to a frame."""
         return [(pts, some if pts // TICKS > last else []) for pts, some in self.blank()]
 
     def test_refuses_headers_without_rows_if_a_subtitle_is_expected(self) -> None:

@@ -1,4 +1,4 @@
-"""How a recording is read: the chosen PID, the messages, the stored copy."""
+"""Test how a recording is read: the choice of its PID, the messages, the stored copy."""
 from __future__ import annotations
 
 import itertools
@@ -26,7 +26,7 @@ ONE, TWO, THREE = 257, 258, 259
 
 def read_recording(survey: Survey, *words: str, name: str = "one.ts", kind: int = stat.S_IFREG,
              folder: str = "") -> Any:
-    """Return a recording with these lines of `survey`."""
+    """Return a recording made from lines of `survey`."""
     lines = list[str]()
     listener: Any = SimpleNamespace(lines=lines, print_line=lines.append,
                                     add_selection=lambda one: lines.append(one.line))
@@ -39,12 +39,12 @@ def read_recording(survey: Survey, *words: str, name: str = "one.ts", kind: int 
 
 
 def pes_line(pid: int, does: str = "heob", number: int = 0, pts: int = SECOND) -> str:
-    """Return the line of a PES packet."""
+    """Return a line of `survey` about a PES packet."""
     return f"pes {pid} {number} 1 {pts} 0 {does}/{'0' * ('h' in does)} 1 0"
 
 
 def pmt_lines(number: int, pid: int) -> list[str]:
-    """Return the lines of a PMT that announces the page, and of a minute of PCR."""
+    """Return lines of `survey` about a PMT that announces page 888, and PCRs of a minute."""
     return ["pcr 100 0", f"programme {number} 100", f"stream {pid} 6",
             f"announce {pid} 888 656e67 2", f"pcr 100 {60 * SECOND}"]
 
@@ -125,7 +125,7 @@ class ChosenPids(Case):
 
 class Messages(Case):
     def check_lines(self, lines: Sequence[str], wanted: Sequence[str]) -> None:
-        """Check that each line contains its expected text."""
+        """Check that each line contains the expected text for it."""
         self.assertEqual(len(lines), len(wanted), (lines, wanted))
         self.assertTrue(all(map(str.__contains__, lines, wanted)), (lines, wanted))
 
