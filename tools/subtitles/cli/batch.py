@@ -32,18 +32,17 @@ from .single import (
     judge_and_report, refuse_folder_files, refuse_pair_files, remove_results)
 
 
-# Each pair is judged in a forked process, since loading the modules takes ten times as long as
-# judging a small pair. If a process crashes or hangs, only its own pair is not judged.
+# A forked process judges each pair, since loading the modules takes ten times as long as judging a
+# small pair. If the process crashes or hangs, only its pair is not judged.
 
-PRELOADED = page  # loaded before the forks: each process may draw a report
+PRELOADED = page  # loaded before forking, since each process may write a report
 INPUT, OUTPUT, ERRORS = range(3)
 FILES = "/proc/self/fd"  # the open files of this process
 
 
 def judge_forked_pair(request: Request, call: PairOptions) -> int:
-    """Judge a pair in a forked process and return the exit status. On an error, write the reason
-    to the JSON result. A file that was replaced by a pipe is refused: reading it might never end.
-    """
+    """Judge a pair in a forked process and return the exit status. After an error, write the reason
+    to the JSON result. A pipe is refused, since reading it might never end."""
     def judge(_: Sequence[str]) -> int:
         try:
             if reason := find_path_problem(request.stl) or \
@@ -59,13 +58,13 @@ def judge_forked_pair(request: Request, call: PairOptions) -> int:
 
 
 class ForkedProcess:
-    """A forked process that calls a function and exits with its status. It has no standard input
-    and output; its lines on standard error can be read when it has ended."""
+    """A forked process that calls a function and exits with its result as the status. It has no
+    standard input and output; its lines on standard error can be read when it has ended."""
 
     def __init__(self, function: Callable[[], int]) -> None:
-        # A file in memory, since the disk may be full.
+        # The error messages are in a file in memory, since the disk may be full.
         self.errors = open(os.memfd_create("errors"), "w+b", buffering=0)
-        # The process keeps it open until it ends; its children do not inherit it.
+        # This pipe is open until the process ends; its children do not inherit it.
         self.alive_pipe, alive = os.pipe()
         with hold_signals():
             try:
@@ -80,30 +79,30 @@ class ForkedProcess:
             os.close(alive)
 
     def fileno(self) -> int:
-        """Return the pipe that is closed when the process ends, for `select`."""
+        """Return the descriptor of a pipe that closes when the process ends, for `select`."""
         return self.alive_pipe
 
     def stop(self) -> None:
-        """Stop with SIGTERM."""
+        """Send SIGTERM to the process."""
         with contextlib.suppress(ProcessLookupError):
             os.kill(self.pid, signal.SIGTERM)
 
     def kill(self) -> None:
         """Kill the process and its children."""
-        for kill in (os.killpg, os.kill):  # it may have no group of its own yet
+        for kill in (os.killpg, os.kill):  # the process may not be a group leader yet
             with contextlib.suppress(ProcessLookupError):
                 kill(self.pid, signal.SIGKILL)
 
     def cpu_seconds(self) -> float:
-        """Return the CPU time in seconds of the process and its children."""
+        """Return the CPU time of the process and its children in seconds."""
         with contextlib.suppress(OSError):
             with open(f"/proc/{self.pid}/task/{self.pid}/children", encoding="ascii") as file:
                 return sum(map(cpu_seconds_of, [str(self.pid), *file.read().split()]))
         return cpu_seconds_of(str(self.pid))
 
     def wait(self) -> tuple[int, list[str]]:
-        """Wait for the end of the process; return its status, negative for a signal, and its lines
-        on standard error."""
+        """Wait for the end of the process; return its exit status, negative for a signal, and its
+        lines on standard error."""
         _, status = os.waitpid(self.pid, 0)
         os.close(self.alive_pipe)
         with self.errors:
@@ -113,11 +112,11 @@ class ForkedProcess:
 
 
 def cpu_seconds_of(process: str) -> float:
-    """Return the CPU time in seconds of a process and of its children that have ended; 0 if the
-    process does not exist."""
+    """Return the CPU time in seconds used by a process and by its ended children; 0 if the process
+    does not exist."""
     try:
         with open(f"/proc/{process}/stat", encoding="utf-8", errors="replace") as file:
-            times = file.read().rpartition(")")[2].split()[11:15]  # after its name in brackets
+            times = file.read().rpartition(")")[2].split()[11:15]  # the values after its name
     except OSError:
         return 0.0
     return sum(map(int, times)) / os.sysconf("SC_CLK_TCK")
@@ -125,7 +124,7 @@ def cpu_seconds_of(process: str) -> float:
 
 @contextlib.contextmanager
 def hold_signals() -> Iterator[None]:
-    """Block the signals that end this call until the `with` block is complete."""
+    """Block the signals that stop qc until the `with` block is complete."""
     before = signal.pthread_sigmask(signal.SIG_BLOCK, SIGNALS)
     try:
         yield
@@ -134,12 +133,12 @@ def hold_signals() -> Iterator[None]:
 
 
 def run_and_exit(function: Callable[[], int], errors_file: int, alive: int) -> NoReturn:
-    """Make this forked process independent, run the function and exit, without the parent's
-    cleanup."""
+    """Make this forked process independent, run the function and exit, without the cleanup of the
+    parent process."""
     status = 2
     try:
         try:
-            gc.freeze()  # the collector leaves the parent's objects, so their pages stay shared
+            gc.freeze()  # keep garbage collection from copying the parent's memory
             os.setsid()
             redirect_files(errors_file, alive)
             handle_signals()
@@ -166,30 +165,30 @@ def redirect_files(errors_file: int, alive: int) -> None:
 
 
 def wait_for_any(calls: Collection[ForkedProcess], seconds: float) -> list[ForkedProcess]:
-    """Wait until a process ends, but at most some seconds; return the ended processes."""
+    """Wait at most some seconds until any process ends; return the ended processes."""
     calls_by_file, poll = {call.fileno(): call for call in calls}, select.poll()
     for file in calls_by_file:
         poll.register(file, select.POLLIN)
     return [calls_by_file[file] for file, _ in poll.poll(1000 * seconds)]
 
 
-# Judging many pairs at the same time, by default one for each processor.
+# Judging several pairs at the same time; by default, as many as there are processors
 
 POLL_SECONDS = 0.2
-# Default CPU time limit of a pair: a small file can take hours, too.
+# Default CPU time limit of a pair. Even a small file can take hours.
 LEAST_SECONDS, BYTES_PER_SECOND = 60, 10_000_000
-GRACE_SECONDS = 10  # from SIGTERM to SIGKILL, in which a process may write its result
+GRACE_SECONDS = 10  # seconds from SIGTERM to SIGKILL, so that a process can write its result
 
 
 def default_limit(files: Mapping[str, Any]) -> int:
-    """Return the CPU time limit of a pair in seconds, from the sizes of its files. It is not set
-    by RLIMIT_CPU, which would not show which limit ended a program."""
+    """Return the CPU time limit of a pair in seconds, from the sizes of its files. RLIMIT_CPU is
+    not used, since it would not show which limit ended a program."""
     size: int = sum(about["size"] for about in files.values() if about)
     return LEAST_SECONDS + size // BYTES_PER_SECOND
 
 
 class RunningPair(NamedTuple):
-    """A pair that is being judged, its CPU time limit in seconds, and the lock of its results."""
+    """A pair that is being judged, with its CPU time limit in seconds, and its lock."""
 
     item: BatchItem
     limit: int
@@ -197,30 +196,30 @@ class RunningPair(NamedTuple):
 
 
 class PairRunner:
-    """Runs the processes that judge pairs. Each process writes the JSON result of its pair into
-    `out` or, without an output folder, into the temporary `folder`."""
+    """Runs the processes that judge pairs. Each process writes the JSON result of its pair into the
+    folder `out`, or without an output folder into the temporary folder `folder`."""
 
     def __init__(self, command_paths: CommandPaths, folder: str, out: str | None, is_kept: bool,
                  limit: int | None = None) -> None:
         self.command_paths, self.folder = command_paths, folder
         self.out, self.is_kept = out, is_kept
-        self.limit = limit  # CPU seconds; `None`: the default limit
+        self.limit = limit  # CPU seconds per pair, or `None` for the default limit
         self.parts = PartFiles(out) if out is not None else None
         self.running: dict[ForkedProcess, RunningPair] = {}
         self.over_limit: set[ForkedProcess] = set()
-        self.inputs = NO_INPUTS  # of all pairs
-        self.unwritten_results: dict[str, dict[str, Any]] = {}  # results that are in no file
-        self.in_use: set[str] = set()  # pairs whose files another run of qc was writing
+        self.inputs = NO_INPUTS  # inputs of all pairs
+        self.unwritten_results: dict[str, dict[str, Any]] = {}  # could not be written
+        self.in_use: set[str] = set()  # names of pairs whose files another run of qc was writing
         self.is_stopped = False
-        describe_program(command_paths.program_path)  # so that forked processes have its checksum
+        describe_program(command_paths.program_path)  # caches the checksum for forked processes
 
     def result_path(self, item: BatchItem) -> str:
-        """Return the path of a pair's JSON result."""
+        """Return the path of the JSON result for a pair."""
         return os.path.join(self.out or self.folder, item.name + ENDING)
 
     def start(self, item: BatchItem) -> Row | None:
-        """Start judging a pair. Return its row at once if it can't be judged: its results would
-        replace inputs or foreign files, or another run of qc writes them."""
+        """Start to judge a pair. Return its row at once if the pair can't be judged: its results
+        would replace input files or foreign files, or another run of qc is writing them."""
         self.unwritten_results.pop(item.name, None)
         self.in_use.discard(item.name)
         claim = contextlib.ExitStack()
@@ -236,10 +235,10 @@ class PairRunner:
             self.unwritten_results[item.name] = result
             return make_row(result, item.name)
         finally:
-            claim.close()  # does nothing if the process has taken the lock over
+            claim.close()  # no effect if the process has taken over the lock
 
     def start_claimed(self, item: BatchItem, claim: contextlib.ExitStack) -> Row | None:
-        """Start judging a pair whose results are locked."""
+        """Start to judge a pair after its results were locked."""
         if self.out is not None:
             remove_results(self.out, item.name, self.parts)
         if item.request is None:
@@ -258,8 +257,7 @@ class PairRunner:
         return None
 
     def finished_rows(self, seconds: float) -> Iterator[Row]:
-        """Wait at most some seconds until a process ends; yield the rows of pairs that have ended.
-        """
+        """Wait at most some seconds until a process ends; yield the rows of the pairs judged."""
         for call in wait_for_any(self.running, seconds):
             yield self.finish(call)
         for call, begun in self.running.items():
@@ -269,7 +267,7 @@ class PairRunner:
                 (call.kill if more >= GRACE_SECONDS else call.stop)()
 
     def finish(self, call: ForkedProcess) -> Row:
-        """Read the result of an ended process; return the row of its pair."""
+        """Read the result of an ended process, and return the row of its pair."""
         item, limit, claim = self.running.pop(call)
         is_over = call in self.over_limit
         self.over_limit.discard(call)
@@ -286,7 +284,7 @@ class PairRunner:
             claim.close()
 
     def record_unjudged(self, item: BatchItem, reason: str) -> Row:
-        """Write the JSON result of a pair that was not judged, if possible, and return its row."""
+        """Write a JSON result `not judged` for a pair, if possible, and return its row."""
         result = make_unjudged(item.name, reason)
         try:
             if not self.is_stopped:
@@ -297,25 +295,25 @@ class PairRunner:
         return make_row(result, item.name)
 
     def stop(self) -> None:
-        """Stop all running processes; their pairs have no result."""
+        """Stop all running processes, whose pairs then have no result."""
         self.is_stopped = True
         for call in self.running:
             call.stop()
         while self.running:
             call, begun = next(iter(self.running.items()))
-            if not self.finish(call).is_judged:  # else it ended by itself
+            if not self.finish(call).is_judged:  # not ended by itself
                 with contextlib.suppress(OSError):
                     os.unlink(self.result_path(begun.item))
 
 
 def judge_batch(args: argparse.Namespace, program_name: str) -> int:
-    """Judge all pairs; return the exit status."""
+    """Judge all pairs in a folder or list; return the exit status."""
     command_paths = CommandPaths(program_name, args.program)
     if args.is_resumed and args.out is None:
         raise Stop("--resume needs -o, the folder with the results of an earlier call")
     if args.line is None:
         items, more, folder_of_all = read_pairs(args.batch, args), list[str](), args.out
-    else:  # other runs judge the other lines, so no page over all pairs is written
+    else:  # other runs of qc judge the other lines, so no page over all pairs is written
         item, more = read_line_pair(args.batch, args.line, args)
         items, folder_of_all = [item], None
     inputs = collect_inputs(items, args.batch, *more)
@@ -338,7 +336,7 @@ def judge_batch(args: argparse.Namespace, program_name: str) -> int:
 
 
 def resumed_rows(calls: PairRunner, items: list[BatchItem]) -> dict[str, Row]:
-    """Return the rows of pairs whose earlier results are up to date."""
+    """Return the rows of the pairs whose earlier results are up to date."""
     program, rows = describe_program(calls.command_paths.program_path), {}
     for item in items:
         path = calls.result_path(item)
@@ -349,15 +347,15 @@ def resumed_rows(calls: PairRunner, items: list[BatchItem]) -> dict[str, Row]:
 
 
 def is_reusable(result: dict[str, Any] | None, item: BatchItem, program: ProgramInfo) -> bool:
-    """Return whether an earlier result of a pair is up to date."""
+    """Return whether the earlier result of a pair is up to date."""
     return result is not None and item.request is not None and result["verdict"] != NOT_JUDGED \
         and is_current(result, item.request, program)
 
 
 def judge_all(calls: PairRunner, items: list[BatchItem], kept: dict[str, Row], jobs: int,
              handle_row: Callable[[Row], None] = lambda row: None) -> dict[str, Row]:
-    """Judge pairs, show the progress, and return their rows. `handle_row` is called with each row.
-    After a signal, return the rows of the pairs that were judged before."""
+    """Judge pairs, show the progress, and return the rows of the pairs. `handle_row` is called with
+    each row. After a signal, return the rows of the pairs judged so far."""
     progress, began, rows = Progress(), time.monotonic(), dict(kept)
     waiting = collections.deque(item for item in items if item.name not in kept)
     try:
@@ -369,7 +367,7 @@ def judge_all(calls: PairRunner, items: list[BatchItem], kept: dict[str, Row], j
             progress.show(lambda: collection.format_progress(rows, len(items), len(kept), began))
     except BaseException as reason:
         if isinstance(reason, KeyboardInterrupt):
-            ignore_signals()  # so that the known results can be written
+            ignore_signals()  # so that the results can be written
         for row in calls.finished_rows(0.0):
             rows[row.name] = row
             handle_row(row)
@@ -382,7 +380,7 @@ def judge_all(calls: PairRunner, items: list[BatchItem], kept: dict[str, Row], j
 
 def judge_next(calls: PairRunner, waiting: collections.deque[BatchItem],
                jobs: int) -> Iterator[Row]:
-    """Start waiting pairs, up to `jobs` at a time; yield the rows of pairs that have ended."""
+    """Start waiting pairs, up to `jobs` at a time; yield the rows of the pairs that have ended."""
     while waiting and len(calls.running) < jobs:
         row = calls.start(waiting.popleft())
         if row:
@@ -393,8 +391,8 @@ def judge_next(calls: PairRunner, waiting: collections.deque[BatchItem],
 # A watched folder is judged like a batch that is resumed repeatedly. A pair is judged when both of
 # its files are complete.
 
-SCAN_SECONDS = 1.0  # polling, since writes by other machines send no notification
-DONE_SUFFIX = ".done"  # a file PAIR.done marks both files of a pair as complete
+SCAN_SECONDS = 1.0  # seconds; notifications would miss files written by other machines
+DONE_SUFFIX = ".done"  # suffix of a file that marks both files of a pair as complete
 
 
 class Sighting(NamedTuple):
@@ -405,8 +403,8 @@ class Sighting(NamedTuple):
 
 
 class FolderWatch:
-    """Finds complete pairs in a folder. `handled` has the file state of each pair that was judged
-    or reported."""
+    """Finds complete pairs in a folder. `handled` has the file states of the pairs that were
+    already judged or reported."""
 
     def __init__(self, folder: str, settled: int) -> None:
         self.folder, self.settled = folder, settled
@@ -414,7 +412,7 @@ class FolderWatch:
         self.handled: dict[str, object] = {}
 
     def ready_items(self, items: Iterable[BatchItem]) -> list[BatchItem]:
-        """Return the complete pairs that are new or changed; report once what is not a pair."""
+        """Return the complete pairs that are new or changed; report once if files are no pair."""
         now, ready = time.monotonic(), []
         for item in items:
             file_state = describe_inputs(item.request) if item.request else item.reason
@@ -441,7 +439,7 @@ class FolderWatch:
 
 
 def refuse_folders(args: argparse.Namespace) -> None:
-    """Raise `Stop` unless both folders exist and are different."""
+    """Raise `Stop` unless the watched folder and the output folder exist and are different."""
     if args.out is None:
         raise Stop("--watch needs -o, the folder for results and reports")
     if not os.path.isdir(args.watch):
@@ -453,8 +451,8 @@ def refuse_folders(args: argparse.Namespace) -> None:
 
 
 def watch(args: argparse.Namespace, program_name: str) -> int:
-    """Judge pairs as they arrive, until a signal; return status 2. Pairs that were being judged
-    then have no result, and are judged after a restart."""
+    """Judge pairs as they arrive, until a signal; return status 2. Pairs that were being judged at
+    the signal have no result, and are judged after a restart."""
     refuse_folders(args)
     command_paths = CommandPaths(program_name, args.program)
     calls = PairRunner(command_paths, args.out, args.out, args.is_kept, args.limit)
@@ -463,7 +461,7 @@ def watch(args: argparse.Namespace, program_name: str) -> int:
     results = collection.FolderRows(args.out)
 
     def handle_row(row: Row) -> None:
-        if row.name in calls.in_use:  # it is tried again at the next scan, but reported once
+        if row.name in calls.in_use:  # reported once, and judged in a later scan
             watching.handled.pop(row.name, None)
             if results.rows.get(row.name) == row:
                 return

@@ -1,4 +1,4 @@
-"""Combine many results into a table, a page, and JSON, CSV and JUnit files."""
+"""Combine the results of many pairs into a table, a page, and JSON, CSV and JUnit files."""
 from __future__ import annotations
 
 import argparse
@@ -24,7 +24,7 @@ from ..results.schema import FORMAT
 from .single import now, refuse_folder_files
 
 
-# The page with all pairs of a folder, worst first.
+# The HTML page with all pairs of a folder, worst verdict first
 
 STYLE = Markup("""<style>
 :root { --ground: #fff; --words: #1b1e23; --soft: #545c66; --line: #c3c9d1; --shade: #f1f3f6;
@@ -93,7 +93,7 @@ def make_index_page(folder: str, rows: Sequence[Row], date: str) -> bytes:
 
 
 def make_cause_totals(rows: Sequence[Row]) -> Markup:
-    """Return the paragraph that counts the subtitles or faults, and the pairs, with each cause."""
+    """Return a paragraph with the number of subtitles or faults, and of pairs, for each cause."""
     causes, pairs = collections.Counter[str](), collections.Counter[str]()
     for row in rows:
         causes.update(row.causes)
@@ -104,14 +104,14 @@ def make_cause_totals(rows: Sequence[Row]) -> Markup:
 
 
 def sort_key(row: Row) -> tuple[int, str]:
-    """Return the key that sorts refused pairs first, then those not judged, then waived and
+    """Return a key that sorts refused pairs first, then pairs that were not judged, then waived and
     relative pairs, then accepted pairs."""
     ranks = {NOT_JUDGED: 1, WAIVED: 2, RELATIVE: 2, ACCEPTED: 3}
     return ranks.get(row.verdict, 0), row.name
 
 
 def make_pair_row(folder: str, row: Row) -> Markup:
-    """Return the table row of a pair."""
+    """Return the HTML table row of a pair."""
     causes = list(row.causes.items())
     fault_lines = [markup("<b>{}</b>", counted(row.faults, "fault"))] if row.faults else []
     fault_lines += [markup("<small>{} &times; {}</small>", count, cause)
@@ -132,7 +132,7 @@ def make_pair_row(folder: str, row: Row) -> Markup:
 
 
 def make_file_links(folder: str, name: str) -> Markup:
-    """Return links to the list and the JSON result of a pair."""
+    """Return links to the fault list and the JSON result of a pair."""
     links = []
     for ending, word in ((".txt", "list"), (ENDING, "JSON")):
         if os.path.isfile(os.path.join(folder, name + ending)):
@@ -140,7 +140,7 @@ def make_file_links(folder: str, name: str) -> Markup:
     return join_markup(links, " ")
 
 
-# The table, and the JSON, CSV and JUnit files.
+# The table, and the JSON, CSV and JUnit files
 
 ResultSource = Union[str, dict[str, Any]]  # the path of a JSON result, or the result itself
 TABLE_HEADS = ("pair", "verdict", "faults", "worst fault")
@@ -195,17 +195,17 @@ def write_collection(args: argparse.Namespace, rows: Sequence[Row], sources: Seq
         for line in format_summary(rows, note) if rows else ():
             print(escape_hidden(line), file=out)
         out.flush()
-    except BrokenPipeError:  # the reader has closed the pipe
+    except BrokenPipeError:  # the reading process has closed the pipe
         discard_output(out)
     return status()
 
 
-PAIRS_PER_SECOND = 1000  # limits how often the page of a watched folder is written
+PAIRS_PER_SECOND = 1000  # limits how often the page of a watched folder is rewritten
 
 
 class FolderRows:
     """The rows of the results in a folder. `identities` has the members of each result that show
-    whether it is up to date."""
+    whether the result is up to date."""
 
     IDENTITY_KEYS = "request", "files_at_start", "program", "verdict"
 
@@ -221,7 +221,7 @@ class FolderRows:
                                          if key in result}
 
     def add(self, row: Row) -> None:
-        """Print a verdict, and keep its row for the page."""
+        """Print the verdict on a pair, and keep its row for the page."""
         self.rows[row.name], self.is_page_old = row, True
         line = worst_fault(row)
         when = time.strftime("%Y-%m-%d %H:%M:%S")
@@ -229,8 +229,8 @@ class FolderRows:
         self.write_page()
 
     def write_page(self, is_last: bool = False) -> None:
-        """Write the page if there is a new verdict. Unless `is_last`, wait one second for each
-        thousand pairs between writes, since a longer page takes longer to write."""
+        """Write the page if there is a new verdict. Unless `is_last`, wait one second per thousand
+        pairs between writes, since a longer page takes longer to write."""
         if not self.is_page_old or not is_last and time.monotonic() < self.next_page:
             return
         try:
@@ -253,7 +253,7 @@ def refuse_output_names(args: argparse.Namespace, inputs: Inputs = NO_INPUTS,
 
 
 def write_index(folder: str | None, rows: Sequence[Row]) -> None:
-    """Write the page with all pairs of a folder, unless the folder is `None`."""
+    """Write the page with all pairs of a folder; do nothing if the folder is `None`."""
     if folder is None:
         return
     with open_result(index_path(folder)) as file:
@@ -261,8 +261,8 @@ def write_index(folder: str | None, rows: Sequence[Row]) -> None:
 
 
 def format_summary(rows: Sequence[Row], note: str = "") -> Iterator[str]:
-    """Yield the lines of a table of pairs, and a line with the number of each verdict; `note`
-    explains the status if the verdicts do not."""
+    """Yield the lines of a table of pairs, and a line with the number of pairs by verdict. `note`
+    explains the exit status if the verdicts do not."""
     lines = [TABLE_HEADS, *((row.name, row.verdict, str(row.faults) if row.is_judged else "",
                             worst_fault(row)) for row in rows)]
     widths = [max(len(line[column]) for line in lines) for column in range(3)]
@@ -275,7 +275,7 @@ def format_summary(rows: Sequence[Row], note: str = "") -> Iterator[str]:
 
 
 def format_progress(rows: dict[str, Row], count: int, kept: int, began: float) -> str:
-    """Return the progress line: how many pairs have each verdict, and the estimated time left."""
+    """Return the progress line: the number of pairs by verdict, and the estimated time left."""
     verdicts = [row.verdict for row in rows.values()]
     good_counts = [f"{verdicts.count(word)} {word}, " for word in (ACCEPTED, WAIVED, RELATIVE)
             if word in verdicts or word == ACCEPTED]
@@ -291,8 +291,7 @@ def format_progress(rows: dict[str, Row], count: int, kept: int, began: float) -
 
 
 def worst_fault(row: Row) -> str:
-    """Return the worst fault of a pair with its hint, or why the pair was not judged, in one line.
-    """
+    """Return in one line the worst fault of a pair and its hint, or why the pair was not judged."""
     if row.verdict == ACCEPTED or not row.line:
         return ""
     if row.verdict == RELATIVE and not row.faults:
@@ -314,7 +313,7 @@ def json_chunks(sources: Sequence[ResultSource], status: int, date: str) -> Iter
 
 
 def load_result(source: ResultSource) -> dict[str, Any]:
-    """Return the JSON result of a pair; not judged if its file was deleted."""
+    """Return the JSON result of a pair; the result is `not judged` if its file was deleted."""
     if isinstance(source, dict):
         return source
     name = os.path.basename(source).removesuffix(ENDING)
@@ -323,7 +322,7 @@ def load_result(source: ResultSource) -> dict[str, Any]:
 
 
 def load_for_csv(source: ResultSource) -> dict[str, Any]:
-    """Return the JSON result of a pair, and report if it omits faults."""
+    """Return the JSON result of a pair, and print a message if the result omits faults."""
     result = load_result(source)
     omitted_count = result["omitted"]["faults"] if "request" in result else 0
     if omitted_count:
@@ -332,7 +331,7 @@ def load_for_csv(source: ResultSource) -> dict[str, Any]:
 
 
 def junit_chunks(rows: Sequence[Row], date: str) -> Iterator[bytes]:
-    """Yield a JUnit file with a test case for each pair."""
+    """Yield the JUnit file with a test case for each pair."""
     yield junit_file([
         TestCase(row.title, row.verdict, row.status, row.line, row.lines, row.seconds,
                         row.counts, row.sentence) for row in rows], date)

@@ -1,4 +1,4 @@
-"""The command line of qc, and the options of each mode."""
+"""The command line of qc, and the options that each mode accepts."""
 from __future__ import annotations
 
 import argparse
@@ -16,14 +16,14 @@ from ..request.request import (
 from ..results import files
 
 
-# Options that are not about a single pair, and the modes that take each option.
+# The options that apply to more than one pair, and the modes that accept each of them
 
 CALLS = (PAIR, ALONE, BATCH, WATCH)
 OUTPUT_MODES = (PAIR, ALONE, BATCH, COLLECT)
 
 
 def make_number_parser(what: str, least: int, most: int) -> Callable[[str], int]:
-    """Return a parser for a number within bounds."""
+    """Return a parser for numbers from a minimum to a maximum."""
 
     def parse_number(text: str) -> int:
         is_number = text.isascii() and text.isdecimal() and len(text) <= len(str(most))
@@ -75,7 +75,7 @@ OPTION_MODES = {one.name: one.modes for one in (*OPTIONS, *CALL_OPTIONS)}
 
 
 def find_mode(args: argparse.Namespace) -> Mode:
-    """Return the mode of a command line; raise `Stop` if it has two modes."""
+    """Return the mode of a command line; raise `Stop` if there are two modes."""
     values = {BATCH: args.batch, COLLECT: args.collect, WATCH: args.watch,
              MEASURE: args.measure}
     given = [mode for mode, value in values.items() if value is not None]
@@ -88,19 +88,19 @@ def find_mode(args: argparse.Namespace) -> Mode:
 
 
 def list_given_options(parser: ToolParser, line: Sequence[str]) -> list[str]:
-    """Return the options on a command line, named and ordered as in `OPTION_MODES`."""
+    """Return the options on a command line, in the order of `OPTION_MODES`."""
     names, missing = parser.fields, object()
     values = parser.parse_args([*line], argparse.Namespace(**dict.fromkeys(
         names.values(), missing)))
     given = {field for field, value in vars(values).items() if value is not missing}
-    # If two options have the same field, return the one on the command line.
+    # If two options set the same field, return the option on the command line.
     words = {word.partition("=")[0] for word in line}
     return [name for name in OPTION_MODES if names.get(name) in given and (
         name in words or not words & {other for other in names if names[other] == names[name]})]
 
 
 def refuse_options(parser: ToolParser, line: Sequence[str], mode: Mode) -> None:
-    """Raise `Stop` with the first option that the mode does not take."""
+    """Raise `Stop` for the first option that the mode does not accept."""
     for name in list_given_options(parser, line):
         if mode not in OPTION_MODES[name]:
             raise Stop(describe_mode_conflict(name, OPTION_MODES[name], mode))
@@ -108,7 +108,7 @@ def refuse_options(parser: ToolParser, line: Sequence[str], mode: Mode) -> None:
 
 # The command line.
 def make_parser(text: str) -> ToolParser:
-    """Return the parser of tools/qc with the help `text`."""
+    """Return the argument parser of tools/qc; `text` is the beginning of its help."""
     parser = ToolParser(text)
     parser.add_argument("stl", metavar="STL", nargs="?", help="the subtitle file")
     parser.add_argument("recording", metavar="RECORDING", nargs="?",
@@ -119,8 +119,8 @@ def make_parser(text: str) -> ToolParser:
 
 
 def main(text: str, program_name: str, line: list[str]) -> int:
-    """Run a command line and return the exit status. If it fails early, write the reason to the
-    files of --json, --csv and --junit."""
+    """Run a command line of qc and return the exit status. If it fails before judging, write the
+    reason to the files of --json, --csv and --junit."""
     try:
         status = dispatch(text, program_name, line)
         sys.stdout.flush()
@@ -133,7 +133,7 @@ def main(text: str, program_name: str, line: list[str]) -> int:
 
 
 def write_unjudged(name: str, paths: dict[str, str | None], reason: str) -> None:
-    """Write each requested file with one pair that was not judged."""
+    """Write each requested file with a result `not judged`."""
     result = files.make_unjudged(name, reason)
     for option, path in paths.items():
         with contextlib.suppress(Stop, OSError):
@@ -142,13 +142,13 @@ def write_unjudged(name: str, paths: dict[str, str | None], reason: str) -> None
 
 
 def make_testcase(result: dict[str, Any]) -> list[bytes]:
-    """Return the JUnit file of a pair that was not judged."""
+    """Return the JUnit file for a pair that was not judged."""
     case = files.TestCase(result["name"], result["verdict"], result["status"], result["reason"], [],
                           0.0)
     return [files.junit_file([case], single.now())]
 
 
-# How the contents of each file are made from a result.
+# Functions that make each kind of file from a result
 MAKE_CONTENTS: dict[str, Callable[[dict[str, Any]], Iterable[bytes]]] = {
     "--json": lambda result: [files.result_bytes(result)],
     "--csv": lambda result: files.table_lines([result]), "--junit": make_testcase}
@@ -157,7 +157,7 @@ FIRST_BYTES = {"--json": b"{", "--csv": b"stl,recording,", "--junit": b"<?xml ve
 
 
 def find_output_path(line: Sequence[str], option: str) -> str | None:
-    """Return the value of an output option, even if other arguments are wrong."""
+    """Return the path of an output file, even if other arguments are invalid."""
     parser = ToolParser(None)
     parser.add_argument(option, dest="file")
     try:
@@ -167,21 +167,21 @@ def find_output_path(line: Sequence[str], option: str) -> str | None:
 
 
 def find_pair_name(line: Sequence[str]) -> str:
-    """Return the pair's name from the first argument that ends in .stl, even if others are wrong;
-    an empty name if there is none."""
+    """Return the name of the pair, from the first argument that ends in .stl, even if other
+    arguments are invalid. Return an empty text if no argument ends in .stl."""
     stl = next((word for word in line if word.lower().endswith(".stl")), "")
     return os.path.splitext(os.path.basename(stl))[0]
 
 
 def dispatch(text: str, program_name: str, line: list[str]) -> int:
-    """Run a command line and return the exit status."""
+    """Run the mode of a command line and return the exit status."""
     refuse_options(make_parser(text), line, find_mode(make_parser(text).parse_args(line)))
     args = read_options(make_parser(text), line, {}, {}, is_typed=True)
     if args.is_kept and args.out is None:
         raise Stop("--keep needs a folder for the recording: give -o DIR")
     args.out = args.out and make_safe_name(args.out)
     if args.collect is not None:
-        from . import collection  # not loaded for one pair
+        from . import collection  # only loaded if needed
         return collection.collect(args)
     if args.batch is not None:
         from . import batch

@@ -1,4 +1,4 @@
-"""--measure: propose a profile from correct recordings, with the evidence for each option."""
+"""--measure: propose a profile from correct recordings, with evidence for each option."""
 from __future__ import annotations
 
 import argparse
@@ -40,19 +40,19 @@ from ..stream.receiver import Timeline, decode_near
 from .single import now
 
 
-MAX_EXAMPLES = 5  # counterexamples to list
-MAX_EARLY = 25  # frames before a TCI in which its page is searched
-GOOD_STATUSES = {0, 3}  # statuses: accepted, and relative
+MAX_EXAMPLES = 5  # maximum number of counterexamples to list
+MAX_EARLY = 25  # frames before a TCI in which to search for its page
+GOOD_STATUSES = {0, 3}  # exit statuses of the verdicts accepted and relative
 
 
 class Finding(NamedTuple):
-    """A proposed option as text, empty if none is proposed, and lines with the evidence."""
+    """A proposed option as text, empty if no option is proposed, and lines with the evidence."""
 
     text: str
     lines: Sequence[str]
 
     def list_subtitles(self) -> Iterator[str]:
-        """Yield the lines for a profile."""
+        """Yield the lines of the finding in a profile."""
         yield from (f"# {line}" for line in self.lines)
         if self.text:
             yield self.text
@@ -67,16 +67,16 @@ class ReceivedSubtitle(NamedTuple):
 
     @property
     def name(self) -> str:
-        """Return the subtitle's file, position and time."""
+        """Return the file, the position and the time of the subtitle."""
         subtitle = self.subtitle
         return f"{self.stl}, {subtitle.name} at {time_of(subtitle.begin)}"
 
 
-# How often the page is repeated.
+# Repetition of the page
 
 
 def propose_every(all_repeats: Sequence[Repeats]) -> Finding:
-    """Propose --every: the maximum distance between two headers of the page in all recordings."""
+    """Propose --every: the longest interval between two headers of the page in all recordings."""
     if not all_repeats:
         return Finding("", ["every: there are too few headers of the page"])
     worst = max(all_repeats, key=lambda one: one.longest)
@@ -92,7 +92,7 @@ def propose_every(all_repeats: Sequence[Repeats]) -> Finding:
             for since, frames in repeats.exceptions if frames > worst.longest]))
 
 
-# How far apart PES packets come.
+# Intervals between PES packets
 
 WHY_NONE = {
     IRREGULAR: "PES packets come at irregular intervals", PAUSED: "PES packets pause",
@@ -101,7 +101,7 @@ WHY_NONE = {
 
 
 def propose_pace(paces: Sequence[Pace]) -> Finding:
-    """Propose a maximum PES interval (--pace) for all recordings."""
+    """Propose --pace: the maximum PES interval in all recordings."""
     frames = [pace.frames for pace in paces]
     known_frames = [pace for pace in frames if pace is not None]
     if not known_frames or len(known_frames) < len(frames):
@@ -115,12 +115,12 @@ def propose_pace(paces: Sequence[Pace]) -> Finding:
         "one PES packet to the next"])
 
 
-# Delays of cues by a given clock.
+# Delays of cues, if the clock was given
 
 
 class Delays(NamedTuple):
-    """How many in-cues and out-cues have each delay in frames; descriptions of early cues and of
-    subtitles that were never sent; and each late cue with its delay."""
+    """The number of in-cues and out-cues with each delay in frames; descriptions of early cues and
+    of subtitles that were never sent; and the late cues with their delays."""
 
     begins: collections.Counter[int]
     ends: collections.Counter[int]
@@ -131,8 +131,8 @@ class Delays(NamedTuple):
 
 def measure_delays(stl: str, subtitles: Sequence[Subtitle], held: Timeline,
                    option: NationalOption) -> Delays:
-    """Measure the delays of a file's cues by the decoded text. If two subtitles adjoin, the end of
-    one is the begin of the next."""
+    """Measure the delays of a file's cues by the decoded text. If two subtitles adjoin, the first
+    one ends when the text of the second one begins."""
     late = list[tuple[int, str]]()
     delays = Delays(collections.Counter(), collections.Counter(), [], [], late)
     rows = [(one, find_text_letters(one.text, option)) for one in subtitles]
@@ -160,7 +160,7 @@ def measure_delays(stl: str, subtitles: Sequence[Subtitle], held: Timeline,
 
 def add_delays(counts: collections.Counter[int], early: list[str], late: list[tuple[int, str]],
          delay: int, name: str) -> None:
-    """Count a delay; a negative one is early."""
+    """Count the delay of a cue; a negative delay is early."""
     if delay < 0:
         early.append(f"{name} {counted(-delay, 'frame')} early")
         return
@@ -170,7 +170,7 @@ def add_delays(counts: collections.Counter[int], early: list[str], late: list[tu
 
 
 def remove_unusual(delays: collections.Counter[int]) -> collections.Counter[int]:
-    """Return the delays without the longest delays that are rare."""
+    """Return the delays except the longest ones, as long as these are rare."""
     usual, rest = collections.Counter(delays), 0
     for delay in sorted(delays, reverse=True):
         rest += delays[delay]
@@ -181,8 +181,8 @@ def remove_unusual(delays: collections.Counter[int]) -> collections.Counter[int]
 
 
 def find_text_begin(held: Timeline, subtitle: Subtitle, letters: bytes, earlier: int) -> int | None:
-    """Return the first frame with the text of a subtitle, not before `earlier` frames before its
-    TCI."""
+    """Return the first frame with the text of a subtitle, from `earlier` frames before its TCI
+    on."""
     numbers = held.page_numbers(max(subtitle.begin - earlier, 0), subtitle.end)
     return next((held.page_span(number).first for number in numbers
                  if find_page_letters(held.pages[number]) == letters), None)
@@ -199,9 +199,9 @@ def find_text_end(held: Timeline, subtitle: Subtitle, letters: bytes, first: int
 
 def propose_lateness(several: Sequence[Delays], without: Sequence[str],
                off_frame: tuple[int, int] = (0, 0)) -> Iterator[Finding]:
-    """Propose --within and --late from the recordings whose clock was given; `without` are the
-    others. `off_frame` are the PTS that are off their frames, and all PTS: if many are off,
-    --within is 1 at least."""
+    """Propose --within and --late from the recordings whose clock was given. `without` are the
+    recordings without a clock. `off_frame` counts the PTS that are not on a frame, and all PTS: if
+    the former are not rare, --within is at least 1."""
     off, count = off_frame
     least = int(off * RARE >= count > 0)
     lines = [f"within: {off} of {count} PTS are off their frames, which "
@@ -237,23 +237,23 @@ def propose_lateness(several: Sequence[Delays], without: Sequence[str],
 
 
 def format_delays(counts: collections.Counter[int]) -> str:
-    """Return delays and their counts as `0:31, 1:40`, or `none`."""
+    """Format delays and their counts, for example as `0:31, 1:40`, or `none`."""
     return ", ".join(f"{delay}:{count}" for delay, count in sorted(counts.items())) or "none"
 
 
 def named_lines(what: str, names: Sequence[str]) -> list[str]:
-    """Return a line with the first names of a list, and how many more there are."""
+    """Return a line with the first names in a list, and the number of other names."""
     if not names:
         return []
     more = f", and {len(names) - MAX_EXAMPLES} more" if len(names) > MAX_EXAMPLES else ""
     return [f"{what}: {'; '.join(names[:MAX_EXAMPLES])}{more}"]
 
 
-# C4 (erase page) and the national option in page headers.
+# C4 (erase page) and the national option in page headers
 
 
 def propose_keeping(headers: int, keeping: int, is_alone: bool) -> Finding:
-    """Propose --keeping if many of the headers keep the page; `is_alone`: no header has another
+    """Propose --keeping if many headers keep the page. `is_alone` says that no header has any other
     fault."""
     lines = [f"keeping: C4 (erase page) is clear in {keeping} of {counted(headers, 'header')}"]
     is_habit = keeping > 0 and keeping * RARE >= headers
@@ -265,22 +265,22 @@ def propose_keeping(headers: int, keeping: int, is_alone: bool) -> Finding:
 
 
 def propose_option(options: Iterable[str], judged: str) -> Finding:
-    """Propose the national option that all headers have."""
+    """Propose the national option that all page headers have."""
     sent = sorted(options)
     lines = [f"option: {' and '.join(sent) or 'unknown'} by C12 to C14 of the headers; the text "
              f"was read as {judged}"]
     return Finding(f"--option {sent[0]}" if len(sent) == 1 else "", lines)
 
 
-# The layout of the inserter.
+# The layout of the inserter
 
-# Spaces after the codes that open a box, or before those that close it.
+# Matches spaces after the codes that open a box, or before the codes that close it.
 SPACE_IN_BOX = re.compile(rb"^[\x00-\x1f]*\x0b[\x00-\x1f]* | [\x00-\x1f]*\x0a[\x00-\x1f]*$")
 
 
 def propose_layout(sendings: Sequence[ReceivedSubtitle], option: NationalOption) -> Finding:
-    """Propose the layout that draws nearly all subtitles as sent, with counterexamples. If there is
-    none, describe the nearest layout."""
+    """Propose the layout that draws nearly all subtitles as they were sent, with counterexamples.
+    If there is no such layout, describe the nearest one."""
     closest, choice = choose_layouts([sending.sent for sending in sendings], option)
     if closest.total < FEWEST:
         return Finding("", [f"layout: {counted(closest.total, 'subtitle')} found with their text, "
@@ -298,7 +298,7 @@ def propose_layout(sendings: Sequence[ReceivedSubtitle], option: NationalOption)
 
 
 def list_omitted_items(choice: LayoutChoice) -> list[str]:
-    """Return which items would draw more subtitles as sent but are not proposed, and why."""
+    """Describe which items would draw more subtitles as sent, and why they are not proposed."""
     return [f"{left.text} would draw {left.more} more of {choice.total}: "
             f"{explain_omission(left.whole)}" for left in choice.left]
 
@@ -306,7 +306,7 @@ def list_omitted_items(choice: LayoutChoice) -> list[str]:
 def list_counterexamples(choice: LayoutChoice, sendings: Sequence[ReceivedSubtitle],
                          option: NationalOption) \
         -> Iterator[str]:
-    """Yield the subtitles that a layout draws differently than they were sent."""
+    """Yield the subtitles that a layout does not draw as they were sent."""
     others = [one for one in sendings if not draws_as_sent(choice.layout, one.sent, option)]
     for sending in others[:MAX_EXAMPLES]:
         yield f"against it: {sending.name}: sent {format_cells(sending.sent.rows)}; drawn " \
@@ -316,7 +316,7 @@ def list_counterexamples(choice: LayoutChoice, sendings: Sequence[ReceivedSubtit
 
 
 def page_text(choice: LayoutChoice, sent: SentSubtitle, option: NationalOption) -> str:
-    """Return the page of a subtitle in a layout."""
+    """Return the page with a subtitle in a layout."""
     lines = draw_text(sent.text, sent.row, sent.justify, choice.layout, option)
     return f"nothing: refused {lines.number}" if isinstance(lines, TextFault) else \
         format_cells(make_page_rows(lines))
@@ -325,7 +325,7 @@ def page_text(choice: LayoutChoice, sent: SentSubtitle, option: NationalOption) 
 def explain_missing_layout(nearest: LayoutChoice, sendings: Sequence[ReceivedSubtitle],
                            option: NationalOption) \
         -> Iterator[str]:
-    """Yield the reasons why no layout is proposed, with the nearest layout."""
+    """Yield the reasons why no layout is proposed, and the nearest layout."""
     others = [sending.sent for sending in sendings
               if not draws_as_sent(nearest.layout, sending.sent, option)]
     text = format_layout(nearest.layout)
@@ -339,13 +339,13 @@ def explain_missing_layout(nearest: LayoutChoice, sendings: Sequence[ReceivedSub
 
 
 def is_spaced(sent: SentSubtitle, _: LayoutChoice, option: NationalOption) -> bool:
-    """Return whether a line has spaces at an end within its box."""
+    """Return whether a line has spaces at its beginning or end, within the box."""
     return any(SPACE_IN_BOX.search(row.strip(b" ")) for row in sent.rows)
 
 
 def is_block(sample: SentSubtitle, nearest: LayoutChoice, option: NationalOption) -> bool:
-    """Return whether all lines begin in the same column, though the layout draws them in different
-    ones."""
+    """Return whether all sent lines begin in the same column, but not the lines that the layout
+    draws."""
     lines = draw_text(sample.text, sample.row, sample.justify, nearest.layout, option)
     if isinstance(lines, TextFault):
         return False
@@ -359,14 +359,13 @@ KINDS: Sequence[tuple[str, Callable[[SentSubtitle, LayoutChoice, NationalOption]
 
 def find_sendings(stl: str, subtitles: Iterable[Subtitle], held: Timeline, option: NationalOption) \
         -> list[ReceivedSubtitle]:
-    """Return the subtitles of a file whose text was decoded at their time, with the decoded page.
-    """
+    """Return the subtitles whose text was decoded at their time, with the decoded pages."""
     return [ReceivedSubtitle(stl, subtitle, sent) for subtitle in subtitles
             for sent in find_sent_subtitles([subtitle], held, option)]
 
 
 def explain_omission(text: str) -> str:
-    """Return why a layout that draws more subtitles is not proposed."""
+    """Explain why a layout that draws more subtitles as sent is not proposed."""
     layout = parse_layout(text) or PLAIN
     brought, taken = layout.before + layout.behind, find_questionable_items(layout)
     if FLASH in brought:
@@ -380,15 +379,15 @@ def explain_omission(text: str) -> str:
 
 
 def format_counts(choice: LayoutChoice) -> str:
-    """Return how many subtitles are drawn as they were sent."""
+    """Describe how many subtitles a layout draws as they were sent."""
     return f"{choice.as_sent} of {counted(choice.total, 'subtitle')} as they were sent"
 
 
-# Measuring recordings.
+# Measuring recordings
 
 
 class SilentPrinter(Printer):
-    """Keeps lines instead of printing them."""
+    """A printer that stores lines instead of printing them."""
 
     def __init__(self) -> None:
         super().__init__(Progress())
@@ -403,9 +402,9 @@ class SilentPrinter(Printer):
 
 
 class Measured(NamedTuple):
-    """What one recording tells: its PID and what the PMT says of it, in words; how often the page
-    is repeated, the pace, how late cues are. `headers` are how many there are, and how many keep
-    the page; `is_alone`: nothing else is wrong in any."""
+    """Measurements of one recording: its PID and lines about it from the PMT, intervals of page
+    headers and PES packets, and delays of cues. `headers` counts all headers, and headers that keep
+    the page; `is_alone` says that no header has any other fault."""
 
     pid: str | None
     lines: Sequence[str]
@@ -416,12 +415,12 @@ class Measured(NamedTuple):
     is_alone: bool
     options: set[str]
     sendings: Sequence[ReceivedSubtitle]
-    off_frame: tuple[int, int] = (0, 0)  # PTS that are off their frames, of how many
-    option: str = "english"  # by which its letters were read
+    off_frame: tuple[int, int] = (0, 0)  # number of PTS that are not on a frame, and of all PTS
+    option: str = "english"  # national option used to decode the text
 
 
 def measure(args: argparse.Namespace, program_name: str) -> int:
-    """Print the profile of the pairs of a call; return the exit status."""
+    """Measure the pairs on a command line and print their profile; return the exit status."""
     command_paths, requests = CommandPaths(program_name, args.program), read_requests(args)
     with make_temporary_folder("subttx-qc-") as folder:
         recordings = [measure_recording(request, command_paths, os.path.join(folder, str(number)))
@@ -441,7 +440,7 @@ def measure(args: argparse.Namespace, program_name: str) -> int:
 
 
 def read_requests(args: argparse.Namespace) -> list[Request]:
-    """Return the pairs of a call, given as arguments or in a list."""
+    """Return the pairs that are given as arguments or in a list."""
     names = args.measure
     if len(names) == 1 and not is_stl(names[0]):
         return requests_in(names[0], args)
@@ -461,8 +460,7 @@ def is_stl(path: str) -> bool:
 
 
 def requests_in(path: str, args: argparse.Namespace) -> list[Request]:
-    """Return the pairs of a list with the options of their lines; raise `Stop` for a faulty line.
-    """
+    """Return the pairs in a list with the options of each line; raise `Stop` for a faulty line."""
     items = read_pairs(path, args)
     for item in items:
         if item.reason:
@@ -471,7 +469,7 @@ def requests_in(path: str, args: argparse.Namespace) -> list[Request]:
 
 
 def measure_recording(request: Request, command_paths: CommandPaths, folder: str) -> Measured:
-    """Measure a recording; raise `Stop` if that fails."""
+    """Measure the recording of a pair; raise `Stop` if that fails."""
     os.mkdir(folder)
     try:
         refuse_files(request)
@@ -487,7 +485,7 @@ def measure_recording(request: Request, command_paths: CommandPaths, folder: str
 
 
 def make_pair(request: Request, command_paths: CommandPaths, folder: str) -> PairJudge:
-    """Return a pair that is judged without printing."""
+    """Return an object that judges a pair without printing."""
     names = OutputNames("measured", folder, None)
     names.set_subtitle_file(request.stl)
     return PairJudge(Verdict(request, Severity(None), now()), command_paths, names,
@@ -496,7 +494,7 @@ def make_pair(request: Request, command_paths: CommandPaths, folder: str) -> Pai
 
 def list_refused(requests: Sequence[Request], command_paths: CommandPaths,
                  folder: str) -> Iterator[str]:
-    """Yield why the profile does not accept a recording, or that it accepts all."""
+    """Yield why the profile does not accept a recording, or that it accepts all recordings."""
     refused = 0
     for request in requests:
         pair = make_pair(request, command_paths, folder)
@@ -515,7 +513,7 @@ def list_refused(requests: Sequence[Request], command_paths: CommandPaths,
 
 
 def measure_pair(pair: PairJudge) -> Measured:
-    """Measure the recording of a pair."""
+    """Measure the recording of a pair after finding its parts."""
     request, option = pair.request, BY_WORD[pair.request.option]
     recording, clocks, subtitles = pair.located_recording
     parts = [add_part_packets(clocks.search, part) for part in pair.parts_in(
@@ -542,7 +540,7 @@ def measure_pair(pair: PairJudge) -> Measured:
 
 
 def add_part_packets(programme: PartSearch, part: Part) -> Part:
-    """Return a part with the PES packets of its time."""
+    """Return a part together with the PES packets of its frames."""
     pes = cut_packets(programme, *part.judged_recording, programme.request.within).range
     if pes is None:
         raise Unclear("the recording has nothing of the page at the time of the subtitles")
@@ -550,20 +548,20 @@ def add_part_packets(programme: PartSearch, part: Part) -> Part:
 
 
 def decode_pages(part: Part) -> Timeline:
-    """Return the pages decoded around the frames of a part."""
+    """Return the decoded pages around the frames of a part."""
     recording, frames = part.judged_recording
     return decode_near(recording.packets, part.request.page, frames.origin, 1,
                        Span(frames.begin, frames.end), part.request.every, frames.packets)
 
 
 def find_subtitles(part: Part, subtitles: Iterable[Subtitle]) -> list[Subtitle]:
-    """Return the subtitles that begin in the frames of a part."""
+    """Return the subtitles of a file that begin in the frames of a part."""
     return [one for one in subtitles if part.request.between.has(one.begin)]
 
 
 def find_pid(pair: PairJudge) -> tuple[str | None, list[str]]:
-    """Return the PID with the page, and lines with the evidence and the announcement in the PMT; no
-    PID for a file of PES packets."""
+    """Return the PID that carries the page, and lines with the evidence and the entry in the PMT.
+    There is no PID in a file of PES packets."""
     recording, name = pair.located_recording.recording, pair.request.page_name
     lines = [one.line for one in pair.listener.selections if one.option == PID_CHOICE]
     if not recording.is_stream:
@@ -577,10 +575,10 @@ def find_pid(pair: PairJudge) -> tuple[str | None, list[str]]:
     return f"0x{pid:X}", [*dict.fromkeys(lines)] or [f"PID 0x{pid:X} was given"]
 
 
-# Printing.
+# Printing the profile
 
 def profile_lines(requests: Sequence[Request], recordings: Sequence[Measured]) -> Iterator[str]:
-    """Yield the lines of the profile, which `--profile` reads."""
+    """Yield the lines of the profile, which `--profile` can read."""
     first = requests[0]
     files = " ".join(quote_argument(name) for request in requests
                      for name in (request.stl, request.recording or ""))
@@ -610,7 +608,7 @@ def profile_lines(requests: Sequence[Request], recordings: Sequence[Measured]) -
 
 
 def propose_pid(recordings: Sequence[Measured]) -> Finding:
-    """Propose the PID if it is the same in all recordings."""
+    """Propose --pid if the PID is the same in all recordings."""
     pids = {one.pid for one in recordings}
     lines = [f"pid: {line}"
              for line in dict.fromkeys(line for one in recordings for line in one.lines)]

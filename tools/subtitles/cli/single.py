@@ -1,4 +1,4 @@
-"""One pair: judged, said and written, in a folder that belongs to one call."""
+"""Judge a pair, print the verdict, and write the result files."""
 from __future__ import annotations
 
 import argparse
@@ -35,35 +35,36 @@ from ..results.files import describe_inputs, result_bytes, make_unjudged
 from ..stream.gaps import first_lines
 
 
-# Only one run of qc at a time writes the results of a pair in a folder. It removes earlier results,
-# but no foreign files with the same names: the folder may be that of the inputs.
+# Only one run of qc at a time writes the results of a pair into a folder. It removes earlier
+# results, but no other files, since the folder may also contain the inputs.
 
 RESULT = re.compile(rb'\{\s*"format": [0-9]+,\s*"(verdict": "|status": )')
-PREFIX_BYTES = 4096  # bytes that show what a file is
-KEPT_SECONDS = 600  # between writing a kept recording and its result, at most
+PREFIX_BYTES = 4096  # maximum number of bytes to read to recognise a file
+KEPT_SECONDS = 600  # maximum time between the writing of a recording and of its result
 
 
 class FilesInUse(Stop):
-    """Another run of qc writes the files that this one would write."""
+    """Raised if another run of qc is already writing the same output files."""
 
 
 def refuse_pair_files(folder: str, name: str, inputs: Inputs, parts: PartFiles | None = None
                     ) -> None:
-    """Raise `Stop` if the results of a pair would replace an input or a file that these tools did
-    not write."""
+    """Raise `Stop` if the result files of a pair would replace an input, or a file that these tools
+    did not write."""
     for path in [*list_pair_files(folder, name, parts), lock_path(folder, name)]:
         refuse_file(path, inputs)
 
 
 def refuse_folder_files(folder: str, inputs: Inputs) -> None:
-    """Raise `Stop` if the files over all pairs of a folder would replace an input or a foreign
-    file."""
+    """Raise `Stop` if the files about all pairs in a folder would replace an input, or a file that
+    these tools did not write."""
     for path in (index_path(folder), lock_path(folder, "")):
         refuse_file(path, inputs)
 
 
 def is_own_file(path: str) -> bool:
-    """Return whether these tools wrote a file, by its first bytes; for a recording, by its time."""
+    """Return whether these tools wrote a file, from its first bytes or, for a recording, its
+    time."""
     stem, ending = os.path.splitext(path)
     if ending in (".pes", ".ts"):
         return is_kept_recording(path, f"{os.path.splitext(stem)[0]}.json")
@@ -77,15 +78,15 @@ def is_own_file(path: str) -> bool:
 
 
 def is_kept_recording(path: str, result: str) -> bool:
-    """Return whether a recording was kept with a result, which was then written soon after it."""
+    """Return whether a recording was kept with a result, which is written soon after it."""
     if not os.path.isfile(result) or not is_own_file(result):
         return False
     return 0 <= os.stat(result).st_mtime_ns - os.stat(path).st_mtime_ns < KEPT_SECONDS * 10**9
 
 
 def refuse_file(path: str, inputs: Inputs) -> None:
-    """Raise `Stop` if a file is an input or was not written by these tools. A link may be replaced,
-    without its target."""
+    """Raise `Stop` if a file is an input or was not written by these tools. A symbolic link may be
+    replaced, but not its target."""
     inputs.refuse(path, False)
     with contextlib.suppress(FileNotFoundError, NotADirectoryError):
         about = os.lstat(path)
@@ -96,26 +97,26 @@ def refuse_file(path: str, inputs: Inputs) -> None:
 
 
 def remove_results(folder: str, name: str, parts: PartFiles | None = None) -> None:
-    """Remove the results of an earlier call for a pair."""
+    """Remove the results that an earlier run wrote for a pair."""
     for path in list_pair_files(folder, name, parts):
         if os.path.lexists(path):
             os.unlink(path)
 
 
 def claim_pair(folder: str | None, name: str) -> contextlib.AbstractContextManager[None]:
-    """Make a folder, and lock the results of a pair in it."""
+    """Create a folder, and lock the result files of a pair in it until the `with` block ends."""
     return hold_lock(folder, name, f"another run of qc is writing the files of {name} in ")
 
 
 def claim_folder(folder: str | None) -> contextlib.AbstractContextManager[None]:
-    """Make a folder, and lock it against other batches."""
+    """Create a folder, and lock it against other batches until the `with` block ends."""
     return hold_lock(folder, "", "another run of qc is judging a batch into ")
 
 
 @contextlib.contextmanager
 def hold_lock(folder: str | None, name: str, refusal: str) -> Iterator[None]:
-    """Make a folder, unless it is `None`, and hold a lock in it. Raise `FilesInUse` with the text
-    `refusal` if another process holds the lock."""
+    """Create a folder unless it is `None`, and hold a lock in it. Raise `FilesInUse` with the
+    message `refusal` if another process holds the lock."""
     if folder is None:
         yield
         return
@@ -128,7 +129,7 @@ def hold_lock(folder: str | None, name: str, refusal: str) -> Iterator[None]:
     try:
         yield
     finally:
-        with contextlib.suppress(OSError):  # the folder may have been changed
+        with contextlib.suppress(OSError):  # the folder may be missing now
             if is_file_at(handle, path):
                 os.unlink(path)
         os.close(handle)
@@ -136,7 +137,7 @@ def hold_lock(folder: str | None, name: str, refusal: str) -> Iterator[None]:
 
 def open_locked(path: str) -> int | None:
     """Open and lock a file; return `None` if another process has locked it. A symbolic link is
-    replaced by a file."""
+    replaced with a file."""
     while True:
         if os.path.islink(path):
             os.unlink(path)
@@ -148,29 +149,29 @@ def open_locked(path: str) -> int | None:
             os.close(handle)
             return None
         except OSError:
-            return handle  # the file system has no locks
+            return handle  # the file system does not support locks
         if is_file_at(handle, path):
             return handle
         os.close(handle)  # another process has removed the file
 
 
 def is_file_at(handle: int, path: str) -> bool:
-    """Return whether an open file is still at a path."""
+    """Return whether an open file is still the file at a path."""
     try:
         return os.path.samestat(os.fstat(handle), os.lstat(path))
     except FileNotFoundError:
         return False
 
 
-# One pair: judge it, print the verdict and write the outputs.
+# Judging one pair: print the verdict and write the output files
 
-ESCAPED = re.compile("[\ud800-\udfff]")  # bytes of a name that is not UTF-8
+ESCAPED = re.compile("[\ud800-\udfff]")  # bytes of a file name that are not UTF-8
 SIGNALS = (signal.SIGINT, signal.SIGTERM, signal.SIGHUP)
-SUMMARY_LINES = 100  # lines of a list in a summary, and in a file for a CI
+SUMMARY_LINES = 100  # maximum number of lines of a list in a summary, and in a JUnit file
 
 
 def now(seconds: float | None = None) -> str:
-    """Return the time in UTC, or that of some seconds since the epoch."""
+    """Format a time in seconds since the epoch, by default the current time, in UTC."""
     return time.strftime("%Y-%m-%dT%H:%M:%SZ", time.gmtime(seconds))
 
 
@@ -196,14 +197,14 @@ class PairOptions(NamedTuple):
 
 
 def judge_command(args: argparse.Namespace, program_name: str) -> int:
-    """Judge the pair of a command line; return the exit status."""
+    """Judge the pair on a command line; return the exit status."""
     return judge_and_report(make_request(args), PairOptions(
         args.program, args.out or None, args.is_kept, args.json, args.csv, args.junit,
         is_quiet=args.is_quiet), program_name).status
 
 
 def judge_and_report(request: Request, call: PairOptions, program_name: str) -> Verdict:
-    """Judge a pair, print the verdict and write its files; return the verdict."""
+    """Judge a pair, print the verdict and write the output files; return the verdict."""
     out, staging_folder = call.out, call.staging_folder or call.out
     is_output_taken = any(path in STANDARD_OUTPUTS for path in (call.json, call.csv, call.junit))
     printer = Printer(Progress(), is_output_taken)
@@ -234,19 +235,19 @@ def judge_and_report(request: Request, call: PairOptions, program_name: str) -> 
 
 
 def stamp_inputs(request: Request) -> dict[str, Stamp | None]:
-    """Return the stamps of the files of a pair that are read more than once."""
+    """Return the stamps of those files of a pair that are read more than once."""
     names = request.stl, request.recording, request.severity
     return {name: read_stamp(name) for name in names if name}
 
 
 def new_verdict(request: Request, listener: Listener) -> Verdict:
-    """Return an empty verdict, which shares the notes, commands and choices of the listener."""
+    """Return an empty verdict that shares the notes, commands and choices of `listener`."""
     return Verdict(request, Severity(request.severity, request.is_loss_allowed), now(),
                    notes=listener.notes, commands=listener.commands, selections=listener.selections)
 
 
 def refuse_outputs(call: PairOptions, request: Request, out: str | None, name: str) -> None:
-    """Raise `Stop` if an output can't be written or is an input, before any work."""
+    """Raise `Stop`, before any work, if an output can't be written or is an input."""
     inputs = Inputs(request.stl, request.recording, *request.other_files)
     for path in (call.json, call.csv, call.junit):
         if path:
@@ -257,16 +258,16 @@ def refuse_outputs(call: PairOptions, request: Request, out: str | None, name: s
 
 
 def judge_pair(pair: PairJudge, files: OutputFiles) -> None:
-    """Judge a pair and write its files; the verdict has the reason if it is not judged."""
+    """Judge a pair and write its files. If it is not judged, the verdict has the reason."""
     verdict, began = pair.verdict, time.monotonic()
     try:
         pair.judge()
         files.call.examine(verdict)
-        verdict.hints = [*dict.fromkeys(list_hints(verdict))]  # parts may have the same hint
+        verdict.hints = [*dict.fromkeys(list_hints(verdict))]  # parts may share a hint
     except Unclear as unclear:
         verdict.unjudged = Unjudged(unclear.reason, unclear.commands,
                                     isinstance(unclear, IncompleteAnswer))
-    except Exception as reason:  # any error makes the pair not judged
+    except Exception as reason:  # after any error the pair is not judged
         verdict.unjudged = Unjudged(format_error(reason), is_temporary=isinstance(
             reason, (ProgramInterrupted, OSError, MemoryError)))
     except KeyboardInterrupt:
@@ -282,7 +283,7 @@ def judge_pair(pair: PairJudge, files: OutputFiles) -> None:
 
 
 def report_pair(verdict: Verdict, printer: Printer, files: OutputFiles) -> None:
-    """Print the verdict. If that fails, write it as not judged to all files."""
+    """Print the verdict. If that fails, write a verdict `not judged` to all files."""
     try:
         print_verdict(verdict, printer, files.page)
     except KeyboardInterrupt as reason:
@@ -298,20 +299,20 @@ def report_pair(verdict: Verdict, printer: Printer, files: OutputFiles) -> None:
 
 
 def handle_signals() -> None:
-    """Let signals interrupt this call, except ignored signals, for example under nohup."""
+    """Let signals interrupt this run, except signals that are ignored, for example under nohup."""
     for signal_number in SIGNALS:
         if signal.getsignal(signal_number) != signal.SIG_IGN:
             signal.signal(signal_number, signal.default_int_handler)
 
 
 def ignore_signals() -> None:
-    """Ignore all further signals that would interrupt this call."""
+    """Ignore all further signals that would interrupt this run."""
     for signal_number in SIGNALS:
         signal.signal(signal_number, signal.SIG_IGN)
 
 
 def print_verdict(verdict: Verdict, printer: Printer, page: str | None = None) -> None:
-    """Print the verdict, after gaps, notes and warnings; `page` is the path of its report."""
+    """Print the verdict after gaps, notes and warnings. `page` is the path of the report."""
     causes = [part.causes for part in verdict.parts if part.causes]
     if causes:
         printer.print_line(format_cause_counts(causes))
@@ -347,8 +348,8 @@ def print_verdict(verdict: Verdict, printer: Printer, page: str | None = None) -
 
 
 def reference_text(verdict: Verdict, page: str | None) -> str:
-    """Return where to read more about a refusal: the report, or the manual on the number reported
-    first."""
+    """Return a reference for a refusal: to the report, or to the manual's text about the number
+    reported first."""
     if verdict.word == ACCEPTED or verdict.word == RELATIVE and not verdict.fault_count:
         return ""
     if page:
@@ -360,8 +361,8 @@ def reference_text(verdict: Verdict, page: str | None) -> str:
 
 
 class Output(NamedTuple):
-    """A requested file, and the function that makes its bytes. `is_result`: it is in the folder of
-    results. `is_raw`: it does not contain the verdict."""
+    """A requested file, and the function that makes its contents. `is_result` is set for files in
+    the output folder, `is_raw` for files that do not contain the verdict."""
 
     path: str
     make_chunks: Callable[[], Iterator[bytes]]
@@ -371,33 +372,33 @@ class Output(NamedTuple):
 
     @property
     def is_replaced(self) -> bool:
-        """Return whether an output can be written once more."""
+        """Return whether an output can be written a second time."""
         return self.is_result or is_replaced(self.path)
 
 
 class OutputFiles:
-    """Writes the requested files."""
+    """Writes the requested output files."""
 
     def __init__(self, call: PairOptions, verdict: Verdict, command_paths: CommandPaths,
                  names: OutputNames, stamps: Mapping[str, Stamp | None] = {}) -> None:
         self.call, self.verdict, self.names = call, verdict, names
         self.command_paths = command_paths
-        self.stamps = stamps  # of the input files, when judging began
+        self.stamps = stamps  # stamps of the input files when judging began
         self.written: list[Output] = []
 
     @property
     def page(self) -> str | None:
-        """Return the path of the report as the user would type it."""
+        """Return the path of the report, as the user would type it."""
         return self.names.display_path("html") if self.names.out else None
 
     def needs_sums(self) -> bool:
-        """Return whether an output has the checksums of the inputs."""
+        """Return whether any output has the checksums of the inputs."""
         return bool(self.call.out or self.call.json or self.call.csv)
 
     def write(self, recording: Recording | None = None) -> None:
-        """Write all outputs. If one fails, the verdict is not judged, and outputs written before
-        are written once more if possible. The JSON result in the folder comes last, except for
-        outputs that can't be written twice."""
+        """Write all outputs. If an output can't be written, the verdict becomes `not judged`, and
+        earlier outputs are written again if possible. The JSON result in the folder comes last,
+        except for outputs that can't be written twice."""
         for output in sorted(self.list_outputs(recording), key=lambda one: not one.is_replaced):
             self.find_changes()
             if self.try_to_write(output):
@@ -407,24 +408,24 @@ class OutputFiles:
         self.find_changes()
 
     def find_changes(self) -> None:
-        """Withdraw the verdict if a file has changed: it was read several times, so it is unknown
-        which bytes were judged."""
+        """Withdraw the verdict if an input file has changed: the file was read several times, so it
+        is unknown which bytes were judged."""
         changed = [name for name, stamp in self.stamps.items() if read_stamp(name) != stamp]
         if changed:
-            self.stamps = {}  # it is reported once
+            self.stamps = {}  # report each change only once
             self.verdict.failed_outputs += [
                 f"{name} changed while it was judged: judge it again when it is complete"
                 for name in changed]
             self.write_again()
 
     def write_again(self) -> None:
-        """Write the outputs once more, with the later failures."""
+        """Write the outputs again, with the failures found since."""
         for output in self.written:
             if output.is_replaced and not output.is_raw:
                 self.try_to_write(output)
 
     def try_to_write(self, output: Output) -> bool:
-        """Write an output; return whether that succeeded. If not, the verdict has the reason."""
+        """Write an output; return whether that succeeded, or add the reason to the verdict."""
         try:
             self.write_output(output)
         except Exception as reason:
@@ -436,7 +437,7 @@ class OutputFiles:
         return True
 
     def list_outputs(self, recording: Recording | None) -> list[Output]:
-        """Return the requested outputs."""
+        """Return the requested output files."""
         call, verdict, names = self.call, self.verdict, self.names
         outputs = [Output(call.csv, lambda: results.subtitle_lines(verdict))] if call.csv else []
         outputs += [Output(call.junit, self.make_testcase)] if call.junit else []
@@ -446,7 +447,7 @@ class OutputFiles:
         program = describe_program(self.command_paths.program_path)
 
         def page() -> Iterator[bytes]:
-            from ..report.page import make_report_page  # not loaded by most calls
+            from ..report.page import make_report_page  # most runs do not need it
             return iter([make_report_page(verdict, self.command_paths).page()])
 
         def members() -> Iterator[bytes]:
@@ -458,7 +459,7 @@ class OutputFiles:
         return outputs
 
     def list_raw_outputs(self, recording: Recording | None) -> list[Output]:
-        """Return the lists of all parts as printed by `check`, and the kept recording."""
+        """Return the fault lists of all parts as printed by `check`, and the kept recording."""
         lists = [Output(part.names.final_path("txt"), part.check_output.read_bytes, True,
                         is_raw=True)
                  for part in self.verdict.parts]
@@ -468,7 +469,7 @@ class OutputFiles:
         return lists
 
     def make_testcase(self) -> Iterator[bytes]:
-        """Return the JUnit file."""
+        """Return the JUnit file about the pair."""
         verdict = self.verdict
         case = results.TestCase(pair_title(verdict.request), verdict.word, verdict.status,
                                verdict.worst_line or verdict.unjudged_reason or "",
@@ -478,7 +479,7 @@ class OutputFiles:
         yield results.junit_file([case], verdict.date)
 
     def list_lines(self) -> list[str]:
-        """Return the first lines of the fault lists of all parts."""
+        """Return the first lines of the fault list of each part."""
         lines = (line for part in self.verdict.parts for line in part.check_output.read_lines()
                  if part.check_output.fault_count)
         return list(itertools.islice(lines, SUMMARY_LINES))
@@ -497,5 +498,5 @@ def encode_text(text: str) -> bytes:
 
 
 def pair_title(request: Request) -> str:
-    """Return the title of a pair in tables."""
+    """Return the title of a pair in tables: the names of its files."""
     return " ".join([request.stl, *([request.recording] if request.recording else [])])

@@ -1,4 +1,4 @@
-"""Result files: JSON, CSV and JUnit; reading JSON results back."""
+"""Write result files in JSON, CSV and JUnit, and read JSON results."""
 from __future__ import annotations
 
 import collections
@@ -26,9 +26,9 @@ from .schema import (
     list_subtitle_rows)
 
 
-# JSON results. Items of lists are written one by one, since there may be any number of faults.
+# JSON results. Lists are written item by item, since they may have any number of faults.
 
-MAX_BYTES = 32 << 20  # of the items in all lists of a result
+MAX_BYTES = 32 << 20  # maximum size of all lists in a result
 
 
 class ListLimit:
@@ -40,7 +40,7 @@ class ListLimit:
 
 
 def write_result(verdict: Verdict, program: ProgramInfo) -> Iterator[str]:
-    """Yield the text of a JSON result in pieces."""
+    """Yield the text of a JSON result in chunks."""
     source, limit = ResultSource(verdict, program), ListLimit()
     separator = "{"
     for member in VERDICT.members:
@@ -55,7 +55,7 @@ def write_result(verdict: Verdict, program: ProgramInfo) -> Iterator[str]:
 
 
 def write_list(member: Member, source: ResultSource, limit: ListLimit) -> Iterator[str]:
-    """Yield a list with one item per line, omitting the items that exceed the limit."""
+    """Yield a JSON list with one item per line. Items that exceed the limit are omitted."""
     assert isinstance(member.shape, Listed) and member.of
     items, separator = iter(member.of(source)), "["
     for count, item in enumerate(items):
@@ -69,12 +69,12 @@ def write_list(member: Member, source: ResultSource, limit: ListLimit) -> Iterat
     yield "[]" if separator == "[" else "]"
 
 
-# Reading JSON results, as rows of a table.
+# Reading JSON results as rows of a table
 
 ENDING = ".json"
 MAX_ROW_LINES = 100
 MAX_RESULT_BYTES = 2 * MAX_BYTES
-MAX_VALUES = 2_000_000  # Python needs 70 bytes for a value, and 160 for a member of an object
+MAX_VALUES = 2_000_000  # maximum; in Python, a value needs 70 bytes, a member of an object 160
 MAX_DIGITS = 20
 NO_CLOCK, LATER_CLOCK = "no clock was given", "the clock after a break was estimated"
 
@@ -107,7 +107,7 @@ class Row(NamedTuple):
 
 
 def make_unjudged(name: str, reason: str) -> dict[str, Any]:
-    """Return the result of a pair that was not judged and has no request."""
+    """Return the result of a pair that was not judged, without a request."""
     result: dict[str, Any] = NO_PAIR.made({
         "format": FORMAT, "verdict": NOT_JUDGED, "status": STATUSES[NOT_JUDGED], "name": name,
         "reason": reason or "no reason was given"})
@@ -115,33 +115,33 @@ def make_unjudged(name: str, reason: str) -> dict[str, Any]:
 
 
 def can_replace(path: str, prefix: bytes = b"{") -> bool:
-    """Return whether a result may replace a file: it must be new, empty, or begin with `prefix`. A
-    file with other contents may be an input, given by mistake."""
+    """Return whether a result may replace a file: the file must be missing, empty or begin with
+    `prefix`. Other files may be inputs, given by mistake."""
     if not is_replaced(path) or not os.path.exists(path):
         return True
     return read_first_bytes(path, len(prefix)) in (prefix, b"")
 
 
 def write_file(path: str | None, make_chunks: Callable[[], Iterable[bytes]]) -> None:
-    """Write a requested file, completely or not at all."""
+    """Write a requested file completely or not at all."""
     if path is not None:
         with open_output(path) as file:
             file.writelines(make_chunks())
 
 
 def result_bytes(result: dict[str, Any]) -> bytes:
-    """Encode a result that was not judged as JSON."""
+    """Return the JSON file of a pair that was not judged."""
     return json.dumps(result).encode() + b"\n"
 
 
 def write_result_file(path: str, result: dict[str, Any]) -> None:
-    """Write a result that was not judged into a folder of results."""
+    """Write the result of a pair that was not judged into a folder of results."""
     with open_result(path) as file:
         file.write(result_bytes(result))
 
 
 def read_result(path: str) -> dict[str, Any] | None:
-    """Read the result in a file, as not judged if the file can't be read, has another format, or
+    """Read the result in a file. It is not judged if the file can't be read, has another format or
     does not match the schema. Return `None` if the file is not a result."""
     name = os.path.basename(path).removesuffix(ENDING)
     try:
@@ -165,7 +165,7 @@ def read_result(path: str) -> dict[str, Any] | None:
 
 
 def read_json(path: str) -> object:
-    """Read the JSON value in a file; raise `ValueError` if it is too large."""
+    """Return the JSON value in a file; raise `ValueError` if the value is too large."""
     data = read_bounded_bytes(path, MAX_RESULT_BYTES, is_followed=False)
     if sum(map(data.count, (b",", b"{", b"["))) > MAX_VALUES:
         raise ValueError(f"it has more than {MAX_VALUES:,} values")
@@ -178,20 +178,20 @@ def parse_number(digits: str) -> int:
 
 
 def refuse_constant(text: str) -> int:
-    """Raise `ValueError` for a number that no result has, for example `NaN`."""
+    """Raise `ValueError` for a JSON constant that results never contain, for example `NaN`."""
     raise ValueError(f"{text[:MAX_DIGITS]} is not a number that a result can have")
 
 
 def describe_error(reason: Exception) -> str:
-    """Return the message of an exception in one line."""
+    """Return the message of an exception on one line."""
     return format_error(reason) if isinstance(reason, (Stop, OSError)) else \
         " ".join(str(reason).split())
 
 
 def read_call_result(path: str, name: str, exit_status: int, messages: Sequence[str]) \
         -> dict[str, Any]:
-    """Return the result that a process wrote. If it does not match the exit status, return `not
-    judged` with the last message of the process."""
+    """Read the result that a process wrote. If it does not match the exit status, return a result
+    `not judged` with the last message of the process."""
     result = read_result(path) if os.path.exists(path) else None
     if result is not None and matches_exit_status(result["verdict"], result["status"], exit_status):
         return result
@@ -202,7 +202,7 @@ def read_call_result(path: str, name: str, exit_status: int, messages: Sequence[
 
 
 def make_row(result: dict[str, Any], name: str) -> Row:
-    """Return the row of a table for a result."""
+    """Return the table row for a result."""
     if "request" not in result:
         return Row(name, name, result["verdict"], result["status"], result["reason"], 0, {}, [],
                    0.0, "")
@@ -218,7 +218,7 @@ def make_row(result: dict[str, Any], name: str) -> Row:
 
 
 def describe_clock(result: dict[str, Any]) -> str:
-    """Return the note about a clock that was estimated; empty if all clocks were given."""
+    """Return a note on a clock that was estimated; an empty text if all clocks were given."""
     clocks = [part["clock"] and part["clock"]["source"] for part in result["parts"]]
     return NO_CLOCK if clocks[:1] == [RECORDING] else LATER_CLOCK if RECORDING in clocks else ""
 
@@ -243,7 +243,7 @@ def count_row_causes(result: dict[str, Any]) -> dict[str, int]:
 
 
 def read_results(folder: str) -> Iterator[tuple[str, dict[str, Any] | None]]:
-    """Yield the JSON files of a folder, sorted by name, with their results."""
+    """Yield the JSON results in a folder with their files, sorted by name."""
     for file in sorted(os.listdir(folder)):
         path, name = os.path.join(folder, file), file.removesuffix(ENDING)
         if name != file and not file.startswith(".") and os.path.isfile(path):
@@ -255,7 +255,7 @@ def sort_rows(rows: dict[str, Row]) -> list[Row]:
     return [rows[name] for name in sorted(rows)]
 
 
-# Checking whether a result is up to date.
+# Checking whether a result is up to date
 
 def format_change_time(stat_result: os.stat_result) -> str:
     """Return the UTC time of a file's last change, in nanoseconds."""
@@ -278,17 +278,16 @@ def describe_inputs(request: Request) -> dict[str, Any]:
 
 
 def is_current(result: dict[str, Any], request: Request, program: ProgramInfo) -> bool:
-    """Return whether a pair has the same options and unchanged files, and would be judged by the
-    same version of program and tools."""
+    """Return whether a pair has the same options and unchanged files as in its result, and would be
+    judged by the same version of the program and the tools."""
     return "request" in result and result["request"] == REQUEST.made(request) \
         and result["files_at_start"] == describe_inputs(request) \
         and result["program"]["sha256"] == program.sha256 \
         and result["program"]["version"] == program.version
 
 
-# CSV. A file about many pairs has a line for each pair and each fault; a file about one pair has a
-# line for the pair and each subtitle. A column is named after its object and key in the JSON
-# result.
+# CSV files. With many pairs, a file has a line for each pair and each fault; with one pair, a line
+# for the pair and for each subtitle. Columns are named after object and key in the JSON result.
 
 SUBTITLE_COLUMNS = ["subtitle_number", "subtitle_begin", "subtitle_end"]
 FAULT_COLUMNS = ["part", "number", "name", "severity", "file", "block", *SUBTITLE_COLUMNS, "byte",
@@ -300,17 +299,17 @@ PAIR_COLUMNS = ["verdict", "status", "reason"]
 POSITION_COLUMNS = ["subtitle_position", "cause_subtitle_position"]
 PART_COLUMNS = ["part_pid", "part_packet_size", "part_pes"]
 COUNT_COLUMNS = ["subtitle_counts_judged", "subtitle_counts_refused"]
-FORMULA_BEGINNINGS = ("=", "+", "-", "@", "\t", "\r")  # in spreadsheets
+FORMULA_BEGINNINGS = ("=", "+", "-", "@", "\t", "\r")  # first characters of spreadsheet formulas
 FILE_COLUMNS = ["stl", "recording"]
 COLUMNS = [*FILE_COLUMNS, *FAULT_COLUMNS, *PAIR_COLUMNS, *CAUSE_COLUMNS, *POSITION_COLUMNS,
            "sentence", *PART_COLUMNS, *COUNT_COLUMNS]
 CUE_COLUMNS = [*FILE_COLUMNS, *(member.name for member in CUE.members)]
 
-Columns = dict[str, object]  # values by column; a missing column is empty
+Columns = dict[str, object]  # values by column name; a missing column is empty
 
 
 def format_cell(cell: Members | None) -> str:
-    """Format a page cell as its code and, if it has one, its character."""
+    """Format a cell of a page: its code and, if there is one, its character."""
     if cell is None:
         return ""
     code: str = cell["code"]
@@ -318,12 +317,12 @@ def format_cell(cell: Members | None) -> str:
 
 
 def object_columns(name: str, members: Members | None) -> Columns:
-    """Return the columns of a named object, one for each member."""
+    """Return the columns for an object in the JSON result, one for each member."""
     return {f"{name}_{key}": value for key, value in (members or {}).items()}
 
 
 def part_columns(parts: Sequence[dict[str, Any]], number: int | None) -> Columns:
-    """Return the columns of a part; if `number` is `None`, those of the only part."""
+    """Return the columns for part `number`; if `number` is `None`, for the only part."""
     numbered_parts = [part for part in parts if part["part"] == number or number is None]
     if len(numbered_parts) != 1:
         return {}
@@ -332,7 +331,7 @@ def part_columns(parts: Sequence[dict[str, Any]], number: int | None) -> Columns
 
 
 def pair_columns(result: dict[str, Any]) -> Columns:
-    """Return the columns of a pair."""
+    """Return the columns for a pair."""
     pair = {name: result[name] for name in PAIR_COLUMNS}
     if "request" not in result:
         return {"stl": result["name"], **pair}
@@ -343,7 +342,7 @@ def pair_columns(result: dict[str, Any]) -> Columns:
 
 
 def fault_columns(pair: Columns, parts: Sequence[dict[str, Any]], fault: Members) -> Columns:
-    """Return the columns of a fault, with those of its pair and part."""
+    """Return the columns for a fault, with the columns for its pair and part."""
     cause = fault["cause"]
     return {**pair, **part_columns(parts, fault["part"]), **fault,
             **object_columns("subtitle", fault["subtitle"]), **object_columns("cause", cause),
@@ -352,7 +351,7 @@ def fault_columns(pair: Columns, parts: Sequence[dict[str, Any]], fault: Members
 
 
 def subtitle_lines(verdict: Verdict) -> Iterator[bytes]:
-    """Yield the lines of a CSV file about one pair: its verdict, then its subtitles."""
+    """Yield the lines of a CSV file about one pair: the verdict, then the subtitles."""
     files: Columns = {"stl": verdict.request.stl, "recording": verdict.request.recording}
     pair: Columns = {**files, "verdict": verdict.word,
                    "reason": verdict.unjudged_reason or verdict.sentence}
@@ -375,7 +374,7 @@ def column_lines(rows: Iterable[Columns], columns: Sequence[str]) -> Iterator[st
 
 
 def table_value(value: object) -> object:
-    """Escape control characters in a text, and put an apostrophe before a formula."""
+    """Escape control characters in a text, and put an apostrophe before a spreadsheet formula."""
     if not isinstance(value, str):
         return value
     text = escape_hidden_lines(value)
@@ -389,14 +388,14 @@ def table_lines(results: Iterable[dict[str, Any]]) -> Iterator[bytes]:
 
 
 def column_rows(result: dict[str, Any]) -> Iterator[Columns]:
-    """Yield the columns of a pair, then those of each fault."""
+    """Yield the columns for a pair, then the columns for each of its faults."""
     pair = pair_columns(result)
     yield pair
     for fault in result["faults"] if "request" in result else ():
         yield fault_columns(pair, result["parts"], fault)
 
 
-# JUnit files.
+# JUnit files
 
 class TestCase(NamedTuple):
     """A pair as a test case.
@@ -431,7 +430,7 @@ def make_element(case: TestCase) -> tree.Element:
 
 
 def junit_file(cases: Sequence[TestCase], date: str) -> bytes:
-    """Return the JUnit file for some pairs."""
+    """Return the JUnit file with a test case for each pair."""
     def count(kind: str) -> str:
         return str(sum(case.status != 0 and (case.verdict == NOT_JUDGED) == (kind == "errors")
                        for case in cases))

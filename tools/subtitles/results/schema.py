@@ -131,14 +131,14 @@ CLOCK_OF_PART = Record(
 
 
 class PartResult(NamedTuple):
-    """A part, and whether its judged PES packets stay in a folder."""
+    """A part of the recording, and whether its judged PES packets are kept."""
 
     part: Part
     is_kept: bool
 
     @property
     def judged_file(self) -> dict[str, object] | None:
-        """The judged PES packets of a feed; without a name unless they are kept."""
+        """The file of judged PES packets from a feed; it has a name only if it is kept."""
         file = self.part.judged_file
         return file and {**file._asdict(), **({} if self.is_kept else {"name": None})}
 
@@ -268,14 +268,14 @@ COUNTS = Record(
            "subtitle or come after it."))
 
 FORMAT = 7
-MAX_LISTED = 20_000  # items of a list
-MAX_SUBTITLES = 100_000  # a subtitle file has 99,999 blocks at most
+MAX_LISTED = 20_000  # maximum number of items in a list
+MAX_SUBTITLES = 100_000  # maximum; a subtitle file has at most 99,999 blocks
 MAX_SECONDS = 10 ** 9
 Value = object
 
 
 class ResultSource(NamedTuple):
-    """What a result is made from: the verdict and the program."""
+    """The verdict and the program from which a result is made."""
 
     verdict: Verdict
     program: ProgramInfo
@@ -304,13 +304,13 @@ def list_subtitle_rows(verdict: Verdict) -> Iterator[dict[str, Value]]:
 
 
 def add_known(numbers: list[int | None]) -> int | None:
-    """Return the sum; `None` if a number is unknown."""
+    """Return the sum of some numbers, or `None` if one of them is unknown."""
     known = [number for number in numbers if number is not None]
     return sum(known) if known and len(known) == len(numbers) else None
 
 
 def sum_parts(known: ResultSource, name: str) -> int | None:
-    """Return the sum of a count over all parts."""
+    """Return the sum of a count over all parts, or `None` if it is unknown."""
     return add_known([getattr(part.check_output, name) for part in known.verdict.parts])
 
 
@@ -322,14 +322,14 @@ INPUTS = Record("inputs", "The files as they were read.",
 CAUSE_COUNTS = Record("cause_counts", "The number of causes for each name.", *(
     Member(name, COUNT) for name in CAUSE_NAMES))
 
-# Verdict, status, last line and reason belong together.
+# Allowed combinations of verdict, status, last line and reason
 TEXT, NOTHING = Text(least=1), OneOf(None)
 TOGETHER = Rules([
     {"verdict": OneOf(word), "status": OneOf(status),
      "line": NOTHING if word == NOT_JUDGED else TEXT,
      "worst_fault": NOTHING if word == NOT_JUDGED else TEXT,
      "reason": TEXT if word == NOT_JUDGED else NOTHING} for word, status in POSSIBLE_RESULTS])
-# Without a clock nothing is accepted or waived; `relative` has status 0 only with --relative.
+# Without a clock no pair is accepted or waived. Only --relative gives `relative` status 0.
 HAS_CLOCK = Rules([{"origin": PTS}, {"start": TEXT}, {"recording": NOTHING}])
 IS_ALLOWED = Rules([{"relative": OneOf(True)}])
 TIMED = Rules([
@@ -338,7 +338,7 @@ TIMED = Rules([
     {"verdict": OneOf(RELATIVE), "status": OneOf(STATUSES[RELATIVE])},
     {"verdict": OneOf(RELATIVE), "request": IS_ALLOWED}])
 
-# The lists, written item by item; `omitted` counts the rest of each.
+# The lists, which are written item by item. The member `omitted` counts their missing items.
 LISTS = (
     Member("parts", Listed(JUDGED_PART, MAX_LISTED), "The parts. Each has its own clock "
            "and verdict. Frames between parts are not judged.",
@@ -428,7 +428,7 @@ BATCH = Record(
 
 
 def find_misfit(known: object) -> str | None:
-    """Return where a value does not match the schema of a pair's result; `None` if it does."""
+    """Return where a value does not match the schema of a pair's result, or `None`."""
     is_pair = isinstance(known, dict) and "request" in known
     return (VERDICT if is_pair else NO_PAIR).misfit(known)
 
