@@ -345,13 +345,13 @@ class ForkedPairs(Case):
 
     def test_kills_a_pair_ten_seconds_after_it_was_stopped(self) -> None:
         for seconds, ended in ((59.9, []), (60, ["stop"]), (69.9, ["stop"]), (70, ["kill"])):
-            call = mock.Mock()
-            call.cpu_seconds.return_value = seconds
-            with mock.patch.object(self.calls, "running", {call: mock.Mock(limit=60)}), \
+            calls = [mock.Mock(**{"cpu_seconds.return_value": used}) for used in (seconds, 0)]
+            running = {call: mock.Mock(limit=60) for call in calls}
+            with mock.patch.object(self.calls, "running", running), \
                     mock.patch.object(batch, "wait_for_any", return_value=[]):
                 self.must("no row", not [*self.calls.finished_rows(0)])
-            self.check(f"{seconds} seconds", [
-                one for one in ("stop", "kill") if getattr(call, one).called], ended)
+            self.check(f"{seconds} seconds", ([one for one in ("stop", "kill") if getattr(
+                calls[0], one).called], calls[1] in self.calls.over_limit), (ended, False))
 
     def test_limits_the_time_by_the_size_of_the_files(self) -> None:
         for sizes, wanted in (((None, None), 60), ((0, 9_999_999), 60), ((1, 9_999_999), 61),
