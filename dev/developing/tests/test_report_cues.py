@@ -8,7 +8,7 @@ from developing.stl import make_gsi_block
 from subtitles.common.times import Span, Spans
 from subtitles.formats.stl import NamedSubtitle, Subtitle, SubtitleFile
 from subtitles.judging.causes import Cause, LATE, NEVER, NOT_RECEIVED, UNKNOWN_CAUSE, WRONG_TEXT
-from subtitles.judging.cues import Cue, CueJudge, find_decoded_times
+from subtitles.judging.cues import Cue, CueJudge, CueVerdict, find_decoded_times
 from subtitles.judging.status import (
     ACCEPTED, LOST, NOT_JUDGED, REFUSED, RELATIVE, WAIVED, WARNED)
 from subtitles.judging.transmissions import ExpectedPages
@@ -128,6 +128,17 @@ class TextMarkup(Case):
         text = markup_text(CueList.make_list(made))
         self.check("rows", (text.count('class="bad"'), text.count('class="bad more"')), (200, 3))
         self.must("texts", "203 right subtitles" in text and "and 3 more rows" in text, text[:900])
+
+    def test_prints_the_first_of_equal_neighbours(self) -> None:
+        subtitle = Subtitle(1, 1, 100, 200, 20, 2, b"")
+        causes = [Cause(0, name, frames, None, None, "", 0) for name, frames in (
+            (LATE, 1), (LATE, 1), (LATE, 2), (NEVER, None), (NEVER, None))]
+        made: Any = SimpleNamespace(
+            cues=[Cue(subtitle, BLANK_PAGE, cause) for cause in (*causes, None, None)],
+            judge=SimpleNamespace(judge=lambda _: CueVerdict("wrong")), cells=lambda *_: [],
+            part=SimpleNamespace(recording="one.pes"))
+        self.check("repeated", [row[-1] for row in CueList.make_judged_rows(made)],
+                   [False, True, False, False, True, False, False])
 
     def test_writes_numbers_with_their_signs(self) -> None:
         self.must("signs", [format_signed(one) for one in (None, 0, 12, -3)] ==
