@@ -12,8 +12,8 @@ due                faults of a subtitle file, and the expected pages
 on_air             the page that a receiver decodes, and the rules for packets
 ends               faults at the ends of frames
 definitions        all faults of a pair of files, as lines
-trust              which frames are trusted in spite of faults
-told               lines and names of faults
+trust              frames that are trusted in spite of faults
+told               the printed lines and the names of faults
 recordings         PES packets of a transport stream, and ranges of them
 
 For other commands:
@@ -25,19 +25,19 @@ calls              calls of the program, and their expected output
 Examples with a known result:
 
 known              pairs of files that no test of the crates has
-within             pairs with late pages, or headers that keep the page
-one_file           pairs at bounds of subtitle files that random pairs do not reach
+within             pairs with late pages, or with headers that do not erase the page
+one_file           pairs at limits of subtitle files that random pairs do not reach
 one_rule           pairs of files that break one rule
 recorded           calls about transport streams and ranges of PES packets
-carried_laws       promises about recordings, on random streams
+carried_laws       properties of recordings, on random streams
 
 Random examples:
 
 pairs              pairs of files with faults
-broadcasters       layouts, parts, headers that keep the page, refused subtitles
+broadcasters       layouts, time ranges, headers that keep the page, refused subtitles
 broken             transmissions with faults
 late               late transmissions, in two fields, with inexact PTS
 streams            transport streams with losses and faults
-random_calls       calls about these
-trying             calls the program, and compares
+random_calls       calls on random transport streams
+trying             call the program, and compare its output
 """

@@ -1,4 +1,4 @@
-"""Parse the arguments of commands, and find their faults."""
+"""Parse the arguments of commands, and report usage faults."""
 from __future__ import annotations
 
 import re
@@ -13,21 +13,21 @@ MAX_WITHIN = 50
 COMPLETE, OPEN, KEEPING = FLAGS = "--complete", "--open", "--keeping"
 DEFAULTS = {"--page": "888", "--every": "250", "--origin": "0", "--option": "english",
             "--within": "0", "--packet-size": "188", "--pes": "0-"}
-MAX_PID = 8190  # PID 8191 is for null packets
+MAX_PID = 8190  # null packets use PID 8191
 
 
 class UsageFault(Exception):
-    """The number and name of the first fault in the arguments."""
+    """Raised for the first fault in the arguments, with its number and name."""
 
 
 class Options(NamedTuple):
     """The options of `check`.
 
-    `within` is the number of frames by which a page may be late. With a PID the file is a transport
-    stream with a packet every `size` bytes. Only the PES packets from `first` to `last` (`None`: to
-    the end) are read, and only subtitles with a TCI from `from_frame` on and before `to_frame` are
-    used; `is_open` allows open subtitles. Headers may keep the page if `may_keep`; `pace` is the
-    largest number of frames between PES packets.
+    `within` is the number of frames by which a page may be late. If `pid` is set, the file is a
+    transport stream with a packet every `size` bytes. `first` and `last` limit the PES packets
+    (`None`: no limit); `from_frame` and `to_frame` limit the TCI of subtitles. `is_open` accepts
+    open subtitles, `may_keep` headers that keep the page. `pace` is the largest number of frames
+    between PES packets.
     """
 
     page: Page
@@ -49,19 +49,19 @@ class Options(NamedTuple):
 
 
 def parse_number(text: str) -> int | None:
-    """Parse a number of one to ten decimal digits; return `None` for other text."""
+    """Parse a number of one to ten decimal digits. Return `None` for any other text."""
     return int(text) if re.fullmatch(r"[0-9]{1,10}", text) else None
 
 
 def parse_pid(text: str) -> int | None:
-    """Parse a PID, decimal or hexadecimal after 0x; return `None` for other text."""
+    """Parse a PID: decimal, or hexadecimal after 0x. Return `None` for any other text."""
     is_hexadecimal = re.fullmatch(r"0x[0-9A-Fa-f]{1,8}", text)
     pid = int(text, 16) if is_hexadecimal else parse_number(text)
     return None if pid is None or pid > MAX_PID else pid
 
 
 def parse_arguments(arguments: list[str]) -> dict[str, str]:
-    """Return option values by name, with defaults. A repeated option is a fault."""
+    """Return the option values by name, with defaults. Raise `UsageFault` for a repeated option."""
     parts = [part for word in arguments for part in (
         word.split("=", 1) if word.startswith("--") else [word]) if word not in FLAGS]
     names = parts[::2]
@@ -71,7 +71,7 @@ def parse_arguments(arguments: list[str]) -> dict[str, str]:
 
 
 def parse_options(arguments: list[str]) -> Options:
-    """Parse the options of `check`. Raise the first `UsageFault`."""
+    """Parse the options of `check`. Raise `UsageFault` for the first fault."""
     given = parse_arguments(arguments)
     page, option = given["--page"], given["--option"]
     every, origin, within = (
@@ -109,7 +109,7 @@ def parse_options(arguments: list[str]) -> Options:
 
 
 def parse_range(text: str) -> tuple[int, int | None]:
-    """Parse a range of PES packets; the last is `None` for no end."""
+    """Parse a range of PES packets. The second number is `None` if the range has no end."""
     found = re.fullmatch(r"([0-9]{1,10})-([0-9]{1,10})?", text)
     if not found or found[2] and int(found[1]) > int(found[2]):
         raise UsageFault("88 Range")

@@ -1,7 +1,7 @@
-"""Make random options and transmissions of a broadcaster, beyond page and repeat bound.
+"""Make random options and transmissions with properties of broadcasters.
 
-They concern text layouts, parts of the file, headers that keep the page, the largest distance of
-PES packets, and refused subtitles that are transmitted all the same.
+They vary the text layout, the time range, headers that keep the page, the largest distance between
+PES packets, and refused subtitles in a transmission.
 """
 from __future__ import annotations
 
@@ -23,7 +23,7 @@ CODES = [0x0A, 0x0B, 0x0B, 0x0D, 0x07, 0x03, 0x01, 0x0C]
 WRONG_LAYOUTS = ["", "fit,fit", "Fit", "before=0", "left=40", "after=0A*", "row=+1", "strip=20"]
 WRONG_PACES = ["0", "2160001", "", "x", "+1", "00000000001"]
 WRONG_TIMES = ["", "24:00:00:00", "1:00:00:00", "10:00:00:25", "10:00:00"]
-SUBCODE, S2_C4, S4_C6 = 4, 5, 7  # offsets in a page header
+SUBCODE, S2_C4, S4_C6 = 4, 5, 7  # offsets of fields in a page header
 
 
 def make_codes(rng: Random, most: int, some: list[int]) -> str:
@@ -56,7 +56,7 @@ def split_blocks(stl: bytes) -> list[bytearray]:
 
 
 def make_part_options(rng: Random, stl: bytes) -> list[str]:
-    """Return --from and --to with times near the start of some subtitles."""
+    """Return --from and --to options with times near the start of subtitles."""
     arguments: list[str] = []
     begins = [frame for block in split_blocks(stl)
               if (frame := frame_of_code(bytes(block[5:9]))) is not None] or [0]
@@ -70,12 +70,12 @@ def make_part_options(rng: Random, stl: bytes) -> list[str]:
 
 
 def mark_as_open(stl: bytes, rng: Random) -> bytes:
-    """Set the display code of a subtitle file to open subtitles, rarely to another code."""
+    """Change the display code of a subtitle file to open subtitles, rarely to another value."""
     return stl[:DISPLAY_CODE] + rng.choice([b"0", b"0", b" ", b"3"]) + stl[DISPLAY_CODE + 1:]
 
 
 class RepeatSettings(NamedTuple):
-    """Probabilities for repeated pages: a header keeps the page, or its rows change."""
+    """Probabilities that headers of new or repeated pages keep the page, and that rows change."""
 
     repeat_probability: float
     change_probability: float
@@ -84,7 +84,7 @@ class RepeatSettings(NamedTuple):
 
 
 def change_header(rng: Random, teletext: list[bytes], subcode: int, keeps_page: bool) -> None:
-    """Set the subcode of the first header; clear C4 if it keeps the page, and rarely C6 too."""
+    """Set the subcode of the first header. If `keeps_page`, clear C4, and rarely C6 too."""
     head = bytearray(teletext[0])
     head[SUBCODE] = CODE_WORDS[subcode]
     if keeps_page:
@@ -95,7 +95,7 @@ def change_header(rng: Random, teletext: list[bytes], subcode: int, keeps_page: 
 
 
 def change_page_body(rng: Random, teletext: list[bytes]) -> None:
-    """Change the packets after a header: remove or add rows, change a byte, and so on."""
+    """Change the packets after a header: for example, remove rows, add rows or change a byte."""
     at, way = rng.randrange(1, len(teletext)), rng.randrange(9)
     one = bytearray(teletext[at])
     if way < 3:
@@ -109,7 +109,7 @@ def change_page_body(rng: Random, teletext: list[bytes]) -> None:
     elif way == 5:
         text = rng.choice([b" " * 40, bytes(rng.choices(LETTERS, k=40))])
         teletext.insert(at, teletext_packet(0, rng.randrange(1, 25), [], text))
-    elif way == 6:  # the closing header comes early or is missing
+    elif way == 6:  # move the closing header to an earlier place
         teletext.insert(rng.randrange(len(teletext)), teletext.pop())
     elif way == 7:
         teletext.pop()
@@ -118,7 +118,7 @@ def change_page_body(rng: Random, teletext: list[bytes]) -> None:
 
 
 def keep_pages(rng: Random, pes: bytes) -> bytes:
-    """Clear C4 of headers, usually in repeats; rarely change the rows or the subcode too."""
+    """Clear C4 in headers, usually of repeated pages. Rarely change rows or the subcode too."""
     packets: list[bytes] = []
     previous_packets: list[bytes] = []
     repeats = RepeatSettings(rng.choice([0.3, 0.9, 1.0]), rng.choice([0, 0, 0, 0.08, 1.0]),
@@ -143,7 +143,7 @@ def keep_pages(rng: Random, pes: bytes) -> bytes:
 
 
 def spoil_subtitles(rng: Random, stl: bytes) -> bytes:
-    """Add a fault to one or two subtitles: in the text, a field of a block, or the order."""
+    """Add a fault to one or two subtitles: in the text, in a block's field, or in the order."""
     blocks = split_blocks(stl)
     for _ in range(rng.choice([1, 1, 2])):
         if not blocks:
@@ -155,7 +155,7 @@ def spoil_subtitles(rng: Random, stl: bytes) -> bytes:
         elif way == 2:
             field, value = rng.choice([(14, 4), (4, 1), (8, 25), (12, 25), (9, 23), (13, 24)])
             block[field] = value
-        elif way == 3:  # the subtitle ends during the next one, or after it
+        elif way == 3:  # the subtitle ends during or after the next subtitle
             tco = frame_of_code(bytes(block[9:13])) or 0
             block[9:13] = encode_time_code(min(tco + rng.randrange(1, 90), FRAMES_OF_A_DAY - 1))
         elif way == 4:

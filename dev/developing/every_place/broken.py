@@ -1,4 +1,4 @@
-"""Break random transmissions: bytes, Teletext packets, PES packets, their order and length."""
+"""Add faults to random transmissions: in bytes, Teletext packets, PES packets, order and length."""
 from __future__ import annotations
 
 import io
@@ -11,7 +11,7 @@ from subtitles.common.times import CLOCK, FRAMES_OF_A_DAY, TICKS
 from subtitles.formats.teletext import CODE_WORDS
 
 PACKET_OFFSET = 4  # offset of the Teletext packet in a data unit
-MAX_PACKETS = 16  # Teletext packets that `make_pes_packet` can hold
+MAX_PACKETS = 16  # maximum number of Teletext packets in a made PES packet
 LETTERS = b"ABCDEFGHIJKLMNOPQRSTUVWXYZabcdefghijklmnopqrstuvwxyz 0123456789.,?!'"
 
 
@@ -21,12 +21,12 @@ def find_units(packet: bytes | bytearray) -> list[int]:
 
 
 def read_teletext(packet: bytes | bytearray) -> list[bytes]:
-    """Return the Teletext packets of a PES packet."""
+    """Return the Teletext packets in a PES packet."""
     return [reverse_bits(bytes(packet[at + PACKET_OFFSET:at + UNIT])) for at in find_units(packet)]
 
 
 def make_random_header(rng: Random) -> bytes:
-    """Return a header for the page, another page or another magazine, with random control bits."""
+    """Return a header of the page, another page or another magazine, with random control bits."""
     units, tens = rng.choice([8, 8, 15]), rng.choice([8, 8, 15])
     numbers = [units, tens, 0, rng.choice([8, 8, 0]), 0, rng.choice([8, 8, 12]),
                rng.choice([1, 1, 9]), rng.choice([0, 0, 8, 1])]
@@ -34,26 +34,26 @@ def make_random_header(rng: Random) -> bytes:
 
 
 def make_random_packet(rng: Random) -> bytes:
-    """Return a header, a row, or an enhancement packet."""
+    """Return a random header, row or enhancement packet."""
     if rng.random() < 0.4:
         return make_random_header(rng)
     number = rng.choice([1, 22, 23, 24, 25, 26, 27, 28, 29, 30])
     return teletext_packet(rng.choice([0, 0, 0, 2]), number, [], rng.choices(LETTERS, k=40))
 
 
-# Kinds of changes to a PES packet; a frequent kind occurs several times.
+# Kinds of changes to a PES packet. Frequent kinds occur several times.
 CHANGE_KINDS = ["bit", "bit", "code", "code", "code", "drop", "add", "add", "enhancement", "swap",
                 "frame", "byte", "field"]
 
 
 def change_pes_packet(way: str, rng: Random, packet: bytearray) -> None:
-    """Change a PES packet with Teletext in the given way."""
+    """Change a PES packet with Teletext. `way` is one of CHANGE_KINDS."""
     units, teletext = find_units(packet), read_teletext(packet)
     if way == "bit":
         at = rng.choice(units)
         place = rng.choice([rng.randrange(2), rng.randrange(10), rng.randrange(42)])
         packet[at + PACKET_OFFSET + place] ^= 1 << rng.randrange(8)
-    elif way == "code":  # a byte of an address or header, or a character of a row
+    elif way == "code":  # a byte of a header, or a character of a row
         at = rng.choice(units) + PACKET_OFFSET
         place = rng.choice([rng.randrange(2, 10), rng.randrange(10, 42)])
         code = rng.choice([CODE_WORDS[rng.randrange(16)],
@@ -65,10 +65,10 @@ def change_pes_packet(way: str, rng: Random, packet: bytearray) -> None:
     elif way == "add" and len(teletext) < MAX_PACKETS:
         add_packet(rng, teletext)
         packet[:] = make_pes_packet(decode_pts(packet), teletext)
-    elif way == "enhancement" and len(teletext) < MAX_PACKETS:  # X/25 to X/28, placed second
+    elif way == "enhancement" and len(teletext) < MAX_PACKETS:  # X/25 to X/28 as the second one
         teletext[1:1] = [teletext_packet(0, rng.randrange(25, 29), [], b" " * 40)]
         packet[:] = make_pes_packet(decode_pts(packet), teletext)
-    elif way == "swap":  # a row before its header, or rows after the closing header
+    elif way == "swap":  # swap two packets, for example a row and its header
         one, other = (rng.choice(units) + PACKET_OFFSET for _ in range(2))
         end = UNIT - PACKET_OFFSET
         packet[one:one + end], packet[other:other + end] = \
@@ -83,10 +83,10 @@ def change_pes_packet(way: str, rng: Random, packet: bytearray) -> None:
 
 
 def change_field(rng: Random, packet: bytearray) -> None:
-    """Flip a bit of the flags, header length, PTS or data_identifier, or of a data unit."""
+    """Flip a bit in a field of the PES header or of a data unit."""
     unit = rng.choice(find_units(packet))
     at = rng.choice([6, 7, 8, 9, DATA - 1, unit, unit + 1, unit + 2, unit + 3])
-    # Rarely change a high bit of the PTS: the checker visits each frame of the skipped hours.
+    # Rarely change a high bit of the PTS: the checker then checks each frame of the skipped hours.
     bits = [0, 4, 5, 6, 7] if at == 9 and rng.random() < 0.9 else range(8)
     packet[at] ^= 1 << rng.choice(bits)
 
@@ -103,7 +103,7 @@ def add_packet(rng: Random, teletext: list[bytes]) -> None:
 
 
 def shift_pts(packet: bytearray, ticks: int) -> None:
-    """Move the PTS of a PES packet by some ticks."""
+    """Add ticks to the PTS of a PES packet."""
     packet[9:14] = encode_pts((decode_pts(packet) + ticks) % CLOCK)
 
 
@@ -124,7 +124,7 @@ def change_order(rng: Random, packets: list[bytearray]) -> None:
 
 
 def change_packets(rng: Random, packets: list[bytearray]) -> None:
-    """Change one PES packet, or several consecutive ones in the same way."""
+    """Change one or several consecutive PES packets in the same way."""
     ways = [(rng.choice(CHANGE_KINDS), rng.random()) for _ in range(rng.choice([1, 1, 1, 2, 3]))]
     first = rng.randrange(len(packets))
     count = rng.choice([1, 1, 1, 2, 3, len(packets)])
@@ -134,13 +134,13 @@ def change_packets(rng: Random, packets: list[bytearray]) -> None:
                 change_pes_packet(way, Random(seed), packet)
 
 
-# Bits that make a PES packet unreadable: offset in its head or in a data unit, and mask.
+# Bits that make a PES packet unreadable: offset in the packet or in a data unit, and bit mask.
 HEAD_BITS = [(6, 0xC0), (7, 0x40), (7, 0x80), (8, 1), (9, 0x10), (11, 1), (13, 1), (DATA - 1, 0x30)]
 UNIT_BITS = [(1, 1), (1, 0x80), (3, 1), (2, 0x1E), (2, 0x20)]
 
 
 def damage_packet(rng: Random, packet: bytearray) -> None:
-    """Make a PES packet unreadable, or move its PTS between frames; sometimes do both."""
+    """Make a PES packet unreadable, or move its PTS to another frame, or both."""
     for _ in range(rng.choice([1, 1, 1, 1, 2])):
         way = rng.random()
         if way < 0.25:
@@ -154,7 +154,7 @@ def damage_packet(rng: Random, packet: bytearray) -> None:
 
 
 def damage_packets(rng: Random, packets: list[bytearray]) -> None:
-    """Damage several consecutive PES packets, all in the same way or each in its own.
+    """Damage several consecutive PES packets, either in the same way or in different ways.
 
     Some packets may stay intact, and an earlier packet may be repeated next to them.
     """
@@ -181,7 +181,7 @@ def damage_head(rng: Random, packets: list[bytearray]) -> None:
 
 
 def break_transmission(rng: Random, data: bytes) -> bytes:
-    """Change some packets of a transmission, or the order of its packets, or its length."""
+    """Change some packets of a transmission, or their order, or the length of the transmission."""
     packets = list(map(bytearray, read_pes_packets(io.BytesIO(data))))
     for _ in range(rng.choice([0, 1, 1, 2, 3, 6, 12])):
         if packets:

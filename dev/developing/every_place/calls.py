@@ -1,4 +1,4 @@
-"""Calls of the program, and their output by the second implementation."""
+"""Calls of the program, and their expected output from the second implementation."""
 from __future__ import annotations
 
 import shlex
@@ -15,7 +15,7 @@ ALL = "--all"
 
 
 class Answer(NamedTuple):
-    """The printed lines, and the written file, if any. The last line implies the status."""
+    """The printed lines, and the written file, if any. The last line determines the exit status."""
 
     lines: list[str]
     written: bytes | None = None
@@ -44,18 +44,18 @@ class KnownCall(NamedTuple):
 
 def make_check_call(stl: bytes, pes: bytes, arguments: str, is_failing: bool = False,
                     name: str = "") -> Call:
-    """Return a call of `check --all` for a pair of files."""
+    """Return a call of `check --all` for a subtitle file and a PES file or transport stream."""
     return Call(name, "check", (stl, pes), f"{arguments} {ALL}".lstrip(), is_failing)
 
 
 def make_known_check(name: str, stl: bytes, pes: bytes, arguments: str, lines: list[str],
                      is_failing: bool = False) -> KnownCall:
-    """Return a call of `check --all` for a pair of files, with the expected output."""
+    """Return a call of `check --all` with its expected output."""
     return KnownCall(make_check_call(stl, pes, arguments, is_failing, name), Answer(lines))
 
 
 def add_first_fault_call(call: Call, answer: Answer) -> Iterator[KnownCall]:
-    """Yield a call with its output; after `check --all` also yield `check` for the same files."""
+    """Yield a call with its output. For `check --all`, also yield `check` with the same files."""
     yield KnownCall(call, answer)
     if ALL in call.options:
         arguments = shlex.join(word for word in call.options if word != ALL)
@@ -82,7 +82,7 @@ def extract_items(data: bytes, options: Options, is_failing: bool) -> Answer:
 
 
 def define_answer(call: Call) -> Answer:
-    """Return the output of a call as the second implementation defines it."""
+    """Return the output of a call according to the second implementation."""
     arguments, data = [word for word in call.options if word not in (ALL, SERIAL)], call.files[-1]
     try:
         if call.command == "extract" and "--pid" not in parse_arguments(arguments):

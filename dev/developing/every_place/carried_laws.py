@@ -1,8 +1,8 @@
-"""Test promises about recordings on random streams.
+"""Test properties of recordings on random streams.
 
-Without losses, all PES packets of a multiplexer are recovered. With losses, each recovered PES
-packet was sent, and a gap marker replaces missing packets. The PES packets in the start of a stream
-are a prefix of those in the complete stream.
+Without losses, all PES packets are recovered. With losses, each recovered PES packet was sent, and
+a gap marker replaces missing packets. The PES packets from the start of a stream are a prefix of
+the PES packets from the complete stream.
 """
 from __future__ import annotations
 
@@ -13,7 +13,7 @@ from .streams import Unit, multiplex, make_random_stream, join_units, lose_units
 
 
 def make_random_packets(rng: Random) -> list[bytes]:
-    """Return PES packets with random lengths and contents, some of them equal."""
+    """Return PES packets with random lengths and contents. Some of them are equal."""
     made: list[bytes] = []
     for _ in range(rng.choice([0, 1, 2, 3, 5, 9])):
         length = 184 * rng.choice([1, 1, 1, 2, 3, 9])
@@ -30,7 +30,7 @@ def choose_pid(rng: Random) -> int:
 
 
 def check_multiplex_law(seed: int) -> str | None:
-    """Return a message if a multiplexer's PES packets are not recovered, else `None`."""
+    """Return a message if not all multiplexed PES packets are recovered, else `None`."""
     rng = Random(seed)
     packets, pid, size = make_random_packets(rng), choose_pid(rng), rng.choice(SIZES)
     units = multiplex(rng, packets, pid, rng.random() < 0.5)
@@ -46,13 +46,13 @@ def is_recovered(units: list[Unit], sent: list[Unit], pes: int) -> bool:
                  if one.pes == pes and one.number is not None and not one.is_wrong]
     if {units[at].number for at in positions} != numbers:
         return False
-    first = {units[at].number: at for at in reversed(positions)}  # the first packet of each number
+    first = {units[at].number: at for at in reversed(positions)}  # first copy of each TS packet
     return not any(one.is_wrong and one.pes is not None
                    for one in units[min(first.values()):max(first.values())])
 
 
 def has_fault_between(units: list[Unit], one: int, other: int) -> bool:
-    """Return whether a faulty packet of the PID lies between the starts of two PES packets."""
+    """Return whether a faulty TS packet of the PID lies between the starts of two PES packets."""
     places = [next(at for at, unit in enumerate(units)
                    if unit.pes == pes and unit.number is not None and not unit.is_wrong)
               for pes in (one, other)]
@@ -60,10 +60,10 @@ def has_fault_between(units: list[Unit], one: int, other: int) -> bool:
 
 
 def check_loss_law(seed: int) -> str | None:
-    """Return a message if lost packets are not reported correctly, else `None`."""
+    """Return a message if lost TS packets are not reported correctly, else `None`."""
     rng = Random(seed)
     pid, size = choose_pid(rng), rng.choice(SIZES)
-    packets = [one[:6] + number.to_bytes(2, "big") + one[8:]  # no two are equal
+    packets = [one[:6] + number.to_bytes(2, "big") + one[8:]  # make all packets different
                for number, one in enumerate(make_random_packets(rng))]
     sent = multiplex(rng, packets, pid, False)
     units = lose_units(rng, sent)
@@ -101,7 +101,7 @@ def find_packet_fault(packets: list[bytes], units: list[Unit], sent: list[Unit],
 
 
 def check_prefix_law(seed: int) -> str | None:
-    """Return a message if the start of a stream has other PES packets than all of it."""
+    """Return a message if the start of a stream gives other PES packets than the stream."""
     rng = Random(seed)
     packets, pid, size = make_random_packets(rng), choose_pid(rng), rng.choice(SIZES)
     data = make_random_stream(rng, packets, pid, size)

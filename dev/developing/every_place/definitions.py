@@ -1,6 +1,6 @@
-"""Compute the lines that `check --all` must print: a second implementation, simple and slow.
+"""Compute the lines of `check --all`: a second implementation, simple and slow.
 
-It stores the list of all Teletext packets, and decodes the page from it at the end of each frame.
+It stores all Teletext packets, and decodes the page from this list at the end of each frame.
 """
 from __future__ import annotations
 
@@ -21,7 +21,7 @@ from .arguments import Options
 class Transmission:
     """The PES packets and gap markers of a file, in order, and their faults.
 
-    `first` is the index of the first one in its file.
+    `first` is the index of the first item in its file.
     """
 
     def __init__(self, due: ExpectedPages, options: Options, first: int) -> None:
@@ -30,15 +30,15 @@ class Transmission:
         self.frames: list[int] = []  # frames of the readable PES packets
         self.packets: list[Packet] = []
         self.headers: list[int] = []  # frames with a header of the page
-        # PES packets of one frame: the last packet, if the frame has not ended; how many Teletext
-        # packets they have; whether the frame is the first one.
+        # The PES packets of the current frame: the index of the last one, the number of their
+        # Teletext packets, and whether this frame is the first.
         self.sending: int | None = None
         self.count, self.is_first = 0, True
-        # The last consecutive unreadable items: their fault, the first and the last item.
+        # The last run of unreadable items: their fault, and the first and last index.
         self.skipped: tuple[int, int, int] | None = None
 
     def describe_place(self, pes: int) -> str:
-        """Return the place of an item as it is printed."""
+        """Return the printed position of an item."""
         return f"pes {self.first + pes}"
 
     def report_fault(self, number: int, place: str, pes: int | None,
@@ -46,12 +46,12 @@ class Transmission:
         self.add_event(Event(format_refused(number, place), number, pes, frame))
 
     def add_event(self, event: Event) -> None:
-        """Add an event; first report the end of the unreadable items before it."""
+        """Add an event, after the end of the preceding unreadable items."""
         self.end_skipped()
         self.event_log.events.append(event)
 
     def skip(self, pes: int, number: int) -> None:
-        """Skip an unreadable item; report it unless the item before has the same fault."""
+        """Skip an unreadable item. Report it unless the previous item has the same fault."""
         self.event_log.skipped.append(pes)
         if self.skipped and (self.skipped[0], self.skipped[2]) == (number, pes - 1):
             self.skipped = number, self.skipped[1], pes
@@ -60,7 +60,7 @@ class Transmission:
             self.skipped = number, pes, pes
 
     def end_skipped(self) -> None:
-        """Report the last of several consecutive unreadable items."""
+        """Report the end of several consecutive unreadable items."""
         if self.skipped and self.skipped[1] < self.skipped[2]:
             number, _, last = self.skipped
             self.event_log.events.append(Event(format_ended(number, self.describe_place(last)),
@@ -68,7 +68,7 @@ class Transmission:
         self.skipped = None
 
     def receive(self, pes: int, frame: int, teletext: list[bytes]) -> None:
-        """Receive a PES packet. If pages may be late, PES packets of one frame belong together."""
+        """Process a PES packet. If pages may be late, PES packets of one frame belong together."""
         if self.options.within == 0 or self.frames[-1:] != [frame]:
             self.end_current_frame()
             self.begin_frame(pes, frame)
@@ -95,7 +95,7 @@ class Transmission:
         self.end_frames(pes, range(max(self.frames) + 1, frame))
 
     def receive_packets(self, pes: int, frame: int, teletext: list[bytes]) -> bool:
-        """Receive Teletext packets; return whether one of them is a header that erases the page."""
+        """Process Teletext packets. Return whether one of them is a header that erases the page."""
         page, has_erased = self.options.page, False
         for one in teletext:
             packet = Packet(one, decode_address(one), decode_header(one))
@@ -109,7 +109,7 @@ class Transmission:
         return has_erased
 
     def end_current_frame(self) -> None:
-        """End the frame of the last PES packet if it has not ended yet."""
+        """End the frame of the last PES packet unless it has already ended."""
         if self.sending is None:
             return
         pes, frame, self.sending = self.sending, self.frames[-1], None
@@ -119,7 +119,7 @@ class Transmission:
         self.end_frames(pes, [frame])
 
     def end_frames(self, pes: int, frames: Iterable[int]) -> None:
-        """End the frames without packets before a PES packet, or the frame of the packet itself."""
+        """End the frame of a PES packet, or the empty frames before a PES packet."""
         decoded, ends = decode(self.packets, self.options), self.ends
         for frame in frames:
             for number, line in ends.at(frame, decoded, self.headers, self.frames):
@@ -129,7 +129,7 @@ class Transmission:
                     FrameEnd(frame, bool(ends.active), ends.incomplete_since, ends.is_late))
 
     def end_file(self, end_fault: int | None, pes: int) -> None:
-        """End the file after `pes` items; `end_fault` is the fault of the remaining bytes."""
+        """End the file after `pes` items. `end_fault` is the fault in the remaining bytes."""
         self.end_current_frame()
         self.end_skipped()
         for number, line in self.ends.list_final_lines():
@@ -145,16 +145,16 @@ class Transmission:
             self.report_fault(74, f"frame {time_of(self.frames[-1])}", None)
 
     def format_accepted(self) -> str:
-        """Return the line that accepts a transmission."""
+        """Return the line that reports an accepted transmission."""
         count = self.frames[-1] - self.frames[0] + 1
         return f"accepted {count} frames {len(self.headers)} transmissions"
 
 
 def find_failure_line(selection: Range, count: int, end_fault: int | None,
                       is_failing: bool) -> str | None:
-    """Return the line about a read failure, or `None` if reading stops before it.
+    """Return the line about a read failure, or `None` if reading stops before the failure.
 
-    The read fails at the end of the bytes, after `count` items; `end_fault` is the fault of the
+    Reading fails at the end of the bytes, after `count` items. `end_fault` is the fault in the
     remaining bytes.
     """
     is_so = is_failing and selection.is_end and end_fault in (None, CUT)
@@ -162,7 +162,7 @@ def find_failure_line(selection: Range, count: int, end_fault: int | None,
 
 
 def select_data(data: bytes, options: Options) -> Range:
-    """Return the part of a PES file or transport stream that these options select."""
+    """Return the part of a PES file or transport stream that the options select."""
     pes = data if options.pid is None else read_stream(data, options.pid, options.size).data
     return select_range(pes, options.first, options.last)
 
@@ -186,7 +186,7 @@ def check_all(stl: bytes, pes: bytes, options: Options, is_failing: bool = False
             transmission.skip(number, sending)
         else:
             transmission.receive(number, *sending)
-    # After a read failure nothing more is reported, and no fault ends.
+    # After a read failure, nothing more is reported, and no fault ends.
     event_log, is_refused = transmission.event_log, bool(subtitle_lines)
     if failure := find_failure_line(read, len(pieces), end_fault, is_failing):
         return [*subtitle_lines, *list_lines(event_log, True, is_refused), failure]

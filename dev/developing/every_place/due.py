@@ -1,4 +1,4 @@
-"""Find the faults of a subtitle file, and the expected page of each frame."""
+"""Find the faults in a subtitle file, and the expected page of each frame."""
 from __future__ import annotations
 
 from typing import Iterator, NamedTuple
@@ -10,11 +10,10 @@ from .arguments import Options
 
 
 class Subtitles(NamedTuple):
-    """The faults of a subtitle file, and the records that can be checked.
+    """The faults in a subtitle file, and the records that can be checked.
 
-    `has_fault_before` says for each record, and for the end of the file, whether a subtitle with a
-    fault comes directly before it.
-    `records` is `None` if the PES file is not read.
+    For each record, and for the end of the file, `has_fault_before` is true if a subtitle with a
+    fault precedes it directly. `records` is `None` if the PES file is not read.
     """
 
     lines: list[str]
@@ -23,7 +22,7 @@ class Subtitles(NamedTuple):
 
 
 def record_faults(record: Record, before: Record | None, options: Options) -> Iterator[str]:
-    """Yield a line for each fault of a subtitle's record."""
+    """Yield a line for each fault in the record of a subtitle."""
     if before and record.tci < before.tci:
         yield format_refused(56, f"block {record.block}")
     elif before and record.tci < before.tco:
@@ -39,10 +38,10 @@ def is_order_fault(line: str) -> bool:
 
 
 def judge_subtitles(data: bytes, options: Options) -> Subtitles:
-    """Return the faults of a subtitle file, and the records that can be checked despite them."""
+    """Return the faults in a subtitle file, and the records that can still be checked."""
     lines: list[str] = []
-    groups: list[Record | None] = []  # requested subtitles, `None` for a faulty one
-    faults: dict[int, list[str]] = {}  # fault lines of each record, by index in `groups`
+    groups: list[Record | None] = []  # requested subtitles, or `None` for a faulty subtitle
+    faults: dict[int, list[str]] = {}  # fault lines of each record, by its index in `groups`
     before: Record | None = None
     found: list[Record | StlFault | OutsideSubtitle] = list(
         read_subtitles(data, options.is_open, options.from_frame, options.to_frame))
@@ -70,7 +69,7 @@ def judge_subtitles(data: bytes, options: Options) -> Subtitles:
 
 
 class ExpectedPages:
-    """The expected page of each frame, and the frames for which it is unknown."""
+    """The expected page of each frame, and the frames whose expected page is unknown."""
 
     def __init__(self, records: list[Record], has_fault_before: list[bool],
                  options: Options) -> None:
@@ -82,7 +81,7 @@ class ExpectedPages:
         return next((page for tci, tco, page in self.pages if tci <= frame < tco), BLANK)
 
     def is_undecided(self, frame: int) -> bool:
-        """Return whether a faulty subtitle could be on air and no other page is expected."""
+        """Return whether a faulty subtitle may be on air, with no other page expected."""
         count = sum(tci <= frame for tci, _, _ in self.pages)
         return self.has_fault_before[count] and not any(tci <= frame < tco for tci, tco,
                                                         _ in self.pages)
@@ -94,5 +93,5 @@ class ExpectedPages:
         return self.pages[-1][1] if self.pages else None
 
     def list_starts(self, end: int) -> list[int]:
-        """Return the first frames of the subtitles that end at a frame."""
+        """Return the first frame of each subtitle that ends at a frame."""
         return [tci for tci, tco, _ in self.pages if tco == end]

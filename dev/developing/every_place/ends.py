@@ -1,4 +1,4 @@
-"""Find the faults that exist at the end of a frame."""
+"""Find the faults that are active at the end of a frame."""
 from __future__ import annotations
 
 from typing import Iterator
@@ -10,25 +10,25 @@ from .rows import COLUMNS, SPACE
 from .told import format_ended, format_refused
 from .arguments import Options
 
-NO_CELL = -1  # for faults that concern no cell
+NO_CELL = -1  # cell number for faults without a cell
 
 
 class FrameEnds:
-    """The active faults at the end of the previous frame, to compare with the next frame's."""
+    """The active faults at the end of a frame, for comparison with the next frame."""
 
     def __init__(self, due: ExpectedPages, options: Options) -> None:
         self.due, self.options = due, options
-        self.first = self.frame = 0  # the first frame, and the previous one
-        self.active: dict[int, int] = {}  # the cell of each active fault (72 alone has one)
-        # The first of the consecutive frames up to now at whose ends the page was incomplete.
+        self.first = self.frame = 0  # first and previous frame
+        self.active: dict[int, int] = {}  # cell or NO_CELL of each active fault
+        # The first frame of the current run of frames with an incomplete page.
         self.incomplete_since: int | None = None
-        self.is_late = False  # at the end of the previous frame
+        self.is_late = False  # whether the page is late
 
     def find_active_faults(self, frame: int, decoded: Decoded, headers: list[int], sent: list[int]
                       ) -> dict[int, int]:
-        """Return the active faults at the end of a frame, each with its cell.
+        """Return the active faults at the end of a frame, with their cells.
 
-        `headers` are the frames with a header of the page, `sent` the frames with PES packets.
+        `headers` contains the frames with a header of the page, `sent` the frames with PES packets.
         """
         options = self.options
         is_open = options.is_complete and decoded.is_open
@@ -59,7 +59,7 @@ class FrameEnds:
     def is_overdue(self, frame: int) -> bool:
         """Return whether the page is incomplete and late.
 
-        A page is late after `within` frames, or if a subtitle ends before it was complete.
+        A page is late after `within` frames, or if a subtitle ends before its page was complete.
         """
         start, within = self.incomplete_since, self.options.within
         return start is not None and (within == 0 or frame >= start + within or any(
@@ -67,9 +67,9 @@ class FrameEnds:
             for begin in self.due.list_starts(frame + 1)))
 
     def find_unexpected_cell(self, page: bytes, frame: int) -> int | None:
-        """Return the first cell with a code that no allowed page has there, except spaces.
+        """Return the first cell that is not a space and differs from all allowed pages.
 
-        Return `None` if the expected page of an allowed frame is unknown.
+        Return `None` if an allowed page is unknown.
         """
         frames = self.list_allowed_frames(frame)
         if any(map(self.due.is_undecided, frames)):
@@ -82,7 +82,7 @@ class FrameEnds:
 
     def at(self, frame: int, decoded: Decoded, headers: list[int], sent: list[int]
            ) -> Iterator[tuple[int, str]]:
-        """Yield the number and line of each fault that begins or ends at the end of a frame."""
+        """Yield the number and the line of each fault that begins or ends at a frame."""
         found = self.find_active_faults(frame, decoded, headers, sent)
         for number in (72, 73, 77, 78, 79):
             now, before = found.get(number), self.active.get(number)

@@ -1,4 +1,4 @@
-"""Pairs of files with the output of `check --all`, worked out by hand."""
+"""Pairs of files with the manually derived output of `check --all`."""
 from __future__ import annotations
 
 import os
@@ -26,9 +26,9 @@ def replace_bytes(data: bytes, changes: dict[int, int]) -> bytes:
 
 # One subtitle, sent at 10:00:00:00 and cleared at 10:00:02:00.
 HELLO, SENT = read_example("hello.stl"), read_example("hello.pes")
-SENT_25 = read_example("hello-25.pes")  # sent at 10:00:01:00 too
-BLANK = SENT_25[368:]  # the last of these PES packets, a page without rows
-EVEN_H = {117: 0x12}  # the H of the row with even parity
+SENT_25 = read_example("hello-25.pes")  # the same with a repeat at 10:00:01:00
+BLANK = SENT_25[368:]  # the last PES packet: a page without rows
+EVEN_H = {117: 0x12}  # gives the H in the row even parity
 ROW = reverse_bits(SENT[96:138])  # row 22
 OTHER_ROW = replace_bytes(ROW, {21: 0x68})  # row 22 with an h instead of the H
 WHOLE = [HEADER, ROW, CLOSING]
@@ -36,24 +36,24 @@ HI = b"\x0d\x0b\x0bHi\x0a\x0a"
 
 
 def add_count_line(*lines: str) -> list[str]:
-    """Append the line with the number of faults."""
+    """Append a line with the number of faults, if any."""
     count = sum(line.startswith("refused") for line in lines)
     return [*lines, f"{count} faults"] if count else list(lines)
 
 
 def make_pair(name: str, pes: bytes, *lines: str, arguments: str = "",
               stl: bytes = HELLO) -> KnownCall:
-    """Return a call of `check --all` for a pair, with its expected lines."""
+    """Return a call of `check --all` for a pair of files, with its expected lines."""
     return make_known_check(name, stl, pes, arguments, add_count_line(*lines))
 
 
 def make_failing_pair(name: str, pes: bytes, *lines: str, arguments: str = "") -> KnownCall:
-    """Return a call whose PES file can't be read at its end, with its expected lines."""
+    """Return a call in which reading the PES file fails at its end, with its expected lines."""
     return make_known_check(name, HELLO, pes, arguments, list(lines), True)
 
 
 def format_refused_line(fault: str, time: str, place: str = "") -> str:
-    """Return the line about a fault; `time` is seconds and frames after 10:00:00:00."""
+    """Return the line about a fault. `time` contains the seconds and frames after 10:00:00:00."""
     return f"refused {fault} frame 10:00:{time} {place}".rstrip()
 
 
@@ -62,7 +62,7 @@ def format_ended_line(fault: str, time: str) -> str:
 
 
 def format_trusted_line(first: str, last: str) -> str:
-    """Return the line about trusted frames; times are seconds and frames after 10:00:00:00."""
+    """Return the line about trusted frames. Times are seconds and frames after 10:00:00:00."""
     return f"trusted frames 10:00:{first} 10:00:{last}"
 
 
@@ -72,7 +72,7 @@ def format_lasting_fault(fault: str, first: str, last: str) -> list[str]:
 
 
 def format_wrong_row(time: str, end: str | None = None, column: int = 16) -> list[str]:
-    """Return the lines about the beginning and the end of a wrong row 22."""
+    """Return the lines about the beginning and the end of wrong text in row 22."""
     return [format_refused_line("72 Content", time, f"row 22 column {column}"),
             format_ended_line("72 Content", end or time)]
 
@@ -91,14 +91,14 @@ EARLY_WRONG = ["refused 72 Content frame 09:59:59:24 row 22 column 16",
 # Subtitle files
 
 def make_stl_file(*texts: tuple[int, int, int, bytes]) -> bytes:
-    """Return a subtitle file; each subtitle has TCI and TCO after 10:00:00:00, row and text."""
+    """Return a subtitle file. Each subtitle has TCI and TCO after 10:00:00:00, row and text."""
     return HELLO[:GSI] + b"".join(
         make_subtitle_blocks(number, FIRST + tci, FIRST + tco, row, 2, text)
         for number, (tci, tco, row, text) in enumerate(texts))
 
 
-# Texts with a fault of each kind, then a subtitle that overlaps the previous one, and a subtitle
-# that begins before the previous one.
+# Texts with one fault of each kind, a subtitle that overlaps the previous subtitle, and a subtitle
+# that begins before the previous subtitle.
 EIGHT_SUBTITLES = make_stl_file((0, 10, 22, b"\x0e"), (10, 20, 22, b"\xc2e"),
                                 (20, 30, 22, b"A" * 40), (30, 40, 23, b"A\x8aB"),
                                 (40, 50, 23, b"\x0dA"), (50, 60, 20, b"\x0dA\x8aB"),
@@ -109,11 +109,11 @@ BLOCKS_OF_EIGHT = ["refused 51 Control block 1 at 0", "refused 50 Character bloc
                    "refused 57 Overlap block 7", "refused 51 Control block 7 at 0",
                    "refused 56 OutOfOrder block 8"]
 OPEN_NINTH = replace_bytes(make_subtitle_blocks(8, FIRST, FIRST + 50, 22, 2, HI),
-                           {3: 0})  # the first of several faults
+                           {3: 0})  # a block with several faults
 
 
 def add_blocks_after_eight(name: str, blocks: bytes, *last: str) -> KnownCall:
-    """Return a call for the eight subtitles with further blocks, which get the expected line."""
+    """Return a call for the eight subtitles and more blocks, with its expected lines."""
     return make_pair(f"eight subtitles and {name}", SENT, *BLOCKS_OF_EIGHT, *last,
                      stl=EIGHT_SUBTITLES + blocks)
 
@@ -125,16 +125,16 @@ TEXTS = [add_blocks_after_eight("no more", b""),
 # Transmissions
 
 def make_pes_at(*frames: tuple[int, list[bytes]]) -> bytes:
-    """Return PES packets at frames that are counted from 10:00:00:00."""
+    """Return PES packets at frames counted from 10:00:00:00."""
     return b"".join(make_pes_packet((FIRST + frame) * TICKS, packets) for frame, packets in frames)
 
 
 def break_every_rule() -> bytes:
-    """Return PES packets that break every rule.
+    """Return PES packets that together break every rule.
 
     The first PES packet is late and has no header of the page. The second has the same frame: its
-    header has a wrong bit, C4 clear and C11 set; its row has a wrong bit in the address and one in
-    a letter; another row and packet 26 follow.
+    header has a wrong bit, C4 clear and C11 set; its row has a wrong bit in the address and another
+    in a letter; a different row and packet 26 follow.
     """
     header = replace_bytes(HEADER, {3: 0xD1, 5: 0x15, 9: 0x02})
     row = replace_bytes(ROW, {1: 0x9A, 21: 0x48})
@@ -143,7 +143,7 @@ def break_every_rule() -> bytes:
 
 
 def make_unfinished_page() -> bytes:
-    """Return a page that stays open and gets two wrong rows, then a PES packet without a frame."""
+    """Return an open page with two wrong rows, and a PES packet whose PTS is in no frame."""
     changes = {19: 0x0B, 20: 0x0B, 21: 0x0D, 23: 0x8A, 24: 0x8A}
     return make_pes_at((0, [HEADER, ROW]), (24, [replace_bytes(make_packet("15 8C"),
                                                                {**changes, 22: 0xC1})]),
@@ -161,7 +161,7 @@ LATE_END = format_refused_line("74 Late", "01:05")
 
 def make_repeat_pair(name: str, first: list[bytes], later: list[bytes], end: int, every: int,
                      *lines: str) -> KnownCall:
-    """Return a call with a page at 10:00:00:00, and other packets in later frames."""
+    """Return a call for a page at 10:00:00:00 that is followed by packets in later frames."""
     frames = [(0, first), *((frame, later) for frame in range(1, end))]
     if end == 50:
         frames.append((end, PAGE))
@@ -192,7 +192,7 @@ KNOWN = [
     make_failing_pair("one that can't be read, from a source that fails later",
                       replace_bytes(SENT_25, {413: 0x20}),
                       format_trusted_line("00:00", "00:24"), f"{DATA_ID} 2", "fault 41 Read pes 3"),
-    # The data field of the second PES packet repeats the first one's from byte 45 on.
+    # The second PES packet repeats the first packet's data field, which begins at byte 45.
     *[make_pair(f"{what} in a data field that is sent again",
                 replace_bytes(SENT_25, {184 + at: byte}), format_accepted_line(51, 3))
       for what, at, byte in (("another flag", 6, 0x85), ("other stuffing", 44, 0xFE),

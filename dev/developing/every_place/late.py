@@ -1,8 +1,8 @@
-"""Make random transmissions like those of a subtitle inserter and a multiplexer.
+"""Make random transmissions that resemble the output of a subtitle inserter and a multiplexer.
 
-A page is sent in several PES packets, in two fields or in consecutive frames, later than expected,
-with an inexact PTS, or repeated while it is sent: usually within the allowed frames, sometimes
-later. Unreadable PES packets are inserted.
+A page is sent in several PES packets, in two fields or in consecutive frames, late, with an inexact
+PTS, or repeated before it is complete: usually within the allowed frames, sometimes later. Some PES
+packets are unreadable.
 """
 from __future__ import annotations
 
@@ -31,10 +31,10 @@ def find_frame_start(time: int) -> int:
     return (time - EARLIEST) // TICKS * TICKS
 
 
-# Sending a page
+# Page transmissions
 
 def spread_page(rng: Random, part: Part, most: int) -> list[Part]:
-    """Spread a page over one to four PES packets, at most `most` frames late."""
+    """Split a page into one to four PES packets, at most `most` frames late."""
     count = len(part.packets)
     ways = [rng.randrange(count + 1) for _ in range(rng.choice([0, 0, 1, 1, 2, 3]))]
     cuts = [0, *sorted(ways), count]
@@ -46,7 +46,7 @@ def spread_page(rng: Random, part: Part, most: int) -> list[Part]:
 
 
 def send_pages(rng: Random, parts: list[Part], most: int) -> list[Part]:
-    """Spread all pages; a page follows the late page before it, or is interleaved with it."""
+    """Split all pages. Packets of a late page come before the next page, or between its packets."""
     seed = rng.random() if rng.random() < 0.5 else None
     made: list[Part] = []
     for part in parts:
@@ -59,24 +59,24 @@ def send_pages(rng: Random, parts: list[Part], most: int) -> list[Part]:
 
 
 def move_parts(rng: Random, parts: list[Part]) -> None:
-    """Move each PTS inside its frame, rarely out of it."""
+    """Move each PTS inside its frame, rarely to another frame."""
     first, last = rng.choice([(EARLIEST, LATEST)] * 6 + [(EARLIEST - 1, LATEST + 1), (-2000, 0)])
     for at, part in enumerate(parts):
         ticks = rng.choice([first, last, rng.randrange(first, last + 1)])
         parts[at] = part._replace(time=find_frame_start(part.time) + ticks)
 
 
-# Kinds of faults and additions; a frequent kind occurs several times.
+# Kinds of faults and additions. Frequent kinds occur several times.
 ACCIDENTS = ["leave out", "leave out", "empty the last", "empty the last", "open", "hold back",
              "hold back", "send again", "send again", "erase", "erase", "misspell", "misspell"]
 
 
 def add_accident(rng: Random, parts: list[Part]) -> None:
-    """Add a fault or another PES packet; the parts stay in order of time."""
+    """Add a fault or another PES packet. The parts stay in order of time."""
     way, count = rng.choice(ACCIDENTS), len(parts)
     if way == "leave out":  # often the first PES packet, rarely the last
         del parts[rng.choice([0, rng.randrange(max(1, count - 1))])]
-    elif way == "empty the last":  # the last page, or a part of it, is not sent
+    elif way == "empty the last":  # remove packets from the last page
         for at in range(max(0, count - rng.choice([1, 1, 1, 2])), count):
             packets = parts[at].packets
             packets = packets[len(packets) - rng.choice([0, 0, 1]):]
@@ -84,16 +84,16 @@ def add_accident(rng: Random, parts: list[Part]) -> None:
     elif way == "open":  # a page without its closing header
         at = rng.choice([-1, rng.randrange(count)])
         parts[at] = parts[at]._replace(packets=parts[at].packets[:-1])
-    elif way == "hold back":  # some frames later or earlier, rarely with all later parts
+    elif way == "hold back":  # shift by some frames, rarely with all later parts
         at, by = rng.randrange(count), TICKS * rng.choice([1, 1, 2, 3, 4, 5, 6, -1, -2])
         end = count if rng.random() < 0.2 else at + 1
         parts[at:end] = [part._replace(time=part.time + by) for part in parts[at:end]]
-    elif way == "send again":  # this PES packet or an earlier one
+    elif way == "send again":  # repeat this PES packet or an earlier PES packet
         at = rng.randrange(count)
         old = parts[max(0, at - rng.choice([0, 0, 1, 1, 2, 3]))]
         again = parts[at].time + FIELD * rng.choice([0, 1, 1, 2, 2, 3, 4, 6])
         parts.append(Part(again, list(old.packets)))
-    elif way == "erase":  # a page header alone, a PES packet without Teletext, or any packet
+    elif way == "erase":  # a header alone, no Teletext, or a random packet
         at = rng.randrange(count)
         header, none = parts[at].packets[:1], parts[at].packets[:0]
         packets = rng.choice([header, header, none, [make_random_packet(rng)]])
@@ -105,7 +105,7 @@ def add_accident(rng: Random, parts: list[Part]) -> None:
 
 
 def misspell_row(rng: Random, parts: list[Part]) -> None:
-    """Change a character of a row, or its parity; often also send the original PES packet."""
+    """Change a character in a row, or its parity. Often also send the original PES packet."""
     at = rng.randrange(len(parts))
     rows = [place for place, one in enumerate(parts[at].packets) if one[1] not in (0x15, 0xEA)]
     if not rows:
@@ -128,7 +128,7 @@ def misspell_row(rng: Random, parts: list[Part]) -> None:
         parts.insert(at + 1, other._replace(time=time + FIELD * rng.choice([1, 1, 2, 3])))
 
 
-# Whole transmissions
+# Complete transmissions
 
 def split_parts(data: bytes) -> list[Part]:
     packets = list(read_pes_packets(io.BytesIO(data)))
@@ -137,13 +137,13 @@ def split_parts(data: bytes) -> list[Part]:
 
 
 def join_parts(parts: list[Part], first: int) -> list[bytearray]:
-    """Return the PES packets of all parts; the first part gets the PTS `first`."""
+    """Return the PES packets of all parts. The PTS of time 0 is `first`."""
     return [bytearray(make_pes_packet((first + part.time) % CLOCK, part.packets[:MAX_PACKETS]))
             for part in parts]
 
 
 def insert_unreadable_packets(rng: Random, packets: list[bytearray], origin: int) -> None:
-    """Insert PES packets that are unreadable or have no frame, or replace others by them."""
+    """Insert PES packets that are unreadable or have no frame, sometimes as replacements."""
     for _ in range(rng.choice([1, 1, 2])):
         at = rng.randrange(len(packets))
         count = rng.choice([1, 1, 1, 2, 3])
@@ -157,7 +157,7 @@ def insert_unreadable_packets(rng: Random, packets: list[bytearray], origin: int
 
 
 def delay_transmission(rng: Random, data: bytes, within: int, origin: int) -> bytes:
-    """Return the transmission some frames late, sometimes with faults."""
+    """Return the transmission with pages some frames late, sometimes with faults."""
     parts = split_parts(data)
     if not parts:
         return data

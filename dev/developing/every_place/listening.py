@@ -1,4 +1,4 @@
-"""Compute the lines that `packets` and `listen` must print, simply and slowly."""
+"""Compute the lines of `packets` and `listen`, simply and slowly."""
 from __future__ import annotations
 
 from typing import Iterator, NamedTuple
@@ -20,7 +20,7 @@ NOT_RECEIVED = 0x3F  # code of each cell before a page is received
 
 def find_end_fault(selection: Range, count: int, end_fault: int | None,
                    is_failing: bool) -> str | None:
-    """Return the line about the fault after `count` items, or `None` without a fault."""
+    """Return the line about the fault after `count` items, or `None` if there is no fault."""
     failure = find_failure_line(selection, count, end_fault, is_failing)
     return failure or (None if end_fault is None
                        else format_refused(end_fault, f"pes {selection.first + count}"))
@@ -29,7 +29,7 @@ def find_end_fault(selection: Range, count: int, end_fault: int | None,
 # The command `packets`
 
 def list_unit_lines(piece: bytes) -> Iterator[str]:
-    """Yield a line for each Teletext data unit of a PES packet."""
+    """Yield a line for each Teletext data unit in a PES packet."""
     units = (piece[at:at + 46] for at in range(46, len(piece), 46))
     teletext = [unit for unit in units if unit[0] in (2, 3)]
     for number, (unit, packet) in enumerate(zip(teletext, read_units(piece)[0])):
@@ -38,7 +38,7 @@ def list_unit_lines(piece: bytes) -> Iterator[str]:
 
 
 def list_packets_lines(data: bytes, options: Options, is_failing: bool) -> Iterator[str]:
-    """Yield the lines of `packets`; it stops at the first fault."""
+    """Yield the lines of `packets`, up to the first fault."""
     selection = select_data(data, options)
     pieces, end_fault = split_packets(selection.data)
     for pes, piece in enumerate(pieces, selection.first):
@@ -64,7 +64,7 @@ class ListenOptions(NamedTuple):
     is_complete: bool
 
     def flip_bits(self, number: int, packet: bytes) -> bytes:
-        """Return a packet with the bits flipped that --flip names."""
+        """Return a packet in which the bits listed by --flip are flipped."""
         changed = bytearray(packet)
         for which, at, bit in self.flips:
             if which == number:
@@ -73,7 +73,7 @@ class ListenOptions(NamedTuple):
 
 
 def parse_listen_options(arguments: list[str]) -> ListenOptions:
-    """Parse the options that `check` does not have."""
+    """Parse the options that only `listen` has."""
     given = parse_arguments(arguments)
     last = frame_of(given["--at"])
     assert last is not None
@@ -85,7 +85,7 @@ def parse_listen_options(arguments: list[str]) -> ListenOptions:
 
 
 class Receiver:
-    """A receiver: `decoded` is the page in its memory, `shown` the page on its screen, if any."""
+    """A receiver. `decoded` is the page in its memory, `shown` the page on its screen, if any."""
 
     def __init__(self, options: Options, kind: str) -> None:
         self.page, self.kind = options.page, kind
@@ -94,7 +94,7 @@ class Receiver:
         self.shown: list[bytes] | None = None
 
     def receive(self, packet: bytes) -> None:
-        """Receive a Teletext packet as EN 300 706 requires."""
+        """Process a Teletext packet as EN 300 706 requires."""
         address, header = decode_address(packet), decode_header(packet)
         if header and header[0] == self.page:
             self.is_heard = self.is_open = True
@@ -108,7 +108,7 @@ class Receiver:
             self.store(address[1], packet[2:])
 
     def store(self, row: int, data: bytes) -> None:
-        """Store a row. The kind of receiver decides how it treats bytes with even parity."""
+        """Store a row. The kind of receiver determines how bytes with even parity are stored."""
         if self.kind == "drop" and not all(map(is_odd, data)):
             return
         old = self.decoded[row - 1]
@@ -117,7 +117,7 @@ class Receiver:
             for at, byte in enumerate(data))
 
     def list_lines(self, is_complete: bool) -> Iterator[str]:
-        """Yield the printed lines about this receiver."""
+        """Yield the printed lines about the state of this receiver."""
         yield "heard yes" if self.is_heard else "heard no"
         if not self.is_heard:
             return
@@ -140,8 +140,8 @@ def list_receiver_lines(data: bytes, options: Options, arguments: list[str],
     heard, selection = parse_listen_options(arguments), select_data(data, options)
     receiver = Receiver(options, heard.receiver)
     pieces, end_fault = split_packets(selection.data)
-    before = -1  # the frame of the previous PES packet
-    number = place = 0  # numbers of the next Teletext packet, in all and in its frame
+    before = -1  # frame of the previous PES packet
+    number = place = 0  # numbers of the next Teletext packet in the file and in the frame
     for pes, piece in enumerate(pieces, selection.first):
         sending = read_packet(piece, options.origin, options.within)
         if isinstance(sending, int):

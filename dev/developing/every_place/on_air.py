@@ -14,7 +14,7 @@ WITHOUT_PARITY = bytes(byte & 0x7F for byte in range(256))
 
 
 class Packet(NamedTuple):
-    """A Teletext packet; `header` is `None` if the packet is no header or can't be decoded."""
+    """A Teletext packet. `header` is `None` if the packet is no header or cannot be decoded."""
 
     data: bytes
     address: tuple[int, int] | None
@@ -22,7 +22,7 @@ class Packet(NamedTuple):
 
 
 def find_page_span(packets: Sequence[Packet], page: Page) -> tuple[Sequence[Packet], bool]:
-    """Return the packets from the page's last header to its end, and whether the page is open."""
+    """Return the packets after the page's last header, and whether the page is still open."""
     begin = find_last_header(packets, page)
     if begin is None:
         return [], False
@@ -93,14 +93,14 @@ def get_codes(packet: Packet) -> bytes:
 
 
 class Decoded(NamedTuple):
-    """A decoded page: 960 codes, whether it is open, and the rows since its last header."""
+    """A decoded page: 960 codes, whether the page is open, and the rows since its last header."""
 
     page: bytes
     is_open: bool
     received_rows: set[int]
 
     def find_first_difference(self, due: bytes) -> int | None:
-        """Return the first cell with an unexpected code, or with text that was not sent again."""
+        """Return the first cell that is wrong, or whose row was not sent after the last header."""
         for row, place in enumerate(range(0, len(due), COLUMNS), 1):
             own, its = self.page[place:place + COLUMNS], due[place:place + COLUMNS]
             if own == its and (row in self.received_rows or its == BLANK[:COLUMNS]):
@@ -125,14 +125,14 @@ def is_exact(codes: bytes) -> bool:
 
 
 def is_plain_subtitle_header(control: set[int], option: str) -> bool:
-    """Return whether C6, C7 are set, C5, C10 clear, and C12 to C14 select the national option."""
+    """Return whether C6 and C7 are set, C5 and C10 are clear, and C12 to C14 are correct."""
     return control >= {6, 7} and not control & {5, 10} and control & ALL_BITS == BITS[option]
 
 
 def is_repeat(packet: Packet, before: Sequence[Packet], is_open: bool, options: Options) -> bool:
     """Return whether a header may keep the page.
 
-    It must have the subcode of the previous header. With --complete the page must be closed too.
+    It must have the subcode of the previous header. With --complete the page must also be closed.
     """
     last = next((one for one in reversed(before) if get_page(one) == options.page), None)
     return (options.may_keep and not (options.is_complete and is_open)
@@ -140,7 +140,7 @@ def is_repeat(packet: Packet, before: Sequence[Packet], is_open: bool, options: 
 
 
 def find_packet_faults(packet: Packet, before: Sequence[Packet], options: Options) -> list[int]:
-    """Return the numbers of the rules that a packet breaks, given the packets before it."""
+    """Return the numbers of the rules that a packet breaks, given the earlier packets."""
     address, header, page = packet.address, packet.header, options.page
     _, is_open = find_page_span(before, page)
     is_stored = is_open and is_row(packet, page)

@@ -1,7 +1,7 @@
-"""Subtitle files with the lines of `check --all`, worked out by hand.
+"""Subtitle files with the manually derived lines of `check --all`.
 
 They test limits that neither the crates' tests nor random pairs reach. A refused file is reported
-at its block; an accepted file is checked with an empty PES file, which is refused. Each text is
+at its block. An accepted file is checked with an empty PES file, which is refused. Each text is
 also checked with a transmission of exactly its cells, which is accepted.
 """
 from __future__ import annotations
@@ -23,7 +23,7 @@ EBN, CS, TCI, TCO, VP, JC, CF = 3, 4, 5, 9, 13, 14, 15  # offsets of fields in a
 def expect_refused(fault: str) -> list[str]:
     """Return the expected lines for a file with this fault.
 
-    After a fault in a subtitle's first block the other subtitle is checked too.
+    After a fault in the first block of a subtitle, the next subtitle is also checked.
     """
     is_read = int(fault.split()[0]) in FIRST_BLOCK_FAULTS
     return add_count_line(f"refused {fault}", *["refused 60 Empty"] * is_read)
@@ -34,7 +34,7 @@ def expect_refused(fault: str) -> list[str]:
 def make_file() -> bytes:
     """Return a file with a comment, a subtitle of two blocks and user data, and another subtitle.
 
-    The program reads only EBN and CF of comments and user data.
+    In comments and user data the program reads only EBN and CF.
     """
     return b"".join([
         make_gsi_block(b"One file", 99_999, 88_888),
@@ -46,10 +46,10 @@ def make_file() -> bytes:
 
 
 WHOLE = make_file()
-TWO, LAST_OF_TWO = GSI + TTI, GSI + 3 * TTI  # offsets of the blocks of the first subtitle
+TWO, LAST_OF_TWO = GSI + TTI, GSI + 3 * TTI  # offsets of the first subtitle's blocks
 
-# Changed bytes and the reported fault: limits that no test of the crates has, and the first of two
-# faults in a block, in order of the checks. CS, times, VP and JC of a further block are ignored.
+# Changed bytes and the reported fault: limits that no test of the crates has, and blocks with two
+# faults. The program ignores CS, times, VP and JC of further blocks.
 BLOCK_CASES: list[tuple[str, dict[int, int]]] = [
     ("60 Empty", {11: ord("2")}), ("13 Display block 0", {11: ord(" ")}),
     ("11 Format block 0", {3: ord(" ")}), ("11 Format block 0", {10: ord("2")}),
@@ -69,7 +69,7 @@ BLOCK_CASES: list[tuple[str, dict[int, int]]] = [
 # Texts
 
 class Line(NamedTuple):
-    """Some cells of a row, beginning at a column; all other cells are spaces."""
+    """Some cells of a row, starting at a column. All other cells are spaces."""
 
     row: int
     column: int
@@ -98,13 +98,13 @@ def make_row_packet(line: Line) -> bytes:
 
 
 def make_transmission(lines: Iterable[Line]) -> bytes:
-    """Return a transmission of exactly these lines in one frame, and a blank page in the next."""
+    """Return a transmission with exactly these lines in one frame, and a blank page in the next."""
     return b"".join(make_pes_packet((FIRST + frame) * TICKS, [HEADER, *rows, CLOSING])
                     for frame, rows in enumerate((map(make_row_packet, lines), [])))
 
 
 def expect_drawn(text: bytes, row: int, justify: int, *lines: Line) -> KnownCall:
-    """Return a call with a text and a transmission of exactly these lines."""
+    """Return a call with a text and a transmission that has exactly these lines."""
     return make_known_check(make_name(text, f"drawn at row {row}, JC {justify}"),
                             make_text_file(text, row, justify), make_transmission(lines), "",
                             ["accepted 2 frames 2 transmissions"])
@@ -116,7 +116,7 @@ def expect_refused_text(text: bytes, row: int, fault: str, at: int) -> KnownCall
                             b"", "", expect_refused(f"{fault} block 1 at {at}"))
 
 
-FULL = b"A" * 36  # a text that fills a row, with its box
+FULL = b"A" * 36  # longest text that fits a row with its box
 DRAWN = [
     expect_drawn(b"\x80A\x81", 5, 1, Line(5, 0, make_box(b"A"))),
     expect_drawn(FULL, 5, 2, Line(5, 0, make_box(FULL))),
@@ -124,7 +124,7 @@ DRAWN = [
     # Empty lines may extend past row 23.
     expect_drawn(b"A\x8a\x8a", 23, 0, Line(23, 0, make_box(b"A"))),
     expect_refused_text(b"A\x9f", 5, "51 Control", 1),
-    expect_refused_text(b"\x0dA\x8a\x0e", 23, "51 Control", 3),  # a byte before any line
+    expect_refused_text(b"\x0dA\x8a\x0e", 23, "51 Control", 3),  # bytes are checked first
 ]
 
 ONE_FILE = [*(make_known_check(f"{fault}: {bytes_at}", replace_bytes(WHOLE, bytes_at), b"", "",

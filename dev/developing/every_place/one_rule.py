@@ -1,9 +1,9 @@
-"""Pairs that break one rule each: only its number is reported.
+"""Pairs of files that each break one rule: only this rule's number is reported.
 
-A transmission is a list of PES packets, each a frame and its Teletext packets: `0 h r c` is the
-header, row 22 and the closing header at 10:00:00:00, and `50 h c` the page without a row two
-seconds later. `+` after the frame means half a frame later (the other field), `-` a quarter of a
-frame earlier. `*` is the tested packet.
+A transmission is a list of PES packets, each with a frame number and the names of its Teletext
+packets: `0 h r c` is the header, row 22 and the closing header at 10:00:00:00; `50 h c` is the page
+without rows two seconds later. `+` after the frame means half a frame later (the second field), `-`
+a quarter of a frame earlier. `*` is the tested packet.
 """
 from __future__ import annotations
 
@@ -13,7 +13,7 @@ from developing.pes import make_pes_packet
 from developing.stl import make_gsi_block, make_subtitle_blocks
 from subtitles.common.times import CLOCK, FRAMES_OF_A_DAY, TICKS
 
-FIRST = 900_000  # the frame 10:00:00:00
+FIRST = 900_000  # frame number of 10:00:00:00
 TICKS_OFF = {"+": TICKS // 2, "-": -TICKS // 4}
 
 
@@ -28,15 +28,14 @@ class OneRule(NamedTuple):
 
 
 def make_packet(head: str, byte: int = 0x20) -> bytes:
-    """Return a packet with these first bytes, filled with 20 (a space) or another byte."""
+    """Return a packet with these first bytes, then `byte`, then spaces (20)."""
     first = bytes.fromhex(head)
     return first + bytes([byte]) + b"\x20" * (41 - len(first))
 
 
 def make_header(c4: str = "D0", c5_c6: str = "D0", c7_c10: str = "02",
                 c11_c14: str = "15") -> bytes:
-    """Return a header of page 888 with these bytes of control bits, by default for a subtitle.
-    """
+    """Return a header of page 888 with these control bytes, by default for a subtitle."""
     return make_packet(f"15 15 D0 D0 15 {c4} 15 {c5_c6} {c7_c10} {c11_c14}")
 
 
@@ -47,8 +46,8 @@ def make_row_1(byte: int) -> bytes:
 
 HEADER = make_header()
 CLOSING = make_packet("15 15 EA EA EA 2F EA 5E 15 15")  # page FF, subcode 3F7F
-SERIAL_CLOSING = make_packet("15 15 EA EA EA 2F EA 5E 15 02")  # with C11
-NO_HEADER = make_packet("15 15 D3 D0 15 D0 15 D0 02 15")  # its page units can't be decoded
+SERIAL_CLOSING = make_packet("15 15 EA EA EA 2F EA 5E 15 02")  # sets C11
+NO_HEADER = make_packet("15 15 D3 D0 15 D0 15 D0 02 15")  # undecodable page units
 PACKET_26 = make_packet("15 B6")
 ROW_22 = bytes.fromhex("15 9B") + b"\x20" * 17 + bytes.fromhex("0B 0B C8 E9 8A 8A") + b"\x20" * 17
 MARK = make_row_1(0xA1)  # an exclamation mark with odd parity
@@ -56,7 +55,7 @@ PAGE = [HEADER, CLOSING]
 
 
 def parse_transmission(packets: str, meaning: dict[str, bytes]) -> list[bytes]:
-    """Return the PES packets that a text names, separated by commas."""
+    """Return the PES packets in a list, separated by commas."""
     made = []
     for frame, *names in map(str.split, packets.split(",")):
         ticks = (FIRST + int(frame.rstrip("+-"))) * TICKS + TICKS_OFF.get(frame[-1], 0)
@@ -65,9 +64,7 @@ def parse_transmission(packets: str, meaning: dict[str, bytes]) -> list[bytes]:
 
 
 def make_programme(text: bytes | None = None, begin: int = 0, end: int = 1) -> bytes:
-    """Return a file without a subtitle, or with one on row 22:
-
-    in the first frame only, or from one frame to another.
+    """Return a file without subtitles, or with one subtitle on row 22 from frame `begin` to `end`.
     """
     if text is None:
         return make_gsi_block(b"One rule", 0, 0)
@@ -86,7 +83,7 @@ def make_case(name: str, number: int, packets: str, tested_packet: bytes = b"",
 
 
 def make_pair_at_day_bound(name: str, *ticks: int) -> OneRule:
-    """Return a page without rows at two times. One time is just outside the day."""
+    """Return PES packets with a page without rows at these times. One time is outside the day."""
     pes = b"".join(make_pes_packet(one % CLOCK, PAGE) for one in ticks)
     return OneRule(name, 61, NONE, pes, "--every 1")
 

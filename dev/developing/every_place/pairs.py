@@ -21,13 +21,13 @@ from .late import delay_transmission
 from .national import BITS, CELLS, SAME_IN_ALL
 from .arguments import UsageFault, parse_options
 
-Schedule = Callable[[bytes, list[str]], bytes]  # returns a file's transmission
+Schedule = Callable[[bytes, list[str]], bytes]  # returns the transmission for a file
 OPTIONS = [*BITS]  # national options
-MAX_TRIES = 20  # tries to make a file with refused subtitles
+MAX_TRIES = 20  # maximum number of tries to make a refused subtitle
 
 
 class Pair(NamedTuple):
-    """Two files and options of `check`. If `is_failing`, reading may also fail at the end."""
+    """Two files and the options of `check`. If `is_failing`, reading may also fail at the end."""
 
     stl: bytes
     pes: bytes
@@ -40,7 +40,7 @@ class Pair(NamedTuple):
 
 
 class Subtitle(NamedTuple):
-    """A subtitle; TCI and TCO are frames of the day."""
+    """A subtitle. TCI and TCO are frames since midnight."""
 
     tci: int
     tco: int
@@ -52,7 +52,7 @@ class Subtitle(NamedTuple):
 # Subtitle files
 
 def add_letters(rng: Random, text: bytes, option: str) -> bytes:
-    """Replace some letters by letters of a national option, rarely by invalid bytes."""
+    """Replace letters with letters of a national option, rarely with invalid bytes."""
     if rng.random() < 0.1:
         option = rng.choice(OPTIONS)
     own = [letter for letter, cell in CELLS[option].items()
@@ -64,7 +64,7 @@ def add_letters(rng: Random, text: bytes, option: str) -> bytes:
 
 
 def make_random_text(rng: Random, row: int, option: str) -> bytes:
-    """Return text lines that fit at a row, sometimes with letters of the national option."""
+    """Return lines of text that fit at a row, sometimes with letters of the national option."""
     lines = []
     for _ in range(rng.choice([1, 1, 2, 3])):
         line = bytes(rng.choices(LETTERS, k=rng.randrange(1, 30)))
@@ -79,7 +79,7 @@ def make_random_text(rng: Random, row: int, option: str) -> bytes:
 
 
 def make_random_subtitles(rng: Random, option: str) -> list[Subtitle]:
-    """Return subtitles in order of time, some of them adjacent."""
+    """Return subtitles in order of time. Some of them are adjacent."""
     frame = rng.choice([0, 25, 900_000, rng.randrange(FRAMES_OF_A_DAY - 2000)])
     made = []
     for _ in range(rng.choice([1, 1, 2, 3, 4, 6])):
@@ -93,7 +93,7 @@ def make_random_subtitles(rng: Random, option: str) -> list[Subtitle]:
 
 
 def make_stl_file(rng: Random, subtitles: list[Subtitle]) -> bytes:
-    """Return a subtitle file, sometimes with comments or user data among its blocks."""
+    """Return a subtitle file, sometimes with comments or user data between its blocks."""
     made = make_gsi_block(b"At random", 0, len(subtitles))
     for number, one in enumerate(subtitles):
         made += make_subtitle_blocks(number, *one)
@@ -106,7 +106,7 @@ def make_stl_file(rng: Random, subtitles: list[Subtitle]) -> bytes:
 
 
 def change_subtitle(rng: Random, subtitles: list[Subtitle], option: str) -> list[Subtitle]:
-    """Change a subtitle, so that the original's transmission is wrong for it."""
+    """Change a subtitle, so that it does not match the original transmission."""
     subtitles = list(subtitles)
     at = rng.randrange(len(subtitles))
     one = subtitles[at]
@@ -126,14 +126,14 @@ def change_subtitle(rng: Random, subtitles: list[Subtitle], option: str) -> list
     return subtitles
 
 
-# Field values at the bounds of faults: EBN, CS, TCI and TCO, VP, JC, CF.
+# Field values at the limits of valid values: EBN, CS, TCI and TCO, VP, JC, CF.
 FIELDS = {3: [0, 1, 0xF0, 0xFD, 0xFE, 0xFF], 4: [0, 1], 5: [0, 10, 24], 8: [0, 24, 25], 9: [0, 24],
           12: [0, 24, 25], 13: [0, 1, 20, 22, 23, 24], 14: [0, 3, 4], 15: [0, 1, 2]}
 CODES = [0x00, 0x0B, 0x0D, 0x0E, 0x23, 0x24, 0x40, 0x5B, 0x80, 0x8A, 0x8F, 0xA7, 0xC2, 0xC8]
 
 
 def corrupt_block(rng: Random, data: bytearray, block: int) -> None:
-    """Change a field or a text byte of a block."""
+    """Change a field of a block or a byte of its text."""
     way = rng.random()
     if way < 0.5:
         data[block + 16 + rng.randrange(20)] = rng.choice([*CODES, rng.randrange(256)])
@@ -141,7 +141,7 @@ def corrupt_block(rng: Random, data: bytearray, block: int) -> None:
         at = rng.choice([*FIELDS])
         data[block + at] = rng.choice([*FIELDS[at], rng.randrange(256)])
     else:
-        data[block + rng.randrange(3)] ^= 1  # SGN, SN
+        data[block + rng.randrange(3)] ^= 1  # subtitle group number, subtitle number
 
 
 def repeat_block(rng: Random, block: bytearray) -> bytearray:
@@ -155,7 +155,7 @@ def repeat_block(rng: Random, block: bytearray) -> bytearray:
 
 
 def corrupt_stl_file(rng: Random, whole: bytes) -> bytes:
-    """Change some bytes, the blocks or the length of a subtitle file."""
+    """Change bytes, blocks or the length of a subtitle file."""
     data = bytearray(whole)
     for _ in range(rng.choice([1, 1, 2, 5])):
         blocks = (len(data) - GSI) // TTI
@@ -182,7 +182,7 @@ def corrupt_stl_file(rng: Random, whole: bytes) -> bytes:
 # Pairs
 
 def make_random_options(rng: Random) -> dict[str, str]:
-    """Return the options that `schedule` and `check` share."""
+    """Return random values of the options that `schedule` and `check` share."""
     return {"--page": rng.choice(["888", "888", "888", "1A0", "8f0"]),
             "--every": str(rng.choice([1, 2, 25, 25, 50, 250])),
             "--origin": str(rng.choice([0, 0, 3600, 2**33 - 3600 * 900_001, 5])),
@@ -209,7 +209,7 @@ WRONG_NUMBERS = ["51", "x", "", "+1", "1 ", "4294967297", "00000000001"]
 
 
 def make_within_option(rng: Random, within: int) -> list[str]:
-    """Return --within with a number; rarely omit it, or return an invalid number."""
+    """Return --within with a number. Rarely omit the option, or return an invalid number."""
     if rng.random() < 0.02:
         return ["--within", rng.choice(WRONG_NUMBERS)]
     if within == 0 and rng.random() < 0.8:
@@ -219,7 +219,7 @@ def make_within_option(rng: Random, within: int) -> list[str]:
 
 def add_refused_subtitles(broadcaster_rng: Random, stl: bytes, arguments: list[str],
                           is_sure: bool) -> bytes:
-    """Return the subtitle file with refused subtitles: sometimes, or always if `is_sure`."""
+    """Return the subtitle file, sometimes with refused subtitles, or always if `is_sure`."""
     if not is_sure:
         return spoil_subtitles(broadcaster_rng, stl) if broadcaster_rng.random() < 0.15 else stl
     for _ in range(MAX_TRIES):
@@ -234,7 +234,7 @@ def make_random_pair(seed: int, schedule: Schedule, is_refused: bool = False,
                      keeps_pages: bool = False) -> Pair:
     """Return a random pair, on request with refused subtitles or headers that keep the page.
 
-    `schedule` returns the transmission of a subtitle file.
+    `schedule` returns the transmission for a subtitle file.
     """
     rng, broadcaster_rng = Random(seed), Random(f"house {seed}")
     arguments = make_random_options(rng)
@@ -248,7 +248,7 @@ def make_random_pair(seed: int, schedule: Schedule, is_refused: bool = False,
     stl = mark_as_open(stl, broadcaster_rng) if flags else stl
     mode = rng.choice(modes)
     pes = schedule(stl, [*list_arguments(arguments), *draw_page, *part, *flags, *mode])
-    if not pes:  # with these options nothing is sent
+    if not pes:  # these options select no subtitles
         draw_page = part = []
         pes = schedule(stl, [*list_arguments(arguments), *flags, *mode])
     if keeps := keeps_pages or broadcaster_rng.random() < 0.2:

@@ -15,20 +15,20 @@ from .recordings import SIZES
 from .streams import make_random_stream
 from .arguments import UsageFault, parse_options
 
-MAX_PACKETS = 40  # most PES packets in a stream
-MAX_BYTES = 65_535  # size of a stream that is read at once, so that only its end can fail
-LISTEN_OPTIONS = ("--page", "--origin", "--within")  # options that `listen` has too
+MAX_PACKETS = 40  # maximum number of PES packets in a stream
+MAX_BYTES = 65_535  # size of a stream that the program reads in one call
+LISTEN_OPTIONS = ("--page", "--origin", "--within")  # options that `check` and `listen` share
 
 
 def format_pid(rng: Random, pid: int) -> str:
-    """Return a PID as an argument, rarely an invalid one."""
+    """Return a PID as an argument, rarely an invalid PID."""
     if rng.random() < 0.02:
         return rng.choice(["8191", "0x1FFF", "x", "", "0x", "257 ", "0X101"])
     return rng.choice([str(pid), f"{pid:010}", hex(pid), f"0x{pid:08X}"])
 
 
 def make_range_options(rng: Random, count: int) -> list[str]:
-    """Return --pes with a range, usually nothing, rarely an invalid range."""
+    """Return --pes with a range, rarely with an invalid range. Usually return no option."""
     way = rng.random()
     if way < 0.6:
         return []
@@ -50,14 +50,14 @@ def make_recording_options(rng: Random, pid: int, size: int, count: int) -> list
 
 
 def make_bit_flips(rng: Random, count: int) -> str:
-    """Return a value of --flip: some wrong bits, at most one in a byte."""
+    """Return a value for --flip: some bits to flip, at most one in a byte."""
     places = {(rng.randrange(count + 2), rng.choice([0, 5, 20, rng.randrange(42)]))
               for _ in range(rng.randrange(1, 9))}
     return ",".join(f"{packet}:{byte}:{rng.randrange(1, 9)}" for packet, byte in sorted(places))
 
 
 def make_listen_options(rng: Random, arguments: list[str], packets: list[bytes]) -> list[str]:
-    """Return options of `listen`: a time near a PES packet, wrong bits and lost packets."""
+    """Return options of `listen`: a time near a PES packet, flipped bits and lost packets."""
     frames = [0]
     with contextlib.suppress(UsageFault):
         options = parse_options(arguments)
@@ -88,7 +88,7 @@ def make_accepted_pair(rng: Random, schedule: Schedule) -> Pair:
 def make_random_calls(seed: int, schedule: Schedule, keeps_pages: bool = False) -> list[Call]:
     """Return random calls on a stream with a random transmission.
 
-    `schedule` returns the transmission of a subtitle file.
+    `schedule` returns the transmission for a subtitle file.
     """
     rng = Random(f"recording {seed}")
     pair = make_accepted_pair(rng, schedule) if rng.random() < 0.6 and not keeps_pages else \

@@ -1,7 +1,7 @@
-"""Parse subtitle files, PES packets and page headers by the standards, and find their faults.
+"""Parse subtitle files, PES packets and page headers as the standards define them; find faults.
 
-EBU Tech 3264 is for subtitle files, EN 300 472 for PES packets, EN 300 706 for Teletext packets,
-docs/manual/reference.md for limits. Fault numbers are the numbers in the manual's tables. Nothing
+The standards are EBU Tech 3264 for subtitle files, EN 300 472 for PES packets, and EN 300 706 for
+Teletext packets. Limits and fault numbers are from the manual (docs/manual/reference.md). Nothing
 here was written from the program's sources.
 """
 from __future__ import annotations
@@ -13,18 +13,18 @@ from subtitles.common.times import CLOCK, FRAMES_OF_A_DAY, TICKS, frame_at, fram
 from subtitles.formats.stl import GSI, LAST_BLOCK, TTI, USER_DATA
 from subtitles.formats.teletext import NUMBER, Page
 
-HEAD = 6  # bytes of a PES packet up to the end of PES_packet_length
+HEAD = 6  # bytes of a PES packet up to and including PES_packet_length
 CUT, START, LENGTH = 30, 31, 32  # fault numbers for bytes that are no PES packet
 MAX_BLOCKS, MAX_SUBTITLE_BLOCKS, MAX_PES_PACKETS = 99_999, 9, 2_160_000
 
-ReadPacket = tuple[int, list[bytes]]  # the frame and the Teletext packets of a readable PES packet
-Header = tuple[Page, set[int]]  # the page of a header, and its control bits C4 to C14 that are set
+ReadPacket = tuple[int, list[bytes]]  # frame and Teletext packets of a PES packet
+Header = tuple[Page, set[int]]  # page of a header, and its control bits that are set
 
 
 class Record(NamedTuple):
-    """A subtitle, from its TTI blocks.
+    """A subtitle, read from its TTI blocks.
 
-    `block` is the number of its last block. `text` joins its text fields without unused space.
+    `block` is the number of its last block. `text` contains its text fields without unused space.
     """
 
     block: int
@@ -36,18 +36,18 @@ class Record(NamedTuple):
 
 
 class StlFault(NamedTuple):
-    """A fault of a subtitle file: its number and block."""
+    """A fault in a subtitle file: its number and block."""
 
     number: int
     block: int
 
 
-# Numbers of faults in a subtitle's first block: CS, JC, VP, TCI and TCO.
+# Fault numbers for the first block of a subtitle: CS, JC, VP, TCI and TCO.
 FIRST_BLOCK_FAULTS = {16, 18, 19, 20, 21}
 
 
 class OutsideSubtitle(NamedTuple):
-    """A skipped subtitle outside of the requested part: the number of its last block."""
+    """A subtitle outside the requested part. `block` is the number of its last block."""
 
     block: int
 
@@ -55,7 +55,7 @@ class OutsideSubtitle(NamedTuple):
 # Subtitle files
 
 def find_gsi_fault(data: bytes, accepts_open: bool) -> int | None:
-    """Return the fault of the GSI block, if any."""
+    """Return the fault number for the GSI block, if any."""
     if len(data) < GSI:
         return 10
     format_code, display, table = data[3:11], data[11:12], data[12:14]
@@ -69,7 +69,7 @@ def find_gsi_fault(data: bytes, accepts_open: bool) -> int | None:
 
 
 def find_first_block_fault(block: bytes) -> int | None:
-    """Return the fault of a subtitle's first block, if any."""
+    """Return the fault number for the first block of a subtitle, if any."""
     tci, tco = frame_of_code(block[5:9]), frame_of_code(block[9:13])
     for number, is_broken in ((16, block[4] != 0), (18, block[14] > 3),
                               (19, not 1 <= block[13] <= 23)):
@@ -79,7 +79,7 @@ def find_first_block_fault(block: bytes) -> int | None:
 
 
 def find_block_fault(block: bytes, group: list[bytes], is_outside: bool) -> int | None:
-    """Return the fault of a block after the blocks `group` of its subtitle, if any.
+    """Return the fault number for a block after the blocks `group` of its subtitle, if any.
 
     User data and comments are skipped, and have no fault.
     """
@@ -100,21 +100,21 @@ def find_block_fault(block: bytes, group: list[bytes], is_outside: bool) -> int 
 
 
 def make_record(group: list[bytes], number: int) -> Record:
-    """Return the subtitle of a complete group of blocks."""
+    """Return the subtitle from a complete group of blocks."""
     head = group[0]
     text = b"".join(block[16:].partition(b"\x8f")[0] for block in group)
     tci, tco = frame_of_code(head[5:9]), frame_of_code(head[9:13])
-    assert tci is not None and tco is not None  # otherwise the first block has a fault
+    assert tci is not None and tco is not None  # otherwise the first block is faulty
     return Record(number, tci, tco, head[13], head[14], text)
 
 
 def read_subtitles(data: bytes, accepts_open: bool = False, begin: int = 0,
                    end: int = FRAMES_OF_A_DAY ) -> Iterator[Record | StlFault | OutsideSubtitle]:
-    """Yield the subtitles of a file and its faults, by block.
+    """Yield the subtitles and the faults in a file, in order of blocks.
 
-    After a fault in FIRST_BLOCK_FAULTS reading continues with the next subtitle; any other fault is
-    the last. A subtitle is in the requested part if its TCI is from `begin` on and before `end`,
-    or is not a time.
+    After a fault in FIRST_BLOCK_FAULTS, reading continues with the next subtitle; after any other
+    fault, it ends. A subtitle belongs to the requested part if `begin` <= TCI < `end`, or if its
+    TCI is not a valid time.
     """
     number = find_gsi_fault(data, accepts_open)
     if number:
@@ -151,7 +151,7 @@ def read_subtitles(data: bytes, accepts_open: bool = False, begin: int = 0,
 # PES packets
 
 def is_valid_pts(field: bytes) -> bool:
-    """Return whether five bytes are a PTS: they begin with 0010 and have all marker bits."""
+    """Return whether five bytes are a PTS: they begin with 0010, and all marker bits are set."""
     return field[0] >> 4 == 2 and field[0] & field[2] & field[4] & 1 == 1
 
 
@@ -161,7 +161,7 @@ def is_gap_marker(packet: bytes) -> bool:
 
 
 def find_head_fault(packet: bytes) -> int | None:
-    """Return the fault of a complete PES packet before its data units, if any."""
+    """Return the fault number for the header of a complete PES packet, if any."""
     questions = [(45, not is_gap_marker(packet)), (33, packet[6] >> 4 == 8),
                  (34, packet[7] >> 6 == 2), (35, packet[8] == 0x24),
                  (36, is_valid_pts(packet[9:14])), (37, 0x10 <= packet[45] <= 0x1F)]
@@ -169,7 +169,7 @@ def find_head_fault(packet: bytes) -> int | None:
 
 
 def find_unit_fault(unit: bytes, last_line: tuple[int, int]) -> int | None:
-    """Return the fault of a data unit after `last_line`, if any."""
+    """Return the fault number for a data unit that follows line `last_line`, if any."""
     if unit[1] != 0x2C:
         return 38
     if unit[0] not in (2, 3):
@@ -180,12 +180,12 @@ def find_unit_fault(unit: bytes, last_line: tuple[int, int]) -> int | None:
 
 
 def get_line(unit: bytes) -> tuple[int, int]:
-    """Return the field (0 for the first) and the line of a data unit."""
+    """Return the field (0 for the first field) and the line of a data unit."""
     return (0 if unit[2] & 32 else 1, unit[2] & 31)
 
 
 def read_units(packet: bytes) -> tuple[list[bytes], int | None]:
-    """Return the Teletext packets of the data units, and the first fault of a unit, if any."""
+    """Return the Teletext packets in the data units, and the first fault number, if any."""
     packets: list[bytes] = []
     last_line = 0, 0
     for at in range(46, len(packet), 46):
@@ -201,9 +201,9 @@ def read_units(packet: bytes) -> tuple[list[bytes], int | None]:
 
 
 def read_length(data: bytes, begin: int = 0) -> int | None:
-    """Return the length in bytes of the PES packet at an offset, at least 184.
+    """Return the length in bytes (at least 184) of the PES packet at an offset.
 
-    Return fault 31 for a wrong start, 32 for a wrong length, and `None` if bytes are missing.
+    Return 31 for a wrong start, 32 for a wrong length, and `None` if bytes are missing.
     """
     head = data[begin:begin + HEAD]
     if len(head) < HEAD:
@@ -215,7 +215,7 @@ def read_length(data: bytes, begin: int = 0) -> int | None:
 
 
 def read_packet_at(data: bytes, begin: int) -> bytes | int:
-    """Return the PES packet at an offset, or a fault."""
+    """Return the PES packet at an offset, or a fault number."""
     length = read_length(data, begin)
     if length is None or length in (START, LENGTH):
         return length or CUT
@@ -224,7 +224,7 @@ def read_packet_at(data: bytes, begin: int) -> bytes | int:
 
 
 def split_packets(data: bytes) -> tuple[list[bytes], int | None]:
-    """Return the PES packets and gap markers of a file, and the fault of the remaining bytes."""
+    """Return the PES packets and gap markers in a file, and the fault of the remaining bytes."""
     found: list[bytes] = []
     begin = 0
     while begin < len(data):
@@ -237,13 +237,13 @@ def split_packets(data: bytes) -> tuple[list[bytes], int | None]:
 
 
 def find_frame(pts: int, origin: int) -> int | None:
-    """Return the frame of a PTS that is up to 1/4 frame early or less than 3/4 frame late."""
+    """Return the frame of a PTS. The PTS may be 1/4 frame early and less than 3/4 frame late."""
     frame = (pts - origin + TICKS // 4) % CLOCK // TICKS
     return frame if frame < FRAMES_OF_A_DAY else None
 
 
 def read_packet(piece: bytes, origin: int, within: int) -> ReadPacket | int:
-    """Return the frame and the Teletext packets of a PES packet, or its fault."""
+    """Return the frame and the Teletext packets of a PES packet, or its fault number."""
     number = find_head_fault(piece)
     if number is not None:
         return number
@@ -257,13 +257,13 @@ def read_packet(piece: bytes, origin: int, within: int) -> ReadPacket | int:
 # Teletext packets
 
 def decode_subcode(packet: bytes) -> tuple[int, ...]:
-    """Return the subcode of a page header, S1 to S4."""
+    """Return the subcode in a page header, S1 to S4."""
     numbers = [NUMBER[byte] or 0 for byte in packet[4:8]]
     return numbers[0], numbers[1] & 7, numbers[2], numbers[3] & 3
 
 
 def decode_header(packet: bytes) -> Header | None:
-    """Return the page and control bits of a page header, `None` for other packets."""
+    """Return the page and the control bits of a page header, or `None` for other packets."""
     address = decode_address(packet)
     numbers = [number for number in map(NUMBER.__getitem__, packet[2:10]) if number is not None]
     if address is None or address[1] != 0 or len(numbers) < 8:

@@ -1,4 +1,4 @@
-"""Calls on transport streams and PES ranges, with output worked out by hand.
+"""Calls on transport streams and PES ranges, with manually derived output.
 
 No test of the crates has these cases.
 """
@@ -8,7 +8,7 @@ from .calls import Answer, Call, KnownCall
 from .known import HELLO, SENT, replace_bytes
 from .recordings import GAP_MARKER
 
-TIME, LATER = "10:00:00:00", "10:00:02:00"  # starts of the two PES packets in SENT
+TIME, LATER = "10:00:00:00", "10:00:02:00"  # times of the two PES packets in SENT
 ACCEPTED = "accepted 51 frames 2 transmissions"
 LOST = "refused 45 Lost pes 1"
 PID = "--pid 257"
@@ -16,7 +16,7 @@ PID = "--pid 257"
 FIRST, SECOND = SENT[:184], SENT[184:]
 X0, X1 = b"\x47\x41\x01\x10" + FIRST, b"\x47\x41\x01\x11" + SECOND
 NULL = b"\x47\x1f\xff\x10" + b"\xff" * 184
-# A packet of the PID that has no payload and announces a jump of the continuity counter.
+# A TS packet of the PID without a payload that announces a jump of the continuity counter.
 JUMP = b"\x47\x01\x01\x20\xb7\x80" + b"\0" * 182
 
 
@@ -26,19 +26,19 @@ def set_counter(packet: bytes, counter: int) -> bytes:
 
 
 def make_adaptation_packet(packet: bytes, payload: bytes, flags: int = 0) -> bytes:
-    """Return the TS packet with an adaptation field before this payload."""
+    """Return the TS packet with an adaptation field and this payload."""
     length = 183 - len(payload)
     field = bytes([length, flags] + [0] * length)[:length + 1]
     return packet[:3] + bytes([packet[3] | 0x20]) + field + payload
 
 
 def make_first_packet(counter: int, flags: int = 0) -> bytes:
-    """Return a TS packet with the first half of X1's PES packet."""
+    """Return a TS packet with the first half of the PES packet in X1."""
     return make_adaptation_packet(set_counter(X1, counter), SECOND[:100], flags)
 
 
 def make_second_packet(counter: int) -> bytes:
-    """Return the TS packet with the second half of X1's PES packet."""
+    """Return a TS packet with the second half of the PES packet in X1."""
     return replace_bytes(make_adaptation_packet(set_counter(X1, counter), SECOND[100:]), {1: 0x01})
 
 
@@ -55,7 +55,7 @@ def expect_listen(name: str, recording: bytes, arguments: str, *lines: str) -> K
 
 
 WRONG_X0 = replace_bytes(X0, {1: 0xC1})
-SPOILED = replace_bytes(X0, {7: 0xBE})  # with another start code
+SPOILED = replace_bytes(X0, {7: 0xBE})  # wrong start code
 PACKET_CASES = [
     expect_check("a repeat that announces no jump, though the first one does", ACCEPTED,
                  X0, make_first_packet(9, 0x80), make_first_packet(9), make_second_packet(10)),

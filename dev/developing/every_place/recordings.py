@@ -1,8 +1,8 @@
-"""Read the PES packets of a transport stream, simply and slowly.
+"""Read the PES packets in a transport stream, simply and slowly.
 
 A recording is a transport stream (ISO/IEC 13818-1): packets of 188 bytes, every 188, 192 or 204
-bytes. The payloads of a PID are cut into parts, each a PES packet or a fragment. A gap marker, an
-invalid PES packet, replaces missing PES packets.
+bytes. The payloads of a PID are split into parts. Each part is a PES packet or a fragment. A gap
+marker, an invalid PES packet, replaces missing PES packets.
 """
 from __future__ import annotations
 
@@ -14,15 +14,15 @@ SYNC = 0x47
 PACKET = 188
 SIZES = PACKET, 192, 204  # possible packet sizes in bytes
 TIME_STAMP = 4  # bytes before each packet if the packet size is 192
-MAX_RECORDING_BYTES = 2**48  # largest number of bytes that are read
-MAX_UNSEEN_PACKETS = 15  # packets: the counter may wrap in more skipped bytes
-GAP_MARKER = b"\0\0\1\xbd\0\xb2" + b"\xff" * 178  # gap marker
+MAX_RECORDING_BYTES = 2**48  # maximum number of bytes that are read
+MAX_UNSEEN_PACKETS = 15  # number of packets after which the counter may wrap
+GAP_MARKER = b"\0\0\1\xbd\0\xb2" + b"\xff" * 178
 
 
 # Packets
 
 class Skipped(NamedTuple):
-    """Consecutive bytes between packets."""
+    """Skipped bytes between packets."""
 
     length: int
 
@@ -34,20 +34,19 @@ class TransportPacket:
         self.data = data
         self.pid = data[1] % 32 * 256 + data[2]
         self.begins = data[1] & 0x40 != 0  # payload_unit_start_indicator
-        self.counter = data[3] % 16  # continuity_counter
+        self.counter = data[3] % 16
         has_field, self.has_payload = data[3] & 0x20 != 0, data[3] & 0x10 != 0
-        # transport_error_indicator is set, or the packet is scrambled, or its adaptation field
-        # leaves no payload.
+        # transport_error_indicator is set, the packet is scrambled, or its payload is empty.
         self.is_wrong = bool(data[1] & 0x80 or data[3] & 0xC0) or (
             has_field and self.has_payload and data[4] > 182)
-        # discontinuity_indicator is set; ignored in a faulty packet.
+        # discontinuity_indicator, which is ignored in a faulty packet.
         self.announces_jump = not self.is_wrong and has_field and data[4] != 0 \
             and data[5] & 0x80 != 0
         self.payload = data[5 + data[4]:] if has_field else data[4:]
 
 
 def find_packets(data: bytes, size: int) -> Iterator[TransportPacket | Skipped]:
-    """Yield the packets of a stream, and the bytes skipped between them.
+    """Yield the packets in a stream, and the skipped bytes between them.
 
     The next packet is expected one packet size later. If it is not there, search for two sync bytes
     at this distance.
@@ -78,9 +77,9 @@ def find_packets(data: bytes, size: int) -> Iterator[TransportPacket | Skipped]:
 # Intact packets of a PID
 
 class GoodPacket(NamedTuple):
-    """An intact packet, and its relation to the intact packet before it.
+    """An intact packet, and its relation to the previous intact packet.
 
-    After a break packets may be missing; at an announced jump of the counter no packet is missing.
+    At a break, packets may be missing. At an announced jump of the counter, no packet is missing.
     """
 
     packet: TransportPacket
@@ -96,7 +95,7 @@ class Stretch:
         self.has_repeat = self.has_jump = self.is_hurt = False
 
     def is_repeat(self, packet: TransportPacket) -> bool:
-        """Return whether a packet is the first duplicate (2.4.3.3) of the packet before it.
+        """Return whether a packet is the first duplicate (2.4.3.3) of the previous packet.
 
         A packet that announces a new jump is no duplicate.
         """
@@ -106,7 +105,7 @@ class Stretch:
             and (before.announces_jump or not packet.announces_jump)
 
     def make_good_packet(self, packet: TransportPacket) -> GoodPacket:
-        """Return the next intact packet, which ends the stretch."""
+        """Return the next intact packet, which ends this stretch."""
         if self.before is None:
             return GoodPacket(packet, False, False)
         is_announced = self.has_jump or packet.announces_jump
@@ -116,7 +115,7 @@ class Stretch:
 
 
 def find_good_packets(data: bytes, pid: int, size: int) -> tuple[list[GoodPacket], bool]:
-    """Return the intact packets of a PID, and whether a faulty one follows the last."""
+    """Return the intact packets of a PID, and whether a faulty packet follows the last."""
     found: list[GoodPacket] = []
     stretch, is_wrong_last = Stretch(None), False
     for one in find_packets(data, size):
@@ -139,18 +138,18 @@ def find_good_packets(data: bytes, pid: int, size: int) -> tuple[list[GoodPacket
 # Parts
 
 class Part:
-    """Consecutive intact packets; a PES packet may begin in the first."""
+    """Consecutive intact packets. A PES packet may begin in the first packet."""
 
     def __init__(self, packets: list[GoodPacket]) -> None:
         self.has_break = packets[0].is_break
         payloads = [one.packet.payload for one in packets]
         self.payload = b"".join(payloads)
         found = read_length(self.payload) if packets[0].packet.begins else None
-        # The length of the PES packet, or the fault of its first six bytes; `None` if unknown.
+        # The length of the PES packet, or the fault in its first six bytes; `None` if unknown.
         self.wrong_head = found if found in (START, LENGTH) else None
         self.length = None if self.wrong_head else found
         self.is_whole = self.length is not None and len(self.payload) >= self.length
-        self.head = b""  # number of payloads that contain the first six bytes
+        self.head = b""  # payloads with the first six bytes
         for payload in payloads:
             self.head += payload if len(self.head) < HEAD else b""
 
@@ -168,9 +167,9 @@ def cut_parts(good_packets: list[GoodPacket]) -> list[Part]:
 # Contents of a stream
 
 class StreamContent(NamedTuple):
-    """The PES packets and gap markers of a stream, and which of them are gap markers.
+    """The PES packets and gap markers in a stream. `marks` is true for gap markers.
 
-    `rest` and `end_fault` are the part with another start or length, and its fault.
+    `rest` contains the bytes from a wrong start or length, `end_fault` its fault number.
     """
 
     pieces: list[bytes]
@@ -216,18 +215,18 @@ def read_stream(data: bytes, pid: int, size: int) -> StreamContent:
 # Ranges of PES packets
 
 class Range(NamedTuple):
-    """A range of PES packets and gap markers, and the index of the first.
+    """A range of PES packets and gap markers, and the index of its first item.
 
-    If the range reaches the end, the data include the bytes after the last PES packet.
+    If the range reaches the end, `data` includes the bytes after the last PES packet.
     """
 
     data: bytes
     first: int
-    is_end: bool  # the range reaches the end of the data
+    is_end: bool  # whether the range reaches the end of the data
 
 
 def select_range(data: bytes, first: int, last: int | None) -> Range:
-    """Return the items from `first` to `last`; if `last` is `None`, up to the end of the data."""
+    """Return the items from `first` to `last`, or to the end of the data if `last` is `None`."""
     place, count, begin = 0, 0, 0
     while last is None or count <= last:
         if count == first:

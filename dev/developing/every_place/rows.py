@@ -1,4 +1,4 @@
-"""Draw the page of a subtitle, or find the fault of its text, byte by byte."""
+"""Draw the page of a subtitle, or find the fault in its text, byte by byte."""
 from __future__ import annotations
 
 from subtitles.formats.layout import Layout, draw_lines, make_page_rows
@@ -7,12 +7,12 @@ from .reading import Record
 
 ROWS, COLUMNS, SPACE = 24, 40, 0x20
 NEW_LINE = 0x8A
-NO_CELL = range(0x80, 0x86)  # codes that switch italics, underline and boxing on and off
+NO_CELL = range(0x80, 0x86)  # codes that switch italics, underline and boxing
 BLANK = bytes([SPACE]) * (ROWS * COLUMNS)
 
 
 class TextFault(Exception):
-    """A fault of a text: its number, and its offset in the text or line."""
+    """Raised for a fault in a text, with its number and its offset in the text or line."""
 
     def __init__(self, number: int, at: int) -> None:
         super().__init__(number, at)
@@ -20,7 +20,7 @@ class TextFault(Exception):
 
 
 def split_lines(text: bytes, option: str, strip: bytes) -> list[bytes]:
-    """Return the cells of each line of a text, without the bytes in `strip`."""
+    """Return the cells of each line in a text, without the bytes in `strip`."""
     lines: list[list[int]] = [[]]
     at = 0
     while at < len(text):
@@ -41,7 +41,7 @@ def split_lines(text: bytes, option: str, strip: bytes) -> list[bytes]:
 
 
 def draw_page(record: Record, option: str, layout: Layout) -> bytes:
-    """Return the page of a subtitle as 960 codes by row. Raise `TextFault` for a faulty text."""
+    """Return the 960 codes of a subtitle's page, by row. Raise `TextFault` for a faulty text."""
     cells = split_lines(record.text, option, layout.strip)
     lines = draw_lines(cells, record.row, record.justify, layout)
     if not isinstance(lines, list):

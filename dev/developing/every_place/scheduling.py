@@ -1,4 +1,4 @@
-"""Compute the transmission that `schedule` must write, simply and slowly."""
+"""Compute the transmission that `schedule` writes, simply and slowly."""
 from __future__ import annotations
 
 from developing.pes import STUFFING_UNIT, reverse_bits, make_packet, encode_pts
@@ -14,7 +14,7 @@ FIRST_LINE, LAST_LINE = 7, 22
 
 
 def make_header(page: Page, option: str, is_serial: bool) -> bytes:
-    """Return a header of the page with subcode 0 and C4, C6 and C7 set."""
+    """Return a header of the page with subcode 0, and with C4, C6 and C7 set."""
     national = sum(1 << bit - 11 for bit in BITS[option])
     numbers = [page[1] % 16, page[1] // 16, 0, 8, 0, 8, 1, national + is_serial]
     return make_packet(page[0], 0, numbers, b" " * 32)
@@ -26,7 +26,7 @@ def make_closing_header(page: Page, is_serial: bool) -> bytes:
 
 
 def make_unit(number: int, data: bytes) -> bytes:
-    """Return a data unit; the first 16 units use lines 7 to 22 of the first field."""
+    """Return a data unit. The first 16 units use lines 7 to 22 of the first field."""
     field, line = divmod(number, LAST_LINE - FIRST_LINE + 1)
     return bytes([3, 0x2C, 0xC0 | (field == 0) << 5 | FIRST_LINE + line, 0xE4]) + reverse_bits(data)
 
@@ -50,7 +50,7 @@ def make_page_packets(page: bytes, options: Options, is_serial: bool) -> list[by
 
 
 def schedule(stl: bytes, options: Options, is_serial: bool) -> tuple[list[str], bytes]:
-    """Return the line that `schedule` prints about a subtitle file, and the transmission."""
+    """Return the line that `schedule` prints for a subtitle file, and the transmission."""
     subtitles = judge_subtitles(stl, options)
     if subtitles.lines:
         return subtitles.lines[:1], b""

@@ -2,7 +2,7 @@
 
 `multiplex` sends PES packets as a multiplexer does. `lose_units` removes and corrupts units as in a
 recording that lost packets. `make_random_stream` also repeats, moves and changes units, inserts
-bytes and cuts the ends.
+bytes, and cuts both ends.
 """
 from __future__ import annotations
 
@@ -11,15 +11,15 @@ from typing import NamedTuple
 
 from .recordings import PACKET, SYNC, TIME_STAMP, MAX_UNSEEN_PACKETS
 
-MOST = 184  # largest payload of a packet in bytes
-JUMP, BEGINS, WRONG = 0x80, 0x40, 0x80  # bits of bytes 5, 1 and 1 of a packet
+MOST = 184  # maximum payload of a packet in bytes
+JUMP, BEGINS, WRONG = 0x80, 0x40, 0x80  # bits in bytes 5, 1 and 1 of a packet
 NULL_PID = 0x1FFF
 
 
 class Unit(NamedTuple):
-    """A TS packet of a random stream.
+    """A TS packet in a random stream.
 
-    Packets of the PID have the number of their PES packet; if they have a payload, also their own.
+    A packet of the PID has the number of its PES packet and, if it has a payload, its own number.
     """
 
     packet: bytes
@@ -28,12 +28,12 @@ class Unit(NamedTuple):
 
     @property
     def is_wrong(self) -> bool:
-        """Return whether this unit was corrupted."""
+        """Return whether this packet was corrupted."""
         return bool(self.packet[1] & WRONG or self.packet[3] & 0xC0)
 
 
 def make_random_bytes(rng: Random, count: int) -> bytes:
-    """Return random bytes, often with values that mean something to a reader."""
+    """Return random bytes, often with values that have a meaning in a TS or PES packet."""
     if rng.random() < 0.5:
         return bytes([rng.choice([0, 0xFF, SYNC])]) * count
     return bytes(rng.choices([0, 1, 0x47, 0xBD, 0xFF, *range(256)], k=count))
@@ -42,7 +42,7 @@ def make_random_bytes(rng: Random, count: int) -> bytes:
 # Packets
 
 def make_adaptation_field(rng: Random, length: int, is_jump: bool) -> bytes:
-    """Return an adaptation field of this length; announcing a jump needs at least one byte."""
+    """Return an adaptation field of this length. To announce a jump, it needs at least one byte."""
     if length == 0:
         return b"\0"
     flags = rng.choice([0, 0, 0x40, 0x10]) | JUMP * is_jump
@@ -51,7 +51,7 @@ def make_adaptation_field(rng: Random, length: int, is_jump: bool) -> bytes:
 
 def make_packet(rng: Random, pid: int, counter: int, payload: bytes, begins: bool = False,
                 is_jump: bool = False) -> bytes:
-    """Return a packet with a payload; an adaptation field precedes a short payload."""
+    """Return a packet with a payload. A short payload follows an adaptation field."""
     field = b""
     if len(payload) < MOST:
         field = make_adaptation_field(rng, MOST - 1 - len(payload), is_jump)
@@ -68,7 +68,7 @@ def make_packet_without_payload(rng: Random, pid: int, is_jump: bool) -> bytes:
 
 
 def make_packet_of_other_pid(rng: Random, pid: int) -> bytes:
-    """Return a random packet of another PID."""
+    """Return a random packet with another PID."""
     other = rng.choice([NULL_PID, pid ^ 1, pid ^ 0x1000, rng.randrange(0x2000)])
     if other == pid:
         other ^= 1
@@ -80,7 +80,7 @@ def make_packet_of_other_pid(rng: Random, pid: int) -> bytes:
 # A multiplexer
 
 class Multiplexer:
-    """A sender of the PES packets of a PID. The counter may jump between two, if announced."""
+    """A multiplexer that sends the PES packets of a PID. Its counter may jump if announced."""
 
     def __init__(self, rng: Random, pid: int, has_jumps: bool) -> None:
         self.rng, self.pid, self.has_jumps = rng, pid, has_jumps
@@ -98,7 +98,7 @@ class Multiplexer:
             self.units.append(Unit(make_packet_without_payload(self.rng, self.pid, False), pes))
 
     def announce_jump(self, pes: int) -> bool:
-        """Sometimes announce a counter jump; return whether the next packet must do so too."""
+        """Sometimes announce a counter jump. Return whether the next packet must do so too."""
         if not self.has_jumps or self.rng.random() < 0.6:
             return False
         self.counter = self.rng.choice([self.counter, self.rng.randrange(16)])
@@ -139,7 +139,7 @@ class Multiplexer:
 
 
 def multiplex(rng: Random, packets: list[bytes], pid: int, has_jumps: bool) -> list[Unit]:
-    """Return PES packets as TS packets in the order of a multiplexer."""
+    """Return PES packets as TS packets, in the order in which a multiplexer sends them."""
     sender = Multiplexer(rng, pid, has_jumps)
     for number, data in enumerate(packets):
         sender.send(number, data)
@@ -148,7 +148,7 @@ def multiplex(rng: Random, packets: list[bytes], pid: int, has_jumps: bool) -> l
 
 
 def join_units(rng: Random, units: list[Unit], size: int) -> bytes:
-    """Return the bytes of units, with time stamps for size 192 or 16 more bytes for 204."""
+    """Return the bytes of units, with time stamps for size 192 or 16 more bytes for size 204."""
     before, behind = (TIME_STAMP, 0) if size == 192 else (0, size - PACKET)
     data = b"".join(make_random_bytes(rng, before) + one.packet + make_random_bytes(rng, behind)
                     for one in units)
@@ -189,25 +189,25 @@ def lose_units(rng: Random, units: list[Unit]) -> list[Unit]:
 
 
 def gone(number: int, kept: set[int]) -> bool:
-    """Return whether losing this packet too would lose too many consecutive packets."""
+    """Return whether the loss of this packet would make too many consecutive packets missing."""
     return number >= MAX_UNSEEN_PACKETS - 1 and kept.isdisjoint(range(number - MAX_UNSEEN_PACKETS +
                                                                       1, number + 1))
 
 
-# Worse faults
+# Other faults
 
-# Kinds of changes to units; a frequent kind occurs several times.
+# Kinds of changes to units. Frequent kinds occur several times.
 CHANGES = ["leave out", "leave out", "leave out", "again", "again", "wrong", "wrong", "head",
            "head", "head", "length", "jump", "jump", "counters", "payload", "bytes", "bytes"]
 
 
 def is_packet(unit: Unit) -> bool:
-    """Return whether a unit is a packet instead of bytes between packets."""
+    """Return whether a unit is a packet and not bytes between packets."""
     return len(unit.packet) == PACKET
 
 
 def choose_packet(rng: Random, units: list[Unit]) -> int:
-    """Return the index of a random packet, usually of the PID."""
+    """Return the index of a random packet, usually a packet of the PID."""
     places = [at for at, one in enumerate(units) if one.pes is not None]
     if places and rng.random() < 0.9:
         return rng.choice(places)
@@ -217,7 +217,7 @@ def choose_packet(rng: Random, units: list[Unit]) -> int:
 def change_units(rng: Random, units: list[Unit], size: int) -> None:
     """Make a random change to the units."""
     way = rng.choice(CHANGES)
-    if way == "bytes":  # a few bytes between two units, or enough to hide packets
+    if way == "bytes":  # insert a few bytes, or enough to hide packets
         unseen = MAX_UNSEEN_PACKETS * size
         count = rng.choice([1, 5, 187, 188, size, *[unseen - 1, unseen] * 3, 15 * 188, 3000])
         units.insert(choose_packet(rng, units), Unit(make_random_bytes(rng, count)))
@@ -227,20 +227,20 @@ def change_units(rng: Random, units: list[Unit], size: int) -> None:
     if way == "leave out":
         del units[at:at + rng.choice([1, 1, 2, 3, 14, 15, 16])]
         return
-    if way == "again":  # repeat the unit once or twice, immediately or a few units later
+    if way == "again":  # repeat the unit once or twice, next to it or a few units later
         for _ in range(rng.choice([1, 1, 2])):
             units.insert(min(at + rng.choice([1, 1, 1, 2, 3]), len(units)), units[at])
         return
     if way == "wrong":
         changed = bytearray(corrupt_unit(rng, units[at]).packet)
-    elif way == "head":  # flip a bit of the packet header or of the first bytes behind it
+    elif way == "head":  # flip a bit in the header or in the bytes after it
         changed[rng.choice([0, 1, 1, 2, 3, 3, 3, 3, 4, 5, 5, 6, 7, 8, 9])] ^= \
             1 << rng.randrange(8)
-    elif way == "length":  # change the length of an adaptation field, also to one that is too long
+    elif way == "length":  # change the adaptation field length, sometimes to an invalid value
         changed[3] |= 0x20
         changed[4] = rng.choice([0, 1, 7, 181, 182, 183, 184, 255])
         changed[5] = rng.choice([0, 0, JUMP, 0xFF])
-    elif way == "payload":  # change bytes at the end of a packet, or remove or add some there
+    elif way == "payload":  # change, remove or add bytes at the end of a packet
         count = rng.choice([1, 16, 100])
         changed[-count:] = make_random_bytes(rng, count)
     units[at] = units[at]._replace(packet=bytes(changed))
@@ -251,7 +251,7 @@ def change_units(rng: Random, units: list[Unit], size: int) -> None:
 
 
 def insert_jump(rng: Random, units: list[Unit], at: int) -> None:
-    """Insert a packet without payload that announces a jump."""
+    """Insert a packet without a payload that announces a counter jump."""
     one = bytearray(make_packet_without_payload(rng, 0, True))
     one[1] |= units[at].packet[1] & 0x1F
     one[2] = units[at].packet[2]
@@ -261,7 +261,7 @@ def insert_jump(rng: Random, units: list[Unit], at: int) -> None:
 
 
 def move_counters(rng: Random, units: list[Unit], at: int) -> None:
-    """Shift all counters from a unit on, with or without announcing the jump."""
+    """Shift all counters from a unit on. Sometimes announce the jump."""
     more = rng.randrange(1, 16)
     for place in filter(lambda place: is_packet(units[place]), range(at, len(units))):
         changed = bytearray(units[place].packet)
@@ -272,7 +272,7 @@ def move_counters(rng: Random, units: list[Unit], at: int) -> None:
 
 
 def make_random_stream(rng: Random, packets: list[bytes], pid: int, size: int) -> bytes:
-    """Return the stream of a multiplexer with losses and random changes."""
+    """Return a multiplexed stream with losses and random changes."""
     units = multiplex(rng, packets, pid, rng.random() < 0.5)
     if rng.random() < 0.3:
         units = lose_units(rng, units)

@@ -1,4 +1,4 @@
-"""Lines of faults, and the names of their numbers."""
+"""Format the printed lines of faults, and define the names of fault numbers."""
 from __future__ import annotations
 
 NAMES = dict(

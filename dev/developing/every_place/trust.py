@@ -1,6 +1,6 @@
-"""Find the frames that can be trusted despite faults, and where the list reports them.
+"""Find the frames that are trusted despite faults, and the positions of their lines in the output.
 
-An `EventLog` collects events and PES packets; runs of clean frames are found when it is complete.
+An `EventLog` collects events and PES packets. When it is complete, runs of clean frames are found.
 """
 from __future__ import annotations
 
@@ -9,7 +9,7 @@ from typing import Iterator, NamedTuple
 
 from subtitles.common.times import time_of
 
-# Faults that make a PES packet's frame unclean, because a receiver depends on these rules.
+# Faults that make the frame of a PES packet unclean, because receivers depend on these rules.
 PACKET_FAULTS = {64, 65, 67, 68, 69}
 ORDER = 62
 SKIPPED = {*range(33, 41), 45, 61}  # fault numbers of unreadable items
@@ -18,8 +18,8 @@ SKIPPED = {*range(33, 41), 45, 61}  # fault numbers of unreadable items
 class Event(NamedTuple):
     """A printed line, with its fault number and its frame, if any.
 
-    `pes` is the PES packet at which the line is reported, even if it concerns an earlier frame;
-    `None` after the last frame. `is_frame_end` is whether it is reported at the end of its frame.
+    `pes` is the PES packet at which the line is printed, even if it concerns an earlier frame;
+    `None` after the last frame. `is_frame_end` is true for a line at the end of its frame.
     """
 
     line: str
@@ -57,10 +57,9 @@ class CleanRun(NamedTuple):
 class EventLog:
     """The events of a transmission, and its PES packets.
 
-    `sent` and `ends` are the PES packets and the ends of frames before the first PES packet whose
-    frame does not rise; `has_rising_frames` is whether there is none. `skipped` are the unreadable
-    items.
-    `has_trailing_bytes` is whether bytes are left after the items.
+    `sent` and `ends` contain the PES packets and frame ends up to the first PES packet whose frame
+    is not later than the previous frame. If there is no such packet, `has_rising_frames` is true.
+    `skipped` contains the unreadable items. `has_trailing_bytes` is true if bytes follow the items.
     """
 
     events: list[Event] = field(default_factory=list)
@@ -72,9 +71,9 @@ class EventLog:
 
 
 class TrustedFrames:
-    """Finds trusted frames before the first PES packet whose frame does not rise.
+    """Finds the trusted frames up to the first PES packet whose frame is not later.
 
-    `is_refused` is whether the subtitle file has faults.
+    `is_refused` is true if the subtitle file has faults.
     """
 
     def __init__(self, event_log: EventLog, is_refused: bool) -> None:
@@ -86,7 +85,7 @@ class TrustedFrames:
         self.unclean = {item.frame for item in self.events
                         if item.pes in pes and item.number in PACKET_FAULTS}
         self.unclean |= {item.frame for item in event_log.ends if item.has_active}
-        # Unread data after a PES packet may belong to its frame, or to a later one.
+        # Unread data after a PES packet may belong to its frame, or to a later frame.
         if not event_log.has_rising_frames or event_log.has_trailing_bytes:
             self.unclean.add(self.last)
         for piece in event_log.skipped:
@@ -106,7 +105,7 @@ class TrustedFrames:
                 begin = frame + 1
 
     def find_trusted_frames(self) -> Iterator[tuple[int, CleanRun]]:
-        """Yield the trusted frames of each run, and the index of the event before their line."""
+        """Yield the trusted frames of each run, and the index of the event after their line."""
         for run in self.find_runs():
             headers = [packet.frame for packet in self.sent
                        if packet.has_header and run.first <= packet.frame <= run.last]
@@ -136,10 +135,10 @@ class TrustedFrames:
         return len(self.events)
 
     def find_last_trusted(self, last: int, at: int) -> int:
-        """Return the last trusted frame of a run, reported before the event at `at`.
+        """Return the last trusted frame in a run whose line precedes event `at`.
 
-        Frames with an incomplete page are not trusted if that event is a late end or the last one,
-        nor at all if the subtitle file has faults.
+        Frames with an incomplete page are not trusted if this event reports a late page or comes
+        after the last frame, or if the subtitle file has faults.
         """
         event = self.events[at] if at < len(self.events) else None
         end: FrameEnd | None = None
@@ -154,7 +153,7 @@ class TrustedFrames:
 
 
 def list_lines(event_log: EventLog, has_failed: bool, is_refused: bool) -> Iterator[str]:
-    """Yield the printed lines, including lines about trusted frames if there is any fault.
+    """Yield the printed lines. If there are faults, include the lines about trusted frames.
 
     After a read failure the end of the last run is unknown.
     """

@@ -10,7 +10,7 @@ import subprocess
 from .calls import Answer, Call, KnownCall, add_first_fault_call
 
 WRITING_COMMANDS = ("extract", "schedule")  # commands that write a file
-READ_SIZE = 65536  # bytes of one read: a second read of a shorter file reaches its end
+READ_SIZE = 65536  # bytes in one read; a second read of a shorter file reaches its end
 
 
 def make_reads_fail(path: str, data: bytes) -> list[str]:
@@ -21,7 +21,7 @@ def make_reads_fail(path: str, data: bytes) -> list[str]:
 
 
 def get_status(line: str) -> int:
-    """Return the exit status that the last line of a call implies."""
+    """Return the exit status that corresponds to the last line of an output."""
     if re.fullmatch(r"refused .*|\d+ faults", line):
         return 1
     return 2 if line.split()[0] in ("fault", "usage") else 0
@@ -50,7 +50,7 @@ class Trial:
             check=False).returncode
 
     def call_program(self, call: Call) -> tuple[int, Answer]:
-        """Return the program's status and output."""
+        """Run a call. Return the program's status and output."""
         names = [os.path.join(self.folder, f"{number}-{os.getpid()}")
                  for number in range(len(call.files))]
         for name, data in zip(names, call.files):
@@ -73,14 +73,14 @@ class Trial:
         return done.returncode, Answer(lines, made)
 
     def schedule(self, stl: bytes, arguments: list[str]) -> bytes:
-        """Return the transmission that the program writes."""
+        """Return the transmission that the program's `schedule` writes."""
         return self.call_program(Call("", "schedule", (stl,),
                                       shlex.join(arguments)))[1].written or b""
 
     def find_differences(self, known: KnownCall) -> list[str]:
         """Return messages about differences from the expected output.
 
-        Calls with a failing file are skipped if no file can be made to fail.
+        Calls with a failing file are skipped if reads cannot be made to fail on this machine.
         """
         messages = []
         for call, expected in add_first_fault_call(*known):

@@ -1,7 +1,7 @@
-"""Pairs of files for `check --all` with `--within N` or `--keeping`, with output by hand.
+"""Pairs of files for `check --all` with `--within N` or `--keeping`, with manually derived output.
 
-Transmissions are written as in `one_rule`: `o` is row 22 with o for its i, `r2` that row on row 20,
-`k` a header that keeps the page.
+Transmissions are written as in `one_rule`, with these additional names: `o` is row 22 with the
+letter o instead of i, `r2` is row 22's text on row 20, `k` is a header that keeps the page.
 """
 from __future__ import annotations
 
@@ -20,13 +20,13 @@ PACKETS = {"h": HEADER, "r": ROW, "c": CLOSING, "o": replace_bytes(ROW, {22: 0xE
 
 
 def make_pes_file(packets: str) -> bytes:
-    """Return the PES packets that a text names."""
+    """Return the PES packets in a list."""
     return b"".join(parse_transmission(packets, PACKETS))
 
 
 def expect_lines(name: str, pes: bytes, *asked: tuple[str, ...], stl: bytes = HELLO
             ) -> list[KnownCall]:
-    """Return a call for each set of options, with its expected lines."""
+    """Return a call with its expected lines for each set of options."""
     return [make_known_check(f"{name}: check {arguments}".rstrip(), stl, pes, arguments,
                              add_count_line(*lines))
             for arguments, *lines in asked]
@@ -53,7 +53,7 @@ MOST = [
                   ("--within 50", format_accepted_line(51, 3))),
 ]
 
-# A PTS belongs to a frame up to a quarter early and less than three quarters late.
+# The PTS of a frame may be a quarter of a frame early and less than three quarters late.
 TICK_CASES = [
     *expect_lines("the last PTS of a frame", SENT, ("--origin 8589931893 --within 1",
                                                     format_accepted_line(51, 2))),
@@ -68,8 +68,8 @@ TICK_CASES = [
 
 WITHIN = [*MOST, *TICK_CASES, *DAY]
 
-# Headers that keep the page, with rows after a first header, rows outside an open page, and an
-# unknown expected page.
+# Headers that keep the page, rows after a first header, rows outside an open page, and an unknown
+# expected page.
 KEEPING = "--keeping"
 AFTER_BAD = make_stl_file((0, 50, 22, HI.replace(b"i", b"\xe6")), (50, 100, 22, HI))
 BAD = "refused 50 Character block 1 at 4"
