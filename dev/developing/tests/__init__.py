@@ -1,20 +1,20 @@
-"""Tests of the tools, run by dev/check-tools: each module `test_..` tests a tool or one task.
+"""Tests of the tools, run by dev/check-tools. Each module `test_*` tests a tool or a task.
 
-Helper modules, each of which imports only those above it:
+Helper modules, each importing only modules above it:
 
-failures           the text of a failed check
-bench              the base class of tests: folders, calls of tools, checks
+failures           the message of a failed check
+bench              the base class of tests, with folders, calls to tools, and checks
 transmissions      subtitle files, page transmissions, pipes
 streams            transport streams
-judged             pairs judged in this process
-parts              values that the tools' packages exchange: answers, parts, requests
+judged             judge pairs in this process
+parts              answers, parts, requests and other values used by the tools
 results            JSON results, and a validator of their schema
 programmes         subtitle files and transmissions of whole programmes
 air                segments and schedules for the tests of tools/air
-scenario           random pairs by their seeds; wide_scenario adds more faults and options
-random_calls       random and named calls of qc; random_folders for many pairs in one folder
+scenario           random pairs made from seeds; wide_scenario adds more faults and options
+random_calls       random and named runs of qc; random_folders runs it on folders of pairs
 snapshots          stored outputs in dev/snapshots/
 planted            programmes with one planted fault
-table              which tests belong to which module of the tools
-runner             finds tests and runs several at once
+table              maps modules of the tools to their tests
+runner             finds tests and runs them in parallel
 """

@@ -1,6 +1,6 @@
 """Segments and schedules for the tests of tools/air, and a fake checker.
 
-Times are seconds of one day, and each second of the feed is a byte.
+Times are seconds after `DAY`. A segment has one byte for each second of the feed.
 """
 from __future__ import annotations
 
@@ -19,12 +19,12 @@ from subtitles.results.files import make_unjudged
 from .bench import Case
 
 DAY = 1_796_112_000.0  # 2026-12-01T08:00:00Z
-LENGTH = 10  # seconds of a segment
+LENGTH = 10  # length of a segment in seconds
 MARGIN = 60
 
 
 class Sent(NamedTuple):
-    """When a programme is really on air, and whether its subtitles are correct."""
+    """A programme's actual times on air, and whether its subtitles are correct."""
 
     begin: float
     end: float
@@ -32,13 +32,13 @@ class Sent(NamedTuple):
 
 
 class FakeChecker:
-    """Judge a stretch by the programmes that are really on air in it."""
+    """A checker that knows which programmes are on air, and returns the expected outcomes."""
 
     def __init__(self, sent: dict[str, Sent], fails: Callable[[], bool] = lambda: False) -> None:
         self.sent, self.fails, self.work, self.calls = sent, fails, os.devnull, list[str]()
 
     def check(self, _: Request, name: str, begin: float, stretch: Unbroken) -> Outcome:
-        """Return what the program would find."""
+        """Return the outcome that the real checker would return for a programme."""
         self.calls.append(name)
         if self.fails():
             return Outcome(None, "the machine failed")
@@ -56,7 +56,7 @@ class FakeChecker:
         return refused._replace(is_finished=sent.end < last)
 
     def clear(self) -> None:
-        """Delete nothing: there is no work folder."""
+        """Do nothing, since a fake checker has no work folder."""
 
 
 def outcome(name: str, verdict: str, reason: str) -> Outcome:
@@ -67,25 +67,25 @@ def outcome(name: str, verdict: str, reason: str) -> Outcome:
 
 
 class Air(Case):
-    """A schedule, segments and results in the folder of a test."""
+    """A test case with a schedule, segments and results in its folder."""
 
     def setUp(self) -> None:
         super().setUp()
         for name in ("segments", "out"):
             os.mkdir(self.path(name))
         for module, name in ((judge, "print_stdout"), (judge, "write_state"), (os, "fsync")):
-            patch = mock.patch.object(module, name)  # a test waits for no disk, and prints nothing
+            patch = mock.patch.object(module, name)  # print nothing, do not wait for disks
             patch.start()
             self.addCleanup(patch.stop)
 
     def args(self, *more: str) -> argparse.Namespace:
-        """Return the arguments of a call of `judge`."""
+        """Return parsed arguments for `tools/air judge`."""
         line = [self.path("schedule"), self.path("segments"), "-o", self.path("out"), "--margin",
                 f"{MARGIN}", "-p", "/bin/true", *more]
         return read_options(main.judge_parser(), line, {}, {})
 
     def make_judge(self, checker: FakeChecker, *more: str) -> judge.Judge:
-        """Return a judge with a fake checker that does not monitor disks."""
+        """Return a judge that uses a fake checker and does not monitor disks."""
         made = judge.Judge(self.args(*more), "qc")
         made.checker = checker  # type: ignore
         made.monitor.look = lambda *_: None  # type: ignore
@@ -97,7 +97,7 @@ class Air(Case):
 
     def put_segment(self, begin: float, end: float, data: bytes = b"", is_new: bool = False
                     ) -> str:
-        """Write the segment of some seconds; return its path."""
+        """Write a segment that lasts from `begin` to `end`; return its path."""
         path = self.path(f"segments/{segment_name(DAY + begin, is_new)}")
         with open(path, "wb") as file:
             file.write(data or b"." * max(int(end - begin), 1))
@@ -105,24 +105,23 @@ class Air(Case):
         return path
 
     def put_segments(self, begin: int, end: int, missing: Sequence[tuple[int, int]] = ()) -> None:
-        """Write segments from one second to another, without those that overlap a missing stretch.
-        """
+        """Write the segments from `begin` to `end`, except those that overlap `missing`."""
         for at in range(begin, end, LENGTH):
             if not any(at < last and at + LENGTH > first for first, last in missing):
                 self.put_segment(at, min(at + LENGTH, end))
 
     def verdicts(self) -> dict[str, str]:
-        """Return the verdicts by the names of their results."""
+        """Return the verdict of each result in the output folder, by the result's name."""
         names = (name[:-5] for name in os.listdir(self.path("out")) if name.endswith(".json"))
         return {name: str(self.result(name)["verdict"]) for name in names if name != "state"}
 
     def result(self, name: str) -> dict[str, Any]:
-        """Return a JSON result."""
+        """Return the JSON result with a name."""
         found: dict[str, Any] = json.loads(self.read(f"out/{name}.json"))
         return found
 
     def delete_all(self, *folders: str) -> None:
-        """Delete all files in some folders."""
+        """Delete all files in some folders of the test."""
         for folder in folders:
             for name in os.listdir(self.path(folder)):
                 os.unlink(self.path(f"{folder}/{name}"))

@@ -1,7 +1,7 @@
-"""The base class of tests: folders, calls of the program and the tools, checks.
+"""The base class of tests, with methods to write files, run the tools and check values.
 
 Each test of a `Case` has its own folder, and continues after a failed check. From dev/, `python3 -m
-unittest developing.tests.test_clock_delays` runs a module too.
+unittest developing.tests.test_clock_delays` runs the tests in one module.
 """
 from __future__ import annotations
 
@@ -26,15 +26,15 @@ from subtitles.common.program import TOP, find_built_program
 from .failures import Mismatch, calling_frame, comparison, explained, lines_of, place_of, shortened
 
 EXAMPLES = os.path.join(TOP, "examples")
-MAX_OF_NAME = 160  # characters of a check's name in a failure
-SECONDS = 600  # time limit of a call or a wait, also on a busy machine
+MAX_OF_NAME = 160  # maximum number of characters printed of a check's name
+SECONDS = 600  # time limit for a command or a wait, in seconds
 
 
-Row = Tuple[Tuple[Any, ...], object]  # of a table: arguments, and the expected value
+Row = Tuple[Tuple[Any, ...], object]  # arguments, and the expected value
 
 
 class Done(NamedTuple):
-    """The status, standard output and lines on standard error of a finished call."""
+    """The exit status, standard output and standard error of a finished command."""
 
     status: int
     out: bytes
@@ -42,9 +42,9 @@ class Done(NamedTuple):
 
 
 class Bench:
-    """Settings of a test run:
-    the program, the folder of the tests, whether to measure speed or to update stored outputs, and
-    which tests this machine skips.
+    """Settings of a test run, such as the program under test and the folder of the tests.
+
+    `over` lists the tests that were skipped, with reasons.
     """
 
     def __init__(self) -> None:
@@ -54,13 +54,13 @@ class Bench:
 
     @property
     def program(self) -> str:
-        """Return the path of the program under test; the default is the one that ./subttx runs."""
+        """Return the path of the program under test, by default the program run by ./subttx."""
         if self.chosen is None:
             self.chosen = os.path.realpath(find_built_program(None))
         return self.chosen
 
     def make_top(self) -> str:
-        """Create the folder for all tests, readable by other users, unless it exists."""
+        """Create the folder for all tests, readable by other users, unless it exists; return it."""
         if not self.folder:
             self.folder = tempfile.mkdtemp()
             os.chmod(self.folder, 0o755)
@@ -68,7 +68,7 @@ class Bench:
         return self.folder
 
     def make_folder(self, name: str) -> str:
-        """Create the folder of a test."""
+        """Create a folder for one test, and return its path."""
         made = os.path.join(self.make_top(), name)
         os.mkdir(made)
         return made
@@ -78,7 +78,7 @@ BENCH = Bench()
 
 
 class Case(unittest.TestCase):
-    """A test with its own folder."""
+    """A test case whose tests have folders of their own."""
 
     bench = BENCH
     folder = ""
@@ -87,10 +87,10 @@ class Case(unittest.TestCase):
         self.folder = self.bench.make_folder(self.id().rpartition("tests.")[2])
 
     def must(self, name: str, is_right: object, told: object = "") -> bool:
-        """Check that a condition is true, and continue.
+        """Check that a condition is true; continue after a failure.
 
-        A failure shows the caller's line and the first fact of the condition that is false. Prefer
-        `check`, which has an expected value.
+        A failure shows the caller's line and the first false part of the condition. Prefer `check`
+        if there is an expected value.
         """
         with self.subTest(name):
             if not is_right:
@@ -101,7 +101,7 @@ class Case(unittest.TestCase):
         return bool(is_right)
 
     def check(self, name: str, found: object, expected: object) -> bool:
-        """Compare a value with its expected value, and continue."""
+        """Check that two values are equal; continue after a failure."""
         with self.subTest(name):
             if found != expected:
                 raise Mismatch(f"{name[:MAX_OF_NAME]}\n  {place_of(calling_frame())}\n"
@@ -109,7 +109,7 @@ class Case(unittest.TestCase):
         return found == expected
 
     def check_each(self, function: Callable[..., object], rows: Mapping[str, Row]) -> None:
-        """Call a function with the arguments of each named row, and compare what it returns."""
+        """Call a function with the arguments in each named row, and check its return values."""
         for name, (arguments, expected) in rows.items():
             self.check(f"{name}: {getattr(function, '__name__', 'call')}"
                        f"({', '.join(map(repr, arguments))})", function(*arguments), expected)
@@ -125,21 +125,21 @@ class Case(unittest.TestCase):
         return self.path(name)
 
     def write_program(self, name: str, text: str) -> str:
-        """Write an executable file; return its path."""
+        """Write an executable file in the test's folder; return its path."""
         path = self.write(name, text.encode())
         os.chmod(path, 0o755)
         return path
 
     def read(self, name: str) -> bytes:
-        """Return the content of a file in the test's folder."""
+        """Return the contents of a file in the test's folder."""
         with open(self.path(name), "rb") as file:
             return file.read()
 
     def call(self, command: Sequence[str], data: bytes | None = None,
              env: dict[str, str] | None = None, user: int | None = None, folder: str = "") -> Done:
-        """Run a command in the test's folder or a folder below it.
+        """Run a command in the test's folder or in a folder within it.
 
-        Python tools run in a fork with all modules loaded, unless `env` or `user` is given.
+        Python tools run in a fork of this process, unless `env` or `user` is given.
         """
         does = forked_tool(command) if env is None and user is None else None
         done = subprocess.run(command, cwd=os.path.join(self.folder, folder), check=False,
@@ -152,32 +152,32 @@ class Case(unittest.TestCase):
         return self.call([tool_path(name), *words], data)
 
     def program(self, *words: str) -> tuple[int, list[str]]:
-        """Run the program; return its status and output lines."""
+        """Run the program under test; return its exit status and output lines."""
         done = self.call([self.bench.program, *words])
         return done.status, done.out.decode().splitlines()
 
     def program_but(self, when: str, does: str) -> str:
-        """Write a program that runs the shell command `does` if its arguments match the pattern
-        `when`, and the real program otherwise."""
+        """Write a script that runs the shell command `does` if its arguments match the pattern
+        `when`, and then the program under test; return its path."""
         return self.write_program("program", f"#!/bin/sh\ncase $* in {when}) {does} ;; esac\nexec "
                                              f"'{self.bench.program}' \"$@\"\n")
 
     def schedule(self, stl: str, name: str, *options: str) -> str:
-        """Write the transmission that `schedule` makes of a subtitle file; return its path."""
+        """Write the transmission that `schedule` makes from a subtitle file; return its path."""
         done = self.call([self.bench.program, "schedule", stl, self.path(name), *options])
         assert done.status == 0, done
         return self.path(name)
 
 
 def tool_path(name: str) -> str:
-    """Return the path of a tool in tools/, or else in dev/."""
+    """Return the path of a tool in tools/ if it exists there, and in dev/ otherwise."""
     path = os.path.join(TOP, "tools", name)
     return path if os.path.exists(path) else os.path.join(TOP, "dev", name)
 
 
 @functools.lru_cache(None)
 def is_python(path: str) -> bool:
-    """Return whether a file is one of this repository's Python tools."""
+    """Return whether a file is a Python script in tools/ or dev/."""
     if os.path.dirname(path) not in (TOOLS, DEV):
         return False
     with open(path, "rb") as file:
@@ -185,18 +185,18 @@ def is_python(path: str) -> bool:
 
 
 def forked_tool(command: Sequence[str]) -> Callable[[], NoReturn] | None:
-    """Return a function that replaces a forked process by a Python tool; `None` for other commands.
+    """Return a function that runs a Python tool in a forked process, or `None` for other commands.
     """
     sys.__stdout__.flush()
     return functools.partial(run_forked, command) if is_python(command[0]) else None
 
 
 def run_forked(command: Sequence[str]) -> NoReturn:
-    """Run a Python tool in this forked process."""
+    """Run a Python tool in this forked process, and exit with its status."""
     status: object = 1
     try:
         for number in (signal.SIGPIPE, signal.SIGXFSZ):
-            signal.signal(number, signal.SIG_IGN)  # as Python does at its start
+            signal.signal(number, signal.SIG_IGN)  # as a new interpreter does
         if signal.getsignal(signal.SIGINT) == signal.SIG_DFL:
             signal.signal(signal.SIGINT, signal.default_int_handler)
         for name in os.listdir("/proc/self/fd"):
@@ -220,11 +220,11 @@ def run_forked(command: Sequence[str]) -> NoReturn:
 
 
 def import_script(name: str) -> Any:
-    """Import a tool as a module."""
+    """Import a script in tools/ or dev/ as a module."""
     loader = importlib.machinery.SourceFileLoader(name, tool_path(name))
     spec = importlib.util.spec_from_loader(name, loader)
     assert spec
-    # data classes look up their module there
+    # Data classes look up their module in sys.modules.
     made = sys.modules[name] = importlib.util.module_from_spec(spec)
     loader.exec_module(made)
     return made
@@ -235,6 +235,6 @@ def example(name: str) -> str:
 
 
 def example_bytes(name: str) -> bytes:
-    """Return the content of an example."""
+    """Return the contents of a file in examples/."""
     with open(example(name), "rb") as file:
         return file.read()

@@ -1,4 +1,4 @@
-"""Explain a failed check: the caller's line, the expected and the found value, and a diff."""
+"""Explain a failed check with the caller's line, both values and their differences."""
 from __future__ import annotations
 
 import ast
@@ -10,17 +10,17 @@ import sys
 from types import FrameType
 from typing import Iterator
 
-HELPERS = ("bench.py", "failures.py", "snapshots.py")  # files that a failure never points to
-MOST = 60  # lines of a diff or a value
+HELPERS = ("bench.py", "failures.py", "snapshots.py")  # files skipped in the search for the caller
+MOST = 60  # maximum number of printed lines
 WIDTH = 96
 
 
 class Mismatch(AssertionError):
-    """A failed check, whose text needs no traceback."""
+    """Raised by a failed check; its message is printed without a traceback."""
 
 
 def calling_frame() -> FrameType:
-    """Return the frame of the test that called a helper."""
+    """Return the stack frame of the test that called a method of a helper module."""
     frame: FrameType | None = sys._getframe(1)
     while frame and os.path.basename(frame.f_code.co_filename) in HELPERS:
         frame = frame.f_back
@@ -29,26 +29,26 @@ def calling_frame() -> FrameType:
 
 
 def place_of(frame: FrameType) -> str:
-    """Return file, line number and source text of the line that a frame runs."""
+    """Return the file, number and source text of the line that a stack frame executes."""
     path = frame.f_code.co_filename
     line = linecache.getline(path, frame.f_lineno).strip()
     return f"{os.path.basename(path)}:{frame.f_lineno}: {line}"
 
 
 def shortened(lines: list[str]) -> str:
-    """Join the first MOST lines, and count the others."""
+    """Join the lines; replace those after the first MOST lines by their number."""
     more = [f"  .. {len(lines) - MOST} more lines"] * (len(lines) > MOST)
     return "\n".join([*lines[:MOST], *more])
 
 
 def lines_of(value: object) -> list[str]:
-    """Split a text into lines; format any other value as Python prints it."""
+    """Split a multi-line text into lines; format other values with `pprint`."""
     return value.splitlines() if isinstance(value, str) and "\n" in value else \
         pprint.pformat(value, width=WIDTH, compact=True).splitlines()
 
 
 def comparison(found: object, expected: object) -> str:
-    """Show two different values; long ones as a diff."""
+    """Format two different values; use a diff if they take several lines."""
     own, wanted = lines_of(found), lines_of(expected)
     if len(own) == 1 and len(wanted) == 1:
         return f"  expected: {wanted[0]}\n  found:    {own[0]}"
@@ -57,7 +57,7 @@ def comparison(found: object, expected: object) -> str:
 
 
 def condition_in(frame: FrameType, helper: str) -> ast.expr | None:
-    """Find the condition in a frame's call of a helper: its second argument."""
+    """Return the second argument in the call to `helper` that a frame executes, or `None`."""
     source = "".join(linecache.getlines(frame.f_code.co_filename))
     calls = [one for one in ast.walk(ast.parse(source)) if isinstance(one, ast.Call)
              and isinstance(one.func, ast.Attribute) and one.func.attr == helper
@@ -67,7 +67,7 @@ def condition_in(frame: FrameType, helper: str) -> ast.expr | None:
 
 
 def facts_in(condition: ast.expr) -> Iterator[ast.expr]:
-    """Split a condition at `and`."""
+    """Yield the operands of `and` in a condition, or the condition itself."""
     if isinstance(condition, ast.BoolOp) and isinstance(condition.op, ast.And):
         for one in condition.values:
             yield from facts_in(one)
@@ -76,8 +76,8 @@ def facts_in(condition: ast.expr) -> Iterator[ast.expr]:
 
 
 def explained(frame: FrameType, helper: str = "must") -> str:
-    """Evaluate a failed condition again; show its first false fact, with both sides of a
-    comparison. Side effects of a second evaluation remain."""
+    """Evaluate a failed condition again, and return the text of its first false operand, with both
+    sides of a comparison. Evaluation may have side effects."""
     condition = condition_in(frame, helper)
     names = {**frame.f_globals, **frame.f_locals}
 
@@ -95,6 +95,6 @@ def explained(frame: FrameType, helper: str = "must") -> str:
                 return f"{text}\n" + (comparison(left, right) if kind else shortened(
                     [f"  left:     {left!r}", f"  right:    {right!r}"]))
             return text
-    except Exception as error:  # the condition can't be evaluated a second time
+    except Exception as error:  # raised by the second evaluation
         return f"  not explained: {type(error).__name__}: {error}"
     return ""

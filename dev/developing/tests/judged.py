@@ -1,4 +1,4 @@
-"""Run qc on a pair in this process, and return what it printed, its verdict and its JSON result."""
+"""Run qc on a pair in this process, and return its output, verdict and JSON result."""
 from __future__ import annotations
 
 import json
@@ -23,20 +23,19 @@ from .bench import Case
 from .streams import Packet, stream_bytes
 from .transmissions import Sent, pes_file, packets, write_programme, schedule_pages, subtitle_times
 
-FEW = "are too few to measure their interval"  # the end of a note
+FEW = "are too few to measure their interval"  # end of a note about the pace
 
 
 class LineRecorder(SilentPrinter):
-    """Record the printed lines; those for standard error begin with `! `."""
+    """Records the printed lines, with `! ` before lines for standard error."""
 
     def print_error(self, line: str) -> None:
         self.lines.append(f"! {line}")
 
 
 class JudgedPair(NamedTuple):
-    """A judged pair:
-    its verdict, printed lines, JSON result, the fault lists of its parts, and the files that
-    printed commands may name.
+    """A judged pair, with its verdict, printed lines, JSON result, and the fault lines of its
+    parts. Printed commands may name only `files`.
     """
 
     verdict: Verdict
@@ -47,11 +46,11 @@ class JudgedPair(NamedTuple):
 
     @property
     def word(self) -> str:
-        """Return the verdict word as if a clock was given."""
+        """Return the verdict that the pair would have if the user had given a clock."""
         return decide(self.verdict.collect_grounds()._replace(has_clock=True)).word
 
     def is_timed(self) -> bool:
-        """Return whether `accepted`, `waived` and status 0 occur only if a clock was given."""
+        """Return whether qc printed `accepted` or `waived`, or returned 0, only with a clock."""
         request, printed = self.verdict.request, (
             self.verdict.word, self.result["verdict"], self.said[-1].split(" ")[0])
         return request.has_clock or not {"accepted", "waived", "waived:"} & {*printed} and (
@@ -59,23 +58,23 @@ class JudgedPair(NamedTuple):
 
     @property
     def told(self) -> list[str]:
-        """Return the lines for standard error."""
+        """Return the lines printed on standard error."""
         return [line[2:] for line in self.said if line.startswith("! ")]
 
     def lines(self, begin: str) -> list[str]:
-        """Return the lines that begin with a prefix, without the prefix."""
+        """Return the printed lines that begin with a prefix, without this prefix."""
         return [line[len(begin):] for line in self.said if line.startswith(begin)]
 
     def parts(self, *names: str) -> list[tuple[Any, ...]]:
-        """Return some members of each part."""
+        """Return some members of each part in the JSON result."""
         return [tuple(part[name] for name in names) for part in self.result["parts"]]
 
 
 def judge_files(case: Case, *words: str, by: str | None = None,
                 recorder: LineRecorder | None = None) -> JudgedPair:
-    """Judge a pair by the arguments of a command line.
+    """Judge a pair with these arguments for qc.
 
-    Check that printed commands name only its files.
+    Check that printed commands name only files of the pair.
     """
     found = judge_files_with(by or case.bench.program, *words, recorder=recorder)
     case.must("a clock", found.is_timed(), found.said)
@@ -85,7 +84,7 @@ def judge_files(case: Case, *words: str, by: str | None = None,
 
 
 def judge_files_with(program: str, *words: str, recorder: LineRecorder | None = None) -> JudgedPair:
-    """Judge a pair by the arguments of a command line, with a program."""
+    """Judge a pair with these arguments for qc and with the given program."""
     recorder = recorder or LineRecorder()
     known = read_options(make_parser(""), ["-p", program, *words], {}, {})
     request, command_paths = make_request(known), CommandPaths("tools/qc", program)
@@ -103,7 +102,7 @@ def judge_files_with(program: str, *words: str, recorder: LineRecorder | None = 
         report_pair(verdict, recorder, files)
         result = json.loads("".join(write_result(verdict, ProgramInfo("1", "0" * 64, None))))
         listed = [line for part in verdict.parts for line in part.check_output.read_lines()]
-        # For a pipe, the stored copy is the recording.
+        # A recording read from a pipe is named by its stored copy.
         known_files = {request.stl, request.recording, os.devnull}
         if pair.recording:
             known_files.add(pair.recording.shown)
@@ -111,14 +110,14 @@ def judge_files_with(program: str, *words: str, recorder: LineRecorder | None = 
 
 
 class ProgrammeCase(Case):
-    """Tests with a subtitle file (`stl`) of the frames `due`, its transmission `transmissions` and
-    its PES packets `pes`. `words` are the arguments of each call."""
+    """A test case with a subtitle file `stl`, whose subtitles have the first and end frames `due`,
+    and its transmission (`sent`, `pes`). Each run of qc has the arguments `words`."""
 
     due: Sequence[tuple[int, int]] = subtitle_times(10)
     words: Sequence[str] = ("--origin", "0")
-    # text of each line, lines of a subtitle, first subtitle number
+    # Text of each line, number of lines in a subtitle, and first subtitle number.
     text, lines, first = b"Number %d", 1, 1
-    origin, every = 0, 25  # of the transmission; its PTS don't wrap
+    origin, every = 0, 25  # PTS of frame 0, and repeat interval in frames
 
     def setUp(self) -> None:
         super().setUp()
@@ -127,18 +126,18 @@ class ProgrammeCase(Case):
         self.pes = packets(pes_file(self.sent))
 
     def judge(self, sent: Sent, *words: str) -> JudgedPair:
-        """Judge a transmission as a file of PES packets."""
+        """Write a transmission to a PES file, and judge it."""
         return judge_files(self, self.stl, self.write("one.pes", pes_file(sent)), *self.words,
                            *words)
 
     def judge_stream(self, made: bytes | Iterable[Packet], *words: str) -> JudgedPair:
-        """Judge a transport stream."""
+        """Write a transport stream to a file, and judge it."""
         data = made if isinstance(made, bytes) else stream_bytes(made)
         return judge_files(self, self.stl, self.write("one.ts", data), *self.words, *words)
 
 
 def shown_files(line: str) -> list[str]:
-    """Return the files that a printed command names after `check`."""
+    """Return the files that a printed `check` command names."""
     words = shlex.split(line)[2:]
     return [word for before, word in zip(["", *words], words) if not word.startswith("-")
             and (not before.startswith("-") or before in ("--all", "--complete"))]

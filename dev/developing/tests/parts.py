@@ -1,4 +1,4 @@
-"""Make the values that the tools' packages exchange, without files: answers, parts, requests."""
+"""Make answers, parts, requests and other values that the modules of the tools exchange."""
 from __future__ import annotations
 
 import argparse
@@ -30,7 +30,7 @@ MEANINGS = {number: Meaning("", f"it means `{number}`", f"do {number}") for numb
 
 
 def fault_of(line: str) -> FaultLine:
-    """Parse a fault line of `check --all`."""
+    """Parse a valid fault line of `check --all`."""
     reported = parse_fault_line(line)
     assert reported, line
     return reported
@@ -38,9 +38,9 @@ def fault_of(line: str) -> FaultLine:
 
 def make_answer(lines: Sequence[str] = ("accepted 10 frames 2 transmissions",),
            status: int | None = None, path: str = os.devnull) -> CheckOutput:
-    """Return what `check --all` answered, from its lines.
+    """Parse lines printed by `check --all`.
 
-    If `path` is given, the lines are stored there.
+    The lines are stored in the file `path`.
     """
     made = CheckOutput(path)
     for line in lines:
@@ -53,7 +53,7 @@ def make_part(begin: int | None, end: int | None, origin: int | None,
               printed: CheckOutput | None = None, number: int = 1, source: str = GIVEN,
               packets: Packets | None = None, places: Sequence[LossPlace] = (),
               **more: Any) -> Part:
-    """Return a part of some frames, with the PES packets and the losses of its recording."""
+    """Return a part with frames from `begin` to `end`, PES packets, losses and other members."""
     alignment = None if begin is None or end is None or origin is None else \
         TimedPart(begin, end, Clock(origin, source))
     names = OutputNames("a", "", None)
@@ -72,7 +72,7 @@ def make_part(begin: int | None, end: int | None, origin: int | None,
 
 
 def read_survey(*lines: str) -> Survey:
-    """Parse lines of `survey`."""
+    """Parse lines printed by `survey`."""
     survey = Survey()
     for line in lines:
         survey.read_line(line)
@@ -80,45 +80,45 @@ def read_survey(*lines: str) -> Survey:
 
 
 def request_for(stl: str, recording: str | None, *words: str) -> Request:
-    """Return the request of a command line with two files."""
+    """Return the request for a pair of files with these options."""
     return make_file_request(stl, recording, default_options(*words))
 
 
 def default_options(*words: str) -> argparse.Namespace:
-    """Return the parsed options of a command line."""
+    """Parse options for qc; options that are not given have their defaults."""
     parser = ToolParser("")
     add_options(parser)
     return read_options(parser, words, {}, {})
 
 
 def call_arguments(request: Request) -> list[str]:
-    """Return a request as arguments of a command line."""
+    """Format a request as arguments for qc."""
     return [*itertools.chain(*list_arguments(request)), "--", request.stl,
             *([request.recording] if request.recording else [])]
 
 
 def run_qc(words: Sequence[str]) -> int:
-    """Run tools/qc in this process; return its status."""
+    """Run tools/qc in this process; return its exit status."""
     return run_main(lambda line: main("", os.path.join(TOP, "tools", "qc"), line), words)
 
 
 def survey_packets(case: Case, data: bytes, page: Page = PAGE) -> Packets:
-    """Run `survey` on PES packets; return the packets of the page."""
+    """Write PES packets to a file, and return the packets that `survey` finds in it."""
     return survey(case.bench.program, case.write("held.pes", data), page).by_pid.get(0, Packets(0))
 
 
 def decode_packets(case: Case, data: bytes, origin: int = 0, within: int = 0) -> Timeline:
-    """Return the decoded pages of PES packets."""
+    """Return the timeline of the pages decoded from PES packets."""
     return Timeline(survey_packets(case, data), PAGE, origin, within)
 
 
 def markup_text(*values: Value) -> str:
-    """Return values as the HTML text of a page."""
+    """Format values as the HTML text of a report."""
     return join_markup(values).source
 
 
 def shell_script(lines: list[str], status: int) -> str:
-    """Return a shell command that prints lines, then ends with a status, or by a signal if it is
-    negative."""
+    """Return a shell command that prints lines, then exits with `status`, or ends by a signal if
+    `status` is negative."""
     printed = "".join(f"echo '{line}'; " for line in lines)
     return printed + (f"exit {status}" if status >= 0 else f"kill {status} $$")

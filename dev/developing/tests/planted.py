@@ -1,5 +1,5 @@
-"""Random programmes sent by simulated inserters, with one planted fault or none, and how a sentence
-should name that fault."""
+"""Random programmes sent by simulated inserters, with at most one planted fault, and the sentence
+expected for this fault."""
 from __future__ import annotations
 
 import random
@@ -14,16 +14,16 @@ from .transmissions import CLOSING, HEADER, PAGE, Sent, schedule_pages, write_su
 from .test_judging_reasons import KEEPING_HEADER
 from .test_correct_recordings import SHARES
 
-FIRST = 900_000  # the earliest frame of the first TCI
-BLANK_FRAMES = 80  # frames before the first and after the last subtitle with only blank pages
+FIRST = 900_000  # earliest frame number of the first TCI
+BLANK_FRAMES = 80  # number of blank frames before the first and after the last subtitle
 WORDS = "boats harbour light mother never often quiet river stairs storm turns under window".split()
-Page = Optional[Sequence[bytes]]  # row packets; `None` for a blank page
+Page = Optional[Sequence[bytes]]  # row packets, or `None` for a blank page
 Times = Sequence[tuple[int, int]]
 
 EARLY, LATE, MISSING, EXCHANGED = "early", "late", "missing", "exchanged"
 CHARACTER, ROW, COLOUR = "wrong character", "wrong row", "wrong colour"
 STAYS, ERASED = "not erased", "erased too soon"
-# What the sentence says of each fault after the subtitle's text.
+# Regular expression for the end of the sentence about each kind of fault.
 SENTENCES = {
     EARLY: r"appeared \d+ frames? early", LATE: r"appeared \d+ frames? late", MISSING: "was never "
                                                                                        "sent",
@@ -33,9 +33,9 @@ SENTENCES = {
 
 
 class Inserter(NamedTuple):
-    """How an inserter sends:
-    possible delays of in-cues and out-cues in frames, frames between repeats, whether repeats keep
-    the page, PES packets a frame, and which frames have none.
+    """A simulated inserter: possible delays of in-cues and out-cues in frames, frames between
+    repeats, whether repeats keep the page, PES packets per frame, and a function that selects
+    frames without a PES packet.
     """
 
     name: str
@@ -48,22 +48,22 @@ class Inserter(NamedTuple):
 
     @property
     def within(self) -> int:
-        """Return the largest delay in frames."""
+        """Return the inserter's largest delay in frames."""
         return max(*self.begins, *self.ends, int(self.each > 1))
 
     def options(self) -> list[str]:
-        """Return the options that tolerate its delays."""
+        """Return options for qc that accept the inserter's delays and repeats."""
         return ["--every", f"{self.every + self.within}", *["--keeping"] * self.keeps,
                 *["--within", f"{self.within}"] * (self.within > 0)]
 
 
 def is_rare(chance: random.Random) -> bool:
-    """Return true once in twenty calls."""
+    """Return true with a probability of 1/20."""
     return chance.randrange(20) == 0
 
 
-# The inserters of the right recordings: one PES packet a frame, some frames without one, or two a
-# frame; with repeats that erase the page or keep it.
+# All inserters: one PES packet per frame, a few frames without a PES packet, or two PES packets per
+# frame, each with repeats that erase or keep the page.
 INSERTERS = [Inserter(name, begins, ends, 12 if keeps else 25, keeps, each, is_left_out)
              for name, (begins, ends) in SHARES.items() for keeps in (False, True)
              for each, is_left_out in ((1, lambda chance: False), (1, is_rare),
@@ -71,8 +71,8 @@ INSERTERS = [Inserter(name, begins, ends, 12 if keeps else 25, keeps, each, is_l
 
 
 class Fault(NamedTuple):
-    """A fault of the subtitle at a place:
-    by how many frames, or swapped with which other subtitle.
+    """A fault planted in the subtitle with the index `place`: its kind, the frames by which a cue
+    moves, and the index of a subtitle with which the text is exchanged.
     """
 
     kind: str
@@ -82,7 +82,7 @@ class Fault(NamedTuple):
 
 
 class Programme:
-    """Subtitles and their transmission."""
+    """A random programme, its subtitle file, and its transmission by an inserter."""
 
     def __init__(self, case: Case, number: int, inserter: Inserter, count: int = 0) -> None:
         self.case, self.inserter, self.number = case, inserter, number
@@ -96,7 +96,7 @@ class Programme:
         self.fault: Fault | None = None
 
     def random_times(self, count: int) -> list[tuple[int, int]]:
-        """Return the frames of the subtitles; some adjoin."""
+        """Return random first and end frames for `count` subtitles, some of them adjoining."""
         frame, times = FIRST + self.chance.randrange(5000), list[tuple[int, int]]()
         for _ in range(count):
             end = frame + self.chance.randrange(30, 90)
@@ -105,22 +105,22 @@ class Programme:
         return times
 
     def random_text(self, at: int) -> bytes:
-        """Return one or two lines of words, usually with a unique number."""
+        """Return a random text of one or two lines, usually with the number `at`."""
         lines = [" ".join(self.chance.sample(WORDS, self.chance.randrange(1, 4)))
                  for _ in range(self.chance.choice((1, 1, 2)))]
         lines[0] = f"{at} {lines[0]}" if self.chance.randrange(10) else lines[0]
         return (NEW_LINE * 2).join(line.encode() for line in lines)
 
     def plant(self, kind: str) -> bool:
-        """Plant a fault of a kind that exceeds the tolerance; return whether some subtitle has room
-        for it."""
+        """Plant a fault of this kind in a random subtitle; return whether any subtitle is long
+        enough for it."""
         places = [*range(len(self.times))]
         self.chance.shuffle(places)
         self.fault = next(filter(None, (self.fault_at(kind, place) for place in places)), None)
         return self.fault is not None
 
     def fault_at(self, kind: str, place: int) -> Fault | None:
-        """Return a fault of one subtitle if there is room for it."""
+        """Return a random fault in one subtitle, or `None` if the subtitle is too short for it."""
         least, (begin, end) = self.inserter.within + 1, self.times[place]
         before = self.times[place - 1][0] if place else begin - BLANK_FRAMES
         after = self.times[place + 1][0] if place + 1 < len(self.times) else end + BLANK_FRAMES
@@ -137,7 +137,7 @@ class Programme:
             if most[kind] >= first else None
 
     def shown_pages(self) -> list[Sequence[bytes]]:
-        """Return the transmitted page of each subtitle."""
+        """Return the page transmitted for each subtitle."""
         pages, fault = list[Sequence[bytes]](self.pages), self.fault
         if fault and fault.kind == EXCHANGED:
             pages[fault.place], pages[fault.other] = pages[fault.other], pages[fault.place]
@@ -146,7 +146,7 @@ class Programme:
         return pages
 
     def changes(self) -> dict[int, Page]:
-        """Return the page on air from each frame of a change."""
+        """Map the frame of each page change to the page on air from this frame on."""
         found, fault, inserter = dict[int, Page](), self.fault, self.inserter
         pages = self.shown_pages()
         begins = [begin + self.chance.choice(inserter.begins) for begin, _ in self.times]
@@ -172,7 +172,7 @@ class Programme:
         return found
 
     def sent(self) -> Sent:
-        """Return the page transmissions with their repeats, and the PES packets between them."""
+        """Return the transmission, with repeats and with PES packets without Teletext."""
         changes, inserter, chance = self.changes(), self.inserter, self.chance
         begin, end = self.times[0][0] - BLANK_FRAMES, max(max(changes),
                                                           self.times[-1][1]) + BLANK_FRAMES
@@ -191,7 +191,7 @@ class Programme:
         return sent
 
     def is_named(self, sentence: str) -> bool:
-        """Return whether a sentence names the subtitle and the kind of fault."""
+        """Return whether a sentence names the subtitle and kind of the planted fault."""
         fault = self.fault
         assert fault
         place, other = min(fault.place, fault.other), max(fault.place, fault.other)
@@ -202,19 +202,19 @@ class Programme:
                              rf'(, ".*",)? {SENTENCES[fault.kind]}\b', sentence))
 
     def time(self, place: int) -> str:
-        """Return the TCI of a subtitle."""
+        """Return the TCI of the subtitle with an index, as a time code."""
         return time_of(self.times[place][0])
 
 
 def with_character(page: Sequence[bytes]) -> list[bytes]:
-    """Replace the last character of a page."""
+    """Replace the last letter or digit in a page's first row by an X."""
     first = page[0]
     at = max(at for at in range(2, 42) if chr(first[at] & 0x7F).isalnum())
     return [first[:at] + bytes([add_odd_parity(0x58)]) + first[at + 1:], *page[1:]]
 
 
 def with_row(page: Sequence[bytes]) -> list[bytes]:
-    """Move a page two rows up."""
+    """Move all rows of a page up by two rows."""
     made = []
     for one in page:
         address = decode_address(one)
@@ -236,7 +236,7 @@ KINDS = (*SENTENCES, EXCHANGED)
 
 
 def plant_fault(case: Case, number: int) -> Programme:
-    """Return the programme of a seed, with one fault."""
+    """Return the random programme for a seed, with one planted fault."""
     chance = random.Random(number)
     made = Programme(case, number, chance.choice(INSERTERS))
     assert made.plant(chance.choice(KINDS))

@@ -1,4 +1,4 @@
-"""Subtitle files and transmissions of whole programmes."""
+"""Write subtitle files and transmissions of complete programmes."""
 from __future__ import annotations
 
 import time
@@ -11,13 +11,13 @@ from .bench import Case, SECONDS
 from .transmissions import packets
 
 SECOND = TICKS * FRAMES_A_SECOND
-BEGIN = CLOCK - 30 * SECOND  # of a feed; its PTS wrap soon
-LASTS = 12  # seconds of a programme with four subtitles
-SHOWN, EACH = 50, 75  # frames of a subtitle, and from one TCI to the next
+BEGIN = CLOCK - 30 * SECOND  # first PTS of a feed, 30 seconds before the PTS wrap
+LASTS = 12  # duration of a programme with four subtitles, in seconds
+SHOWN, EACH = 50, 75  # duration of a subtitle, and distance between TCIs, in frames
 
 
 def make_subtitles(case: Case, name: str, first: int, texts: Sequence[str]) -> str:
-    """Write a subtitle file with a subtitle for each text, from a first frame on."""
+    """Write a subtitle file with one subtitle for each text; `first` is the first TCI in frames."""
     blocks = [make_subtitle_blocks(number, first + EACH * number, first + EACH * number + SHOWN, 20,
                                    2, box_line(text.encode())) for number, text in enumerate(texts)]
     return case.write(f"{name}.stl", make_gsi_block(name.encode(), len(texts), len(texts), first)
@@ -25,7 +25,7 @@ def make_subtitles(case: Case, name: str, first: int, texts: Sequence[str]) -> s
 
 
 def make_programme(case: Case, name: str, first: int, words: str, pts: int) -> bytes:
-    """Write a subtitle file; return its transmission, which begins at a PTS."""
+    """Write a subtitle file, and return its transmission, in which the first TCI has a PTS."""
     stl = make_subtitles(case, name, first, words.split())
     origin = (pts - TICKS * first) % CLOCK
     case.schedule(stl, f"{name}.pes", "--origin", str(origin), "--every", "25")
@@ -33,14 +33,14 @@ def make_programme(case: Case, name: str, first: int, words: str, pts: int) -> b
 
 
 def repeat_last_page(data: bytes, pts: int, count: int, step: int = SECOND) -> bytes:
-    """Repeat the last page transmission `count` times from a PTS on."""
+    """Return the last page transmission `count` times, with PTS from `pts` at distances `step`."""
     last = packets(data)[-1]
     return b"".join(last[:9] + encode_pts((pts + step * at) % CLOCK) + last[14:]
                     for at in range(count))
 
 
 def wait_until(holds: Callable[[], object]) -> bool:
-    """Wait for a condition; return whether it became true in time."""
+    """Wait until a condition is true; return whether this happened before the time limit."""
     end = time.monotonic() + SECONDS
     while not holds() and time.monotonic() < end:
         time.sleep(0.02)

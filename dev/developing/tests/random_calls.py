@@ -1,7 +1,7 @@
-"""Run qc with random or named calls, and return all its output.
+"""Run qc with random or named arguments, and return its complete output.
 
-The output of those that reach every branch is stored in dev/snapshots/ (see `snapshots`). From
-dev/, `python3 -m developing.tests.random_calls ../dist/subttx SEED` prints the output of one call.
+Part of this output is stored in dev/snapshots/ (see `snapshots`). From dev/, `python3 -m
+developing.tests.random_calls ../dist/subttx SEED` prints the output for one seed.
 """
 from __future__ import annotations
 
@@ -28,7 +28,7 @@ from .results import schema, all_violations, choice_errors, violations
 from .scenario import Scenario
 from .wide_scenario import Wider
 
-WIDER = 240  # the first seed of a `Wider` pair
+WIDER = 240  # first seed that makes a `Wider` pair
 VOLATILE = [(re.compile(r"\d{4}-\d\d-\d\d[T ]\d\d:\d\d:\d\d(\.\d+)?"), "DATE"),
             (re.compile('<dl class="made">.*?</dl>|PROGRAM</td><td.*?</tr>'), "MADE"),
             (re.compile(r"subttx-qc-\w+"), "FOLDER"), (re.compile(r'"seconds": [\d.]+'), "SECONDS"),
@@ -38,7 +38,7 @@ FILES = ("one.json", "one.csv", "one.xml", "out/one.html", "out/one.txt", "out/o
 
 
 class CallOutput(NamedTuple):
-    """The arguments, status, printed lines and files of a call, and its JSON result."""
+    """The output of a run of qc: arguments, status, printed lines, files and JSON result."""
 
     words: list[str]
     status: int
@@ -48,7 +48,7 @@ class CallOutput(NamedTuple):
 
 
 def in_process(entry: Any, words: list[str]) -> tuple[int, str, str]:
-    """Run `main` of a tool; return its status and output."""
+    """Run a tool's `main` function; return its exit status, output and error output."""
     before, sys.argv = sys.argv, words[-len(words) + 1:] if words[0] == sys.executable else words
     with contextlib.redirect_stdout(io.StringIO()) as out, \
             contextlib.redirect_stderr(io.StringIO()) as errors:
@@ -60,9 +60,9 @@ def in_process(entry: Any, words: list[str]) -> tuple[int, str, str]:
     return status, out.getvalue(), errors.getvalue()
 
 
-@functools.lru_cache(maxsize=4)  # several files may have the same text
+@functools.lru_cache(maxsize=4)  # several files often have the same text
 def without_volatile(text: str, program: str) -> str:
-    """Replace what differs between calls or programs."""
+    """Replace dates, times, temporary paths and programs in a text by fixed words."""
     if text.startswith("{"):
         known = json.loads(text)
         for one in (known, *known.get("pairs", ())):
@@ -75,25 +75,25 @@ def without_volatile(text: str, program: str) -> str:
 
 
 def run_random_call(number: int, program: str) -> CallOutput:
-    """Run the random call of a seed in a temporary folder; return its output."""
+    """Run qc on the random pair of a seed in a temporary folder; return its output."""
     with in_folder():
         scenario = (Scenario if number < WIDER else Wider)(number, program)
         words = scenario.call()
         printed = run_call(words, program, wrong=schema_violations)
-        # a pipe can be read only once
+        # A second run needs a recording that is not a pipe.
         if number >= WIDER and number % 3 == 0 and not scenario.is_feed:
             printed.files["measured"] = without_volatile(measure_pair(words[1], program), program)
         return printed
 
 
 def measure_pair(recording: str, program: str) -> str:
-    """Return the output of `--measure` for the same pair."""
+    """Run `qc --measure` on the pair in the current folder; return its status and output."""
     words = ["tools/qc", "--measure", "one.stl", recording, "-p", program]
     status, out, reported = in_process(lambda line: main("", "tools/qc", line), words)
     return f"measured {status}\n{out}{reported}"
 
 
-# Named calls on pairs in the folder `in`. In `claimed` another process writes a pair's files.
+# Named runs use pairs in the folder `in`. During `claimed`, another process has claimed a pair.
 PAIRS = [("a", "hello", "hello.pes"), ("b", "story", "five-faults.pes"),
          ("c", "accent", "hello.pes"), ("d", "hello", "recording.ts")]
 TEXTS = {"house": "--every 25\n--within 1 # frame\n", "wrong": "--every 25\n--every 50\n",
@@ -137,7 +137,7 @@ def run_named_call(name: str, program: str) -> CallOutput:
 
 @contextlib.contextmanager
 def in_folder() -> Iterator[None]:
-    """Change to a temporary folder for a while."""
+    """Return a context manager that changes to a new temporary folder."""
     back = os.getcwd()
     with tempfile.TemporaryDirectory() as folder:
         os.chdir(folder)
@@ -148,15 +148,15 @@ def in_folder() -> Iterator[None]:
 
 
 def schema_violations(known: Any) -> list[str]:
-    """Return the schema violations that the first validator finds."""
+    """Return the schema violations that our own validator finds in a JSON result."""
     return [*violations(known, schema())]
 
 
 def run_call(words: list[str], program: str, more: Sequence[str] = ("-p", "PROGRAM"),
            wrong: Callable[[Any], list[str]] = all_violations) -> CallOutput:
-    """Run qc; return its output without times, and with fixed texts instead of the manual's.
+    """Run qc, and return its output with fixed texts instead of dates and texts of the manual.
 
-    `wrong` returns the schema violations of a result.
+    `wrong` is a function that returns the schema violations in a JSON result.
     """
     others: list[tuple[Any, str, object]] = [
         *((module, "read_meanings", lambda: MEANINGS) for module in (subtitles, faults, report))]

@@ -1,8 +1,7 @@
-"""Run random calls for many pairs in one folder, while input files, results and site profiles
-change.
+"""Run qc repeatedly on a folder with random pairs; change files in the folder between the runs.
 
 The output for some seeds is stored in dev/snapshots/many.txt (see `snapshots`). From dev/, `python3
--m developing.tests.random_folders ../dist/subttx SEED` prints the output for one.
+-m developing.tests.random_folders ../dist/subttx SEED` prints the output for one seed.
 """
 from __future__ import annotations
 
@@ -36,11 +35,11 @@ OLD = {"format": 5, "verdict": "accepted", "status": 0}
 
 
 class Folder:
-    """A random folder: pairs in `in`, a list, and the files that calls wrote."""
+    """A folder with random pairs in `in`, a list of pairs, and the output files of qc."""
 
     def __init__(self, number: int, program: str) -> None:
         self.chance, self.program = random.Random(number), program
-        self.before = dict[str, str]()  # the files and their texts
+        self.before = dict[str, str]()  # the contents of all files after the last run
         os.mkdir("in")
         for name in self.chance.sample(NAMES, self.chance.choice((1, 2, 3, 4))):
             self.put_pair(name)
@@ -49,12 +48,12 @@ class Folder:
         self.write_list()
 
     def some_options(self) -> list[str]:
-        """Return random options; few of them contradict each other."""
+        """Return up to two random options; rarely, they contradict each other."""
         found = self.chance.sample(OPTIONS, self.chance.choice((0, 0, 1, 1, 2)))
         return [word for one in found for word in one.split()]
 
     def put_pair(self, name: str) -> None:
-        """Add a pair, or half of one; it may have several recordings."""
+        """Add a subtitle file or a recording or both; rarely, add a second recording."""
         stl, recording = self.chance.choice(PAIRS)
         for source in filter(None, (stl, recording)):
             ending = source.rpartition(".")[2]
@@ -69,7 +68,7 @@ class Folder:
                 file.write(self.chance.choice(texts))
 
     def write_list(self) -> None:
-        """Write a list of pairs with options, and some invalid lines."""
+        """Write a list of pairs with random options; sometimes add an invalid line."""
         there, lines = sorted(os.listdir("in")) or ["none"], list[str]()
         for _ in range(self.chance.choice((1, 2, 3, 4))):
             stl, recording = (self.chance.choice(there) for _ in range(2))
@@ -85,14 +84,14 @@ class Folder:
             file.write("\n".join(lines) + "\n")
 
     def change(self) -> None:
-        """Change some files between two calls."""
+        """Change an input file, a result, the profile or the list at random."""
         does: Callable[[], None] = self.chance.choice([
             self.change_house, self.write_list, self.change_result, self.change_result,
             self.change_file, self.change_file, lambda: self.put_pair(self.chance.choice(NAMES))])
         does()
 
     def change_file(self) -> None:
-        """Delete, replace, cut or touch an input file."""
+        """Delete, replace or truncate a random input file, or change its modification time."""
         path = os.path.join("in", self.chance.choice(sorted(os.listdir("in")) or ["none"]))
         kind = self.chance.randrange(4)
         with contextlib.suppress(OSError):
@@ -106,7 +105,7 @@ class Folder:
                 os.utime(path, (1_700_000_000, 1_700_000_000))
 
     def change_result(self) -> None:
-        """Delete, cut or replace a result or a page."""
+        """Delete, truncate or replace a random file in the output folder."""
         there = sorted(os.listdir("out")) if os.path.isdir("out") else []
         if not there:
             return
@@ -114,13 +113,13 @@ class Folder:
         if kind == 0:
             os.unlink(path)
         elif kind == 1:
-            os.truncate(path, min(os.path.getsize(path), 200))  # before its date
+            os.truncate(path, min(os.path.getsize(path), 200))  # cut before the date
         else:
             with open(path, "w", encoding="utf-8") as file:
                 file.write((json.dumps(OLD), "somebody's own", "{}")[kind - 2])
 
     def call(self) -> CallOutput:
-        """Make one more call; return its output, and the files that are new or changed."""
+        """Run qc with random arguments; return its output, with new and changed files."""
         chance, out = self.chance, ["-o", "out"] * (self.chance.randrange(5) > 0)
         wanted = [word for option, name in (("--json", "one.json"), ("--csv", "one.csv"),
                                             ("--junit", "one.xml")) if chance.randrange(2)
@@ -148,7 +147,7 @@ class Folder:
             files={name: text for name, text in self.before.items() if before.get(name) != text})
 
     def files(self) -> Iterator[tuple[str, str]]:
-        """Return all files with their texts; input files only with their sizes."""
+        """Yield the names and contents of all files, and one line with the sizes of input files."""
         sizes = [f"{name} {os.path.getsize(os.path.join('in', name))}"
                  for name in sorted(os.listdir("in"))]
         yield "in", ", ".join(sizes)
@@ -160,7 +159,7 @@ class Folder:
                         yield path, self.plainly(file.read())
 
     def plainly(self, text: str) -> str:
-        """Replace what differs between calls."""
+        """Replace dates, times and paths in a file's text by fixed words."""
         try:
             text = without_volatile(text, self.program)
         except (ValueError, TypeError, AttributeError):
@@ -169,7 +168,7 @@ class Folder:
 
 
 def calls_in(number: int, program: str) -> list[CallOutput]:
-    """Return the outputs of all calls in the folder of a seed."""
+    """Run qc several times in the random folder of a seed; return the output of each run."""
     found = []
     with in_folder():
         folder = Folder(number, program)

@@ -1,5 +1,5 @@
-"""JSON results for tests, and a validator of docs/verdict.schema.json that does not use the tools'
-own table."""
+"""JSON results for tests, and a validator for docs/verdict.schema.json that is independent of the
+tools."""
 from __future__ import annotations
 
 import functools
@@ -19,14 +19,14 @@ from .bench import Case
 SCHEMA = os.path.join(TOP, "docs", "verdict.schema.json")
 KINDS: dict[str, Any] = {"object": dict, "array": list, "string": str, "null": type(None),
                          "boolean": bool, "integer": int, "number": (int, float)}
-# The keywords of our schema, and the keywords of limits by type.
+# The keywords used in the schema, and the keywords for limits by type.
 WORDS = frozenset("""description $schema $comment title definitions $ref type const enum anyOf oneOf
     allOf required additionalProperties properties items minItems maxItems pattern minLength
     maxLength minimum maximum""".split())
 ENDS: dict[type, tuple[str, str]] = {
     str: ("minLength", "maxLength"), list: ("minItems", "maxItems"),
     int: ("minimum", "maximum"), float: ("minimum", "maximum")}
-SOME = 20  # items of a list that the second validator reads first; then each 50th
+SOME = 20  # number of items validated from the start of a list; then each 50th
 REQUEST = {
     "stl": "one.stl", "recording": "one.ts", "page": "888", "every": 250, "option": "english",
     "origin": 0, "complete": True, "pid": None, "allow_lost": False, "severity": None, "breaks": 0,
@@ -41,7 +41,7 @@ FAULT = {**dict.fromkeys((
 
 
 def make_result(verdict: str = "refused", **more: Any) -> dict[str, Any]:
-    """Return the JSON result of a pair, with some members replaced."""
+    """Return a valid JSON result with this verdict; `more` replaces some of its members."""
     is_judged = verdict != NOT_JUDGED
     return {
         "format": FORMAT, "verdict": verdict, "status": STATUSES[verdict],
@@ -60,14 +60,14 @@ def make_result(verdict: str = "refused", **more: Any) -> dict[str, Any]:
 
 @functools.lru_cache(maxsize=None)
 def schema() -> dict[str, Any]:
-    """Load the schema."""
+    """Load docs/verdict.schema.json."""
     with open(SCHEMA, encoding="utf-8") as file:
         known: dict[str, Any] = json.load(file)
     return known
 
 
 def violations(value: Any, known: dict[str, Any], at: str = "") -> Iterator[str]:
-    """Return how a value violates a schema that uses only the keywords above."""
+    """Yield the violations of a JSON schema in a value; `at` is the path of the value."""
     assert known.keys() <= WORDS, known.keys() - WORDS
     if "$ref" in known:
         yield from violations(value, schema()["definitions"][known["$ref"].rpartition("/")[2]], at)
@@ -95,7 +95,7 @@ def violations(value: Any, known: dict[str, Any], at: str = "") -> Iterator[str]
 
 
 def inner_violations(value: Any, known: dict[str, Any], at: str) -> Iterator[str]:
-    """Return how the members of an object or the items of a list violate a schema."""
+    """Yield the violations of a JSON schema in the members of an object or the items of a list."""
     if isinstance(value, dict):
         members, is_closed = known.get("properties", {}), known.get("additionalProperties") is False
         yield from (f"{at}: no {name}" for name in known.get("required", ()) if name not in value)
@@ -110,13 +110,13 @@ def inner_violations(value: Any, known: dict[str, Any], at: str) -> Iterator[str
 
 
 def is_of_kind(value: Any, kind: str) -> bool:
-    """Return whether a value has a JSON type."""
+    """Return whether a value has the JSON type with this name."""
     is_bool = isinstance(value, bool)
     return isinstance(value, KINDS[kind]) and is_bool == (kind == "boolean")
 
 
 def choice_errors(known: dict[str, Any], lines: Sequence[str]) -> Iterator[object]:
-    """Return choices that were not printed, and values that were used without a choice."""
+    """Yield choices in a result that were not printed, and chosen values that are not listed."""
     printed = {line.removeprefix("qc: ").removeprefix("! ") for line in lines}
     chosen = {(one["option"], one["value"]) for one in known["choices"]}
     own = {(one["option"], one["value"], one["part"]) for one in known["choices"]}
@@ -140,7 +140,7 @@ def choice_errors(known: dict[str, Any], lines: Sequence[str]) -> Iterator[objec
 def second_validator() -> Any:
     """Return the validator of python3-jsonschema, or `None` if it is not installed."""
     try:
-        jsonschema = importlib.import_module("jsonschema")  # without type stubs
+        jsonschema = importlib.import_module("jsonschema")  # has no type stubs
     except ImportError:
         return None
     jsonschema.Draft7Validator.check_schema(schema())
@@ -148,15 +148,15 @@ def second_validator() -> Any:
 
 
 def all_violations(value: Any) -> list[str]:
-    """Return all violations that both validators find in a result; the slow second one reads a
-    sample of long lists."""
+    """Return the schema violations that our validator and python3-jsonschema find in a result.
+    The latter is slow and reads only a sample of long lists."""
     reader = second_validator()
     others = [error.message for error in reader.iter_errors(sample_of(value))] if reader else []
     return [*violations(value, schema()), *others]
 
 
 def sample_of(value: dict[str, Any]) -> dict[str, Any]:
-    """Return a result with a sample of its long lists."""
+    """Return a result in which long lists are replaced by samples of them."""
     lists = {one.name: [*value[one.name][:SOME], *value[one.name][SOME::50]]
              for one in LISTS if one.name in value}
     return {**value, **lists, **({"pairs": list(map(sample_of, value["pairs"]))}
@@ -164,13 +164,13 @@ def sample_of(value: dict[str, Any]) -> dict[str, Any]:
 
 
 def row(name: str, verdict: str, line: str = "", hint: str = "", faults: int = 0) -> Row:
-    """Return a table row."""
+    """Return a row in the table of collected results."""
     made = make_row(make_result(verdict, fault_count=faults), name)
     return made._replace(line=line, hint=hint)
 
 
 def check_schema(case: Case, verdict: Any, name: str = "the schema") -> None:
-    """Check an object against the schema by both validators."""
+    """Check a JSON value against the schema with both validators."""
     over = "a second reader of docs/verdict.schema.json, since there is no python3-jsonschema"
     if second_validator() is None and over not in case.bench.over:
         case.bench.over.append(over)

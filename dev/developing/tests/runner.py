@@ -1,4 +1,4 @@
-"""Find the tests of this folder and run several at once."""
+"""Find the tests in this folder, and run them in parallel."""
 from __future__ import annotations
 
 import gc
@@ -19,7 +19,7 @@ from .table import tests_of
 
 FOLDER = os.path.dirname(os.path.realpath(__file__))
 PATTERN = "test_*.py"
-# Start the longest tests first, so that none of them runs alone at the end.
+# The slowest tests, which start first so that none of them runs alone at the end.
 LONG = ("test_dev_layers.Hints", "test_snapshots", "test_cli_install",
         "test_clock_delays.FfmpegStreams", "test_dev_clones", "test_dev_gate.JobScripts",
         "test_stream_layouts", "test_cli_folders")
@@ -28,25 +28,25 @@ Several = Sequence[unittest.TestCase]
 
 
 class Counts(unittest.TestResult):
-    """Count passed and failed checks, including subtests, and print each failure."""
+    """A test result that counts passed and failed checks, and prints each failure."""
 
     def __init__(self, is_verbose: bool) -> None:
         super().__init__()
         self.is_verbose = is_verbose
-        self.out = sys.stdout  # a test may redirect sys.stdout
+        self.out = sys.stdout  # tests may redirect sys.stdout
         self.passed = self.failed = 0
-        self.over: list[str] = []  # skipped tests, with reasons
-        self.in_parts: set[str] = set()  # tests with counted subtests
+        self.over: list[str] = []  # reasons for skipped tests
+        self.in_parts: set[str] = set()  # names of tests with subtests
 
     def count(self, test: unittest.TestCase, error: Error | None) -> None:
-        """Count the result of a test or subtest."""
+        """Count the result of a test or subtest, and print a failure."""
         self.passed += error is None
         self.failed += error is not None
         if error is not None:
             reported = str(error[1]) if isinstance(error[1], Mismatch) else \
                 self._exc_info_to_string(error, test)  # type: ignore[attr-defined]
             whole = test.test_case if isinstance(error[1], Mismatch) and hasattr(
-                test, "test_case") else test  # the message names the subtest
+                test, "test_case") else test  # the message contains the subtest's name
             print(f"FAILED: {name_of(whole)}: {reported}", file=self.out, flush=True)
         elif self.is_verbose:
             print(f"passed: {name_of(test)}", file=self.out, flush=True)
@@ -71,12 +71,12 @@ class Counts(unittest.TestResult):
 
 
 def name_of(test: unittest.TestCase) -> str:
-    """Return the name of a test or subtest: module, class, method, parameters."""
+    """Return the name of a test or subtest as `module.class.method`, with its parameters."""
     return test.id().replace("developing.tests.", "")
 
 
 def flattened(tests: unittest.TestSuite) -> Iterator[unittest.TestCase]:
-    """Return the tests of a suite, including nested suites."""
+    """Yield the tests in a suite and in the suites nested in it."""
     for one in tests:
         if isinstance(one, unittest.TestSuite):
             yield from flattened(one)
@@ -85,9 +85,9 @@ def flattened(tests: unittest.TestSuite) -> Iterator[unittest.TestCase]:
 
 
 def find_tests(names: Sequence[str]) -> list[unittest.TestCase]:
-    """Select tests by names, or return all.
+    """Return the tests selected by names, or all tests if there are no names.
 
-    Each name is part of a test's name, or a module or script of the tools. Raises `Stop` if a name
+    Each name is part of a test's name, or a module or script of the tools. Raise `Stop` if a name
     selects no test.
     """
     everything = list(flattened(unittest.TestLoader().discover(FOLDER, PATTERN, DEV)))
@@ -101,12 +101,12 @@ def find_tests(names: Sequence[str]) -> list[unittest.TestCase]:
 
 
 def has_fixture(kind: Type[unittest.TestCase]) -> bool:
-    """Return whether the tests of a class share a fixture."""
+    """Return whether a test class has a class fixture (`setUpClass`)."""
     return "setUpClass" in kind.__dict__
 
 
 def group_tests(tests: Several) -> Iterator[Several]:
-    """Group tests that must run in one process: the tests of a class with a shared fixture."""
+    """Yield groups of tests that must run in one process, because they share a class fixture."""
     for kind, several in itertools.groupby(tests, type):
         if has_fixture(kind):
             yield list(several)
@@ -115,8 +115,8 @@ def group_tests(tests: Several) -> Iterator[Several]:
 
 
 class TestProcess:
-    """Tests in a forked process of their own, so that patches, output and crashes affect no other
-    test."""
+    """A forked process that runs some tests, so that their patches and crashes affect no other
+    tests."""
 
     def __init__(self, several: Several, is_verbose: bool) -> None:
         self.name = name_of(several[0])
@@ -138,7 +138,7 @@ class TestProcess:
         return self.said
 
     def add_to(self, whole: Counts) -> None:
-        """Add the results of the process; a crash counts as a failure."""
+        """Add the results of the process to `whole`; count a crash as a failure."""
         printed = os.read(self.said, 1 << 16)
         os.close(self.said)
         _, status = os.waitpid(self.process, 0)
@@ -150,11 +150,11 @@ class TestProcess:
 
 
 def run_all(tests: Several, at_once: int, is_verbose: bool) -> Counts:
-    """Run tests, `at_once` of them in parallel."""
+    """Run tests in up to `at_once` parallel processes, and return their results."""
     whole, running = Counts(is_verbose), list[TestProcess]()
     waiting = sorted(group_tests(tests), key=lambda one: name_of(one[0]).startswith(LONG))
     BENCH.make_top()
-    gc.freeze()  # keep garbage collection in the forked processes off objects that all share
+    gc.freeze()  # share more memory pages with the forked processes
     while running or waiting:
         while waiting and len(running) < at_once:
             running.append(TestProcess(waiting.pop(), is_verbose))

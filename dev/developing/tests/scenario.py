@@ -1,6 +1,4 @@
-"""Random pairs, each made by a seed:
-a programme, its transmission and recording, its faults, and the options of a call.
-"""
+"""Random pairs of a subtitle file and a recording, with faults and with options for qc."""
 from __future__ import annotations
 
 import os
@@ -23,12 +21,12 @@ from .transmissions import start_feed
 SECOND_PID = 0x102
 TEXTS = [b"Good evening.", b"Here is the news.", b"It costs \xa35, or \xa47.",
          b"Thank you, Anne.", b"No!", b"Yes."]
-Sent = list[tuple[int, bytes]]  # PTS and PES packet
+Sent = list[tuple[int, bytes]]  # PTS and PES packets
 Text = tuple[bytes, ...]  # the lines of a subtitle
 
 
 class Written(NamedTuple):
-    """A subtitle of a subtitle file."""
+    """A subtitle as it is written to a subtitle file."""
 
     number: int
     begin: int
@@ -38,13 +36,13 @@ class Written(NamedTuple):
     lines: Text
 
     def blocks(self) -> bytes:
-        """Return the TTI blocks."""
+        """Return the TTI blocks of the subtitle."""
         return make_subtitle_blocks(self.number, self.begin, self.end, self.row, self.justify,
                                     (NEW_LINE * 2).join(self.lines))
 
 
 class Scenario:
-    """A pair of files in the current folder, and the arguments of a call."""
+    """A random pair of files in the current folder, made from a seed, with arguments for qc."""
 
     def __init__(self, number: int, program: str) -> None:
         self.chance, self.program = random.Random(number), program
@@ -63,7 +61,7 @@ class Scenario:
         return self.chance.randrange(100) < percent
 
     def random_times(self) -> list[tuple[int, int]]:
-        """Return the frames of the subtitles; some adjoin."""
+        """Return random first and end frames of subtitles, some of them adjoining."""
         frame = self.chance.choice((100, 900_000, 900_000, FRAMES_OF_A_DAY - 2500))
         found = []
         for _ in range(24 if self.has_break else self.chance.choice((2, 3, 4, 5, 7, 9, 12))):
@@ -76,9 +74,10 @@ class Scenario:
         return box_line(self.chance.choice(TEXTS), self.chance.choice((b"", b"", b"\x03")))
 
     def random_subtitles(self) -> list[Written]:
-        """Return the subtitles; rarely with an unsupported character, or with the TCI as TCO."""
+        """Return random subtitles, rarely with an unsupported character or a TCO equal to the TCI.
+        """
         chance, found = self.chance, list[Written]()
-        # a number that usually is no subtitle
+        # Subtitle numbers that the file usually does not have.
         of_none, empty = (chance.randrange(200) for _ in range(2))
         for number, (begin, end) in enumerate(self.times, chance.choice((1, 1, 7))):
             lines = [self.random_line() for _ in range(chance.choice((1, 1, 2)))]
@@ -88,7 +87,7 @@ class Scenario:
         return found
 
     def transmitted_subtitles(self) -> list[Written]:
-        """Return the subtitles with one or two of them changed, for the transmission."""
+        """Return the subtitles as transmitted, with one or two random changes."""
         chance, found = self.chance, list(self.subtitles)
         for _ in range(chance.choice((1, 1, 2))):
             at = chance.randrange(len(found))
@@ -110,12 +109,12 @@ class Scenario:
             if kind == 10:
                 found.append(last._replace(number=last.number + 1, begin=last.end + by - 1,
                                            end=last.end + by + 50, lines=(self.random_line(),)))
-        for at, (one, other) in enumerate(zip(found, found[1:])):  # no two at once
+        for at, (one, other) in enumerate(zip(found, found[1:])):  # remove overlaps
             found[at] = one._replace(end=min(one.end, max(other.begin, one.begin + 1)))
         return found
 
     def write(self, name: str, subtitles: list[Written]) -> None:
-        """Write a subtitle file."""
+        """Write a subtitle file to the current folder."""
         blocks = b"".join(one.blocks() for one in subtitles)
         data = make_gsi_block(b"At random", len(blocks) // 128 + self.has_chance(5), len(subtitles),
                               0, self.chance.choice((b"09", b"09", b"08")))
@@ -124,7 +123,7 @@ class Scenario:
             file.write(data[:256] + code + data[264:] + blocks)
 
     def scheduled(self, name: str, *words: str) -> Sent:
-        """Return the transmission that `schedule` makes."""
+        """Write the transmission that `schedule` makes from `sent.stl`, and return it."""
         subprocess.run([self.program, "schedule", "sent.stl", name, "--every", str(self.every),
                         "--origin", str(self.origin), *words], stdout=subprocess.DEVNULL,
                        check=False)
@@ -134,7 +133,7 @@ class Scenario:
             return [(decode_pts(one), one) for one in read_pes_packets(file)]
 
     def add_fault(self, sent: Sent) -> Sent:
-        """Return the transmission with one more fault."""
+        """Return the transmission with one more random fault."""
         chance = self.chance
         first = chance.randrange(len(sent))
         last = min(len(sent), first + chance.choice((1, 1, 2, 5, 1000)))
@@ -167,9 +166,8 @@ class Scenario:
                 for at, (pts, one) in enumerate(sent)]
 
     def split(self, sent: Sent, first: int, last: int, kind: int) -> Sent:
-        """Split PES packets in two:
-        the header first, the rest later; or delete their first or last packet.
-        """
+        """Send the header and the other packets of each PES packet apart, or delete the first or
+        last packet of some PES packets."""
         later = self.chance.choice((TICKS, TICKS, TICKS // 2, 3 * TICKS))
         found: Sent = []
         for at, (pts, one) in enumerate(sent):
@@ -185,7 +183,7 @@ class Scenario:
         return found
 
     def add_break(self, sent: Sent) -> Sent:
-        """Insert a break before a subtitle in the middle."""
+        """Insert a break before the 13th subtitle by a shift of all later PTS."""
         middle = self.origin + TICKS * (self.times[12][0] - 2)
         later = self.chance.choice((300, 700, 700, -5000)) * TICKS
         self.words += ["--breaks", "1"] if self.has_chance(90) else []
@@ -193,8 +191,8 @@ class Scenario:
                 for pts, one in sent]
 
     def make_stream(self, sent: Sent, second: Sent) -> bytes:
-        """Return a transport stream with video, PCR and one or two Teletext PIDs, with some packets
-        lost."""
+        """Return a transport stream with video, PCR and one or two Teletext PIDs, after random
+        losses."""
         chance = self.chance
         own = teletext_descriptor(chance.choice((b"eng", b"eng", b"ger")), chance.choice((2, 2, 1)),
                                   chance.choice((0x88, 0x88, 0x88, 0x89)))
@@ -221,7 +219,7 @@ class Scenario:
         return with_packet_size(data, 192) if self.has_chance(15) else data
 
     def write_recording(self) -> str:
-        """Write the recording; return its name."""
+        """Write the recording to a file or pipe, and return its name."""
         sent = self.scheduled("sent.pes")
         sent = self.add_break(sent) if self.has_break else sent
         several = (0, 0, 1) if self.has_break else (0, 1, 1, 1, 2)
@@ -244,7 +242,7 @@ class Scenario:
         return "feed"
 
     def call(self) -> list[str]:
-        """Return the arguments of the call."""
+        """Write the recording, and return random arguments for qc."""
         recording = self.write_recording()
         chance, words = self.chance, ["one.stl", recording, "--every", str(self.every), *self.words]
         clock = chance.randrange(100)

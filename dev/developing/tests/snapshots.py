@@ -1,10 +1,10 @@
-"""Store the complete output of chosen calls of qc as text, and compare it line by line.
+"""Store the output of chosen runs of qc as text, and compare later output with it.
 
-dev/snapshots/GROUP.txt has the arguments, status and printed lines of each call, and from each file
-what the printed lines do not repeat. Seeds and names of calls are those of `random_calls`,
-`random_folders` and `test_report_random`. The chosen calls reach every branch of the tools that
-900 such calls reach. `dev/check-tools --update test_snapshots` writes the files again; `git diff`
-then shows what a change means for the user.
+dev/snapshots/GROUP.txt has the arguments, status and printed lines of each run, and the lines of
+its output files that were not printed. The runs are named by the seeds and names in `random_calls`,
+`random_folders` and `test_report_random`. They cover all branches of the tools that 900 random runs
+cover. `dev/check-tools --update test_snapshots` writes the files again, and `git diff` then shows
+how a change affects the user.
 """
 from __future__ import annotations
 
@@ -22,11 +22,11 @@ from . import random_calls, random_folders, test_report_random as reports
 from .bench import BENCH
 
 FOLDER = os.path.join(TOP, "dev", "snapshots")
-HEAD, TAIL = 16, 4  # lines kept of a longer list
-OF_PAGE = 60  # lines kept of a page
-OF_FOLDER = 6  # lines kept of each file of a call for many pairs
-MOST = 12  # different changes that a failure shows
-WIDTH = 300  # characters kept of a line
+HEAD, TAIL = 16, 4  # number of lines stored from the start and end of a long list
+OF_PAGE = 60  # number of lines stored from the start of a report
+OF_FOLDER = 6  # number of lines stored from the start of each file in a run on many pairs
+MOST = 12  # maximum number of different changes in a failure message
+WIDTH = 300  # maximum number of characters stored from a line
 OMITTED = re.compile(r"date$|seconds$|^files_at_start\.|^inputs\.|^commands\b|^omitted\.|^format$")
 
 
@@ -35,7 +35,7 @@ def sha(text: str) -> str:
 
 
 def shortened(lines: Iterable[str], head: int = HEAD) -> list[str]:
-    """Keep the first and last lines of a long list; replace the others by their count and hash."""
+    """Replace the middle lines of a long list by a line with their number and hash."""
     lines = [part if len(part) <= WIDTH else f"{part[:WIDTH]}.. {sha(part)}"
              for line in lines for part in line.splitlines()]
     between = lines[head:-TAIL]
@@ -46,7 +46,7 @@ def shortened(lines: Iterable[str], head: int = HEAD) -> list[str]:
 
 
 def members(value: Any, path: str = "") -> Iterator[str]:
-    """Return the non-empty members of a JSON object as `path = value`."""
+    """Yield a line `path = value` for each non-empty member of a JSON value."""
     if isinstance(value, dict):
         for name, member in value.items():
             yield from members(member, f"{path}.{name}".lstrip("."))
@@ -59,15 +59,15 @@ def members(value: Any, path: str = "") -> Iterator[str]:
 
 
 def json_text(text: str, printed: str, head: int) -> list[str]:
-    """Return the members of a JSON result that were not printed, and a hash of the result."""
-    found = json.loads(text.replace(" SECONDS,", ' "seconds": 0,'))  # as `plain` left it
+    """Return a line for each member of a result that was not printed, and the result's hash."""
+    found = json.loads(text.replace(" SECONDS,", ' "seconds": 0,'))  # see `without_volatile`
     lines = [line for line in members(found) if "=" not in line
              or line.partition(" = ")[2].strip('"') not in printed]
     return [*shortened(lines, head), f"whole: {sha(text)}"]
 
 
 def page_text(text: str, head: int = OF_PAGE) -> list[str]:
-    """Return the text of a page, one line for each element, and the hash of its markup."""
+    """Return the text of an HTML page, one line for each element, and the hash of the page."""
     text_only = re.sub(r'<style.*?</style>|<[^<>]*?(?: aria-label="([^"]*)")?[^<>]*>',
                        lambda tag: f"\n[{tag[1]}]\n" if tag[1] else "\n", text, flags=re.DOTALL)
     lines = [" ".join(html.unescape(line).split()) for line in text_only.splitlines()
@@ -76,7 +76,7 @@ def page_text(text: str, head: int = OF_PAGE) -> list[str]:
 
 
 def file_text(name: str, text: str, printed: str, head: int) -> list[str]:
-    """Return the stored form of a file."""
+    """Return the lines stored for an output file."""
     if name.endswith(".json") and text.startswith("{"):
         return json_text(text, printed, head)
     if name.endswith(".html") and text.startswith("<"):
@@ -85,7 +85,7 @@ def file_text(name: str, text: str, printed: str, head: int) -> list[str]:
 
 
 def call_text(output: random_calls.CallOutput, head: int = HEAD) -> list[str]:
-    """Return the stored form of one call of qc."""
+    """Return the lines stored for one run of qc."""
     printed = "\n".join(output.lines)
     lines = [f"$ qc {' '.join(output.words)}", f"status {output.status}", *shortened(output.lines)]
     before: dict[str, str] = {}
@@ -99,13 +99,13 @@ def call_text(output: random_calls.CallOutput, head: int = HEAD) -> list[str]:
 
 
 def folder_text(number: int) -> list[str]:
-    """Return the stored form of the calls in a folder, with the files that each call changed."""
+    """Return the lines stored for all runs of qc in a random folder."""
     return [line for printed in random_folders.calls_in(number, BENCH.program)
             for line in call_text(printed, OF_FOLDER)]
 
 
 def report_text(number: int) -> list[str]:
-    """Return the verdict of a random pair, and the text of its report."""
+    """Return the lines stored for a random pair: its verdict and the text of its report."""
     with tempfile.TemporaryDirectory() as folder:
         found, page = reports.report_made(number, folder)
     page = random_calls.without_volatile(page, BENCH.program).replace(folder, "FOLDER")
@@ -113,8 +113,8 @@ def report_text(number: int) -> list[str]:
 
 
 def text_of(name: str) -> list[str]:
-    """Make a call by its name, such as `call 17`, `named a list` or `report 3`; return its stored
-    form."""
+    """Run qc as a name such as `call 17`, `named a list` or `report 3` tells, and return the lines
+    to store."""
     kind, _, rest = name.partition(" ")
     if kind == "call":
         return call_text(random_calls.run_random_call(int(rest), BENCH.program))
@@ -128,7 +128,7 @@ def path_of(group: str) -> str:
 
 
 def stored(group: str) -> dict[str, list[str]]:
-    """Return the stored calls of a group by name."""
+    """Read the stored lines of each run in a group, by the name of the run."""
     found: dict[str, list[str]] = {}
     with open(path_of(group), encoding="utf-8") as file:
         for line in file.read().split("\n")[:-1]:
@@ -146,14 +146,14 @@ def store(group: str, texts: dict[str, list[str]]) -> None:
 
 
 class Change(NamedTuple):
-    """The differing words of a line, before and after."""
+    """The words of a line before and after a change."""
 
     before: str
     after: str
 
 
 def change_of(before: str, after: str) -> Change:
-    """Return the words in which two lines differ, from the first to the last."""
+    """Return the words from the first to the last difference between two lines."""
     old, new = before.split(" "), after.split(" ")
     first = len(os.path.commonprefix([old, new]))
     last = len(os.path.commonprefix([old[first:][::-1], new[first:][::-1]]))
@@ -161,7 +161,7 @@ def change_of(before: str, after: str) -> Change:
 
 
 def changes_in(before: list[str], after: list[str]) -> Iterator[tuple[Change, str, str]]:
-    """Yield each change with the old and the new line, or "" if there is none."""
+    """Yield each change between two texts with the old and new line ("" if it has none)."""
     matcher = difflib.SequenceMatcher(None, before, after, autojunk=False)
     for kind, first, end, start, stop in matcher.get_opcodes():
         if kind == "replace" and end - first == stop - start:
@@ -180,13 +180,13 @@ def is_hash(change: Change) -> bool:
 
 
 def cropped(line: str, change: str) -> str:
-    """Return part of a long line around a change."""
+    """Return the part of a long line around a changed text."""
     at = max(0, line.find(change) - 50)
     return ".." * bool(at) + line[at:at + 150] + ".." * (len(line) > at + 150)
 
 
 def summary(changed: dict[str, list[tuple[Change, str, str]]]) -> list[str]:
-    """Return each different change once, with its first call and the number of calls."""
+    """Format each different change once, with the number of affected runs and the first of them."""
     calls: dict[Change, list[str]] = {}
     lines: dict[Change, tuple[str, str]] = {}
     for name, changes in changed.items():
@@ -205,7 +205,7 @@ def summary(changed: dict[str, list[tuple[Change, str, str]]]) -> list[str]:
 
 
 def compare(group: str, make: Callable[[str], list[str]], is_updated: bool) -> str:
-    """Compare all calls of a group with the stored ones; return the text of a failure, or ""."""
+    """Compare all runs in a group with their stored lines; return a message on changes, or ""."""
     before = stored(group)
     after = {name: make(name) for name in before}
     if is_updated:

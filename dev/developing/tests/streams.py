@@ -1,4 +1,4 @@
-"""Make transport streams with video and Teletext."""
+"""Make transport streams with video and Teletext for tests."""
 from __future__ import annotations
 
 from typing import Callable, Collection, Iterable, Iterator, Mapping, NamedTuple, Sequence
@@ -13,12 +13,12 @@ RANDOM_ACCESS = 0x40
 PMT_PID, VIDEO_PID, AUDIO_PID, TELETEXT_PID = 0x100, 0x200, 0x201, 0x101
 NULL_PID = 0x1FFF
 MPEG_2, H_264, HEVC, PRIVATE = 0x02, 0x1B, 0x24, 0x06
-SLICES = b"\0\0\1\1" + b"slice data " * 9  # of an MPEG-2 picture
-AHEAD = 18_000  # ticks from a PCR to the PTS sent with it
+SLICES = b"\0\0\1\1" + b"slice data " * 9  # slices of an MPEG-2 picture
+AHEAD = 18_000  # difference between PTS and PCR in ticks
 
 
 def mpeg_2_picture(structure: int = 3) -> bytes:
-    """Return an MPEG-2 picture: a frame, or a field if `structure` is 1 or 2."""
+    """Return an MPEG-2 frame picture, or a field picture if `structure` is 1 or 2."""
     extension = bytes([0x80, 0, structure, 0, 0])
     return b"\0\0\1\0\0\0\0\0" + b"\0\0\1\xb5" + extension + SLICES
 
@@ -27,10 +27,9 @@ CLOSED_GROUP = b"\0\0\1\xb8\0\x08\0\x40"  # an MPEG-2 GOP header with closed_gop
 
 
 def h_264_picture(field: int | None = None) -> bytes:
-    """Return an H.264 picture, a frame or a field, after a sequence parameter set that allows
-    fields."""
-    # Baseline profile, level 3, id 0, frame_num of 4 bits, order of type 2, one reference, 16
-    # macroblocks both ways, frame_mbs_only_flag 0.
+    """Return an H.264 frame or field (0 or 1), with a sequence parameter set that allows fields."""
+    # Baseline profile, level 3, seq_parameter_set_id 0, frame_num with 4 bits, pic_order_cnt_type
+    # 2, one reference frame, width and height of 16 macroblocks, frame_mbs_only_flag 0.
     sequence = bits_of("01000010 00000000 00011110 1 1 011 010 0 00001111 00001111 0 1 0 0 1")
     # first_mb_in_slice 0, slice_type 2, pic_parameter_set_id 0, frame_num 0, field_pic_flag
     flags = "0" if field is None else f"1{field}"
@@ -39,7 +38,7 @@ def h_264_picture(field: int | None = None) -> bytes:
 
 
 def bits_of(text: str) -> bytes:
-    """Convert a text of bits to bytes, padded with zeros."""
+    """Convert a string of binary digits to bytes, padded with zero bits."""
     digits = text.replace(" ", "")
     digits += "0" * (-len(digits) % 8)
     return bytes(int(digits[at:at + 8], 2) for at in range(0, len(digits), 8))
@@ -52,7 +51,7 @@ def hevc_picture() -> bytes:
 
 
 def video_packet(pts: int | None, data: bytes) -> bytes:
-    """Return a PES packet of video, with PES_packet_length 0."""
+    """Return a video PES packet with PES_packet_length 0."""
     if pts is None:
         return b"\0\0\1\xe0\0\0\x80\0\0" + data
     return b"\0\0\1\xe0\0\0\x80\x80\x05" + encode_pts(pts % CLOCK) + data
@@ -62,20 +61,20 @@ Component = tuple[int, int, bytes]  # a PID, its stream_type and its descriptors
 
 
 def program_association(pmt_pids: Iterable[tuple[int, int]]) -> bytes:
-    """Return a PAT with programme numbers and their PMT PIDs."""
+    """Return a PAT section from pairs of a programme number and a PMT PID."""
     return make_section(0, 1, b"".join(number.to_bytes(2, "big") + (0xE000 | pid).to_bytes(2, "big")
                                        for number, pid in pmt_pids))
 
 
 def program_map(number: int, components: Iterable[Component], pcr_pid: int) -> bytes:
-    """Return the PMT of a programme."""
+    """Return the PMT section of a programme."""
     return make_section(2, number, (0xE000 | pcr_pid).to_bytes(2, "big") + b"\xf0\0" + b"".join(
         bytes([kind]) + (0xE000 | pid).to_bytes(2, "big")
         + (0xF000 | len(more)).to_bytes(2, "big") + more for pid, kind, more in components))
 
 
 class Maker:
-    """Make the TS packets of a stream with one PAT and one PMT."""
+    """Makes the TS packets of a transport stream with one programme."""
 
     def __init__(self, components: list[Component], pcr_pid: int = VIDEO_PID) -> None:
         self.packets: list[bytes] = []
@@ -87,16 +86,16 @@ class Maker:
 
     @property
     def data(self) -> bytes:
-        """Return all packets as bytes."""
+        """Return the bytes of all packets."""
         return b"".join(self.packets)
 
     def taken(self) -> list[bytes]:
-        """Return the packets made since the last call."""
+        """Return the packets made since the last call, and forget them."""
         made, self.packets = self.packets, []
         return made
 
     def taken_of(self, pid: int) -> list[Packet]:
-        """Return the packets made since the last call, labelled with a PID (tables: 0)."""
+        """Return the packets made since the last call, each with `pid` (0 for tables)."""
         return [Packet(pid, one) for one in self.taken()]
 
     def put_tables(self) -> None:
@@ -104,7 +103,7 @@ class Maker:
             self.put_packet(pid, BEGINS, data.ljust(PACKET - 4, b"\xff"))
 
     def put_packet(self, pid: int, begins: int, payload: bytes, field: bytes = b"") -> None:
-        """Add a TS packet, filled up with stuffing bytes."""
+        """Add a TS packet with this payload, filled with stuffing bytes."""
         room = PACKET - 4
         control = PAYLOAD if payload else 0
         if field or len(payload) < room:
@@ -119,7 +118,7 @@ class Maker:
         self.packets.append(made)
 
     def put(self, pid: int, data: bytes, is_access: bool = False) -> None:
-        """Add a PES packet."""
+        """Add the TS packets of a PES packet."""
         first = 160 if is_access else PACKET - 4
         self.put_packet(pid, BEGINS, data[:first], bytes([RANDOM_ACCESS]) if is_access else b"")
         for at in range(first, len(data), PACKET - 4):
@@ -169,10 +168,9 @@ def with_pictures(pes: bytes, first: int, kind: int = MPEG_2, picture: bytes = b
 
 
 class Programme(NamedTuple):
-    """A programme with one picture a frame:
-
-    PES packets of its Teletext PIDs, the PTS of its first picture, its video PID (also its PCR
-    PID), the frames with a random_access_indicator, and delays in ticks from given frames on.
+    """A programme with one picture per frame: the PES packets of each Teletext PID, the PTS of the
+    first picture, the video and PCR PID, the frames with a random_access_indicator, and video
+    delays in ticks with their first frames.
     """
 
     pes: Mapping[int, Sequence[bytes]]
@@ -183,8 +181,8 @@ class Programme(NamedTuple):
 
 
 def multiplex_programmes(programmes: Sequence[Programme], frames: int) -> Maker:
-    """Make a stream of several programmes:
-    for each frame a PCR, a picture, and the PES packets of Teletext up to that time.
+    """Make a transport stream with several programmes. Each frame has a PCR, a picture, and the PES
+    packets of Teletext up to its time.
     """
     maker, waiting = Maker([]), [{pid: [*pes] for pid, pes in one.pes.items()}
                                  for one in programmes]
@@ -209,9 +207,8 @@ def multiplex_programmes(programmes: Sequence[Programme], frames: int) -> Maker:
 
 def multiplex_frames(pes: list[bytes], begin: int, count: int, rounds: int = 66,
               page: int = 0x88) -> Iterator[bytes]:
-    """Yield a multiplex frame by frame:
-    a PCR, the PES packets of Teletext, and 16 video packets in each of `rounds` (66 make 40
-    Mbit/s).
+    """Yield the frames of a transport stream, each with a PCR, PES packets of Teletext, and 16 *
+    `rounds` video packets (66 rounds make 40 Mbit/s).
     """
     maker = Maker(components(descriptor=teletext_descriptor(page=page)))
     filler = b"".join(make_head(VIDEO_PID, 0, PAYLOAD | counter) + b"\x55" * (PACKET - 4)
@@ -229,7 +226,7 @@ def multiplex_frames(pes: list[bytes], begin: int, count: int, rounds: int = 66,
 
 
 def with_packet_size(data: bytes, size: int) -> bytes:
-    """Extend TS packets of 188 bytes to 192 or 204 bytes."""
+    """Extend each TS packet of 188 bytes to 192 or 204 bytes."""
     before, behind = (b"time", b"") if size == 192 else (b"", b"\xa5" * (size - PACKET))
     return b"".join(before + data[at:at + PACKET] + behind
                     for at in range(0, len(data), PACKET))
@@ -244,9 +241,9 @@ class Packet(NamedTuple):
 
 def stream_of(pes: list[bytes], begin: int, end: int, rate: int = 200, pid: int = TELETEXT_PID,
               before: Maker | None = None) -> tuple[list[Packet], Maker]:
-    """Make a multiplex from one PTS to another with `rate` TS packets a second of video and audio,
-    a PCR each 40 ms, tables twice a second, and PES packets of Teletext. Continue the counters of
-    `before`."""
+    """Make a transport stream from PTS `begin` to `end` with PES packets of Teletext, `rate` video
+    and audio packets per second, a PCR each 40 ms, and tables twice a second. Continue the
+    continuity counters of `before`."""
     maker = Maker(components(pid=pid))
     maker.counters = before.counters if before else maker.counters
     made: list[Packet] = []
@@ -271,7 +268,7 @@ def stream_of(pes: list[bytes], begin: int, end: int, rate: int = 200, pid: int 
 
 
 def filler(pid: int, counters: dict[int, int]) -> Packet:
-    """Return the next TS packet of a PID, with a meaningless payload."""
+    """Return the next TS packet for a PID, with a meaningless payload."""
     counter = counters[pid] = counters.get(pid, 15) + 1 & 15
     return FILLERS[pid][counter]
 
@@ -281,10 +278,9 @@ FILLERS = {pid: [Packet(pid, make_head(pid, 0, PAYLOAD | counter) + b"\x55" * (P
 
 
 class Shape(NamedTuple):
-    """A multiplex:
-
-    TS packets a second, ticks between PCRs, null packets, the frames without a PCR, the frame and
-    size in ticks of a clock jump, and whether a packet announces the jump.
+    """The parameters of a transport stream: TS packets per second, ticks between PCRs, whether it
+    has null packets, the frames without a PCR, the frame and ticks of a clock jump, and whether the
+    jump is announced.
     """
 
     rate: int = 1000
@@ -296,7 +292,7 @@ class Shape(NamedTuple):
 
 
 def make_multiplex(pes: list[bytes], shape: Shape) -> list[Packet]:
-    """Make a multiplex of PES packets, video with the PCR, and audio."""
+    """Make a transport stream with PES packets of Teletext, video with PCRs, and audio."""
     maker = Maker(components())
     maker.put_tables()
     made = maker.taken_of(0)
@@ -323,7 +319,7 @@ def make_multiplex(pes: list[bytes], shape: Shape) -> list[Packet]:
 
 
 def stream_bytes(made: Iterable[Packet]) -> bytes:
-    """Return the bytes of a multiplex."""
+    """Return the bytes of some TS packets."""
     return b"".join(one.data for one in made)
 
 
@@ -333,7 +329,7 @@ def announce_jump(data: bytes) -> bytes:
 
 
 def teletext_places(made: Sequence[Packet], pts: int) -> list[int]:
-    """Return the places of the Teletext packets from the PES packet with a PTS on."""
+    """Return the indexes of Teletext packets, beginning at the PES packet with a PTS."""
     begin = encode_pts(pts)
     first = next(at for at, one in enumerate(made)
                  if one.pid == TELETEXT_PID and begin in one.data[4:40])
@@ -342,8 +338,8 @@ def teletext_places(made: Sequence[Packet], pts: int) -> list[int]:
 
 def with_loss(made: Sequence[Packet], pts: int, count: int, is_announced: bool = False
               ) -> list[Packet]:
-    """Delete some Teletext packets from a PTS on; a packet without a payload may announce the
-    counter jump."""
+    """Delete `count` Teletext packets, beginning at a PTS; insert a discontinuity_indicator if the
+    loss is announced."""
     missing = teletext_places(made, pts)[:count]
     field = bytes([PACKET - 5, 0x80]).ljust(PACKET - 4, b"\xff")
     says = Packet(TELETEXT_PID, make_head(TELETEXT_PID, 0, ADAPTATION_ALONE) + field)
@@ -352,23 +348,23 @@ def with_loss(made: Sequence[Packet], pts: int, count: int, is_announced: bool =
 
 
 def delete_between(made: list[Packet], first: int, count: int) -> list[Packet]:
-    """Delete everything from one Teletext packet up to a later one."""
+    """Delete all packets from the Teletext packet `first` up to the `count`-th packet after it."""
     own = [at for at, one in enumerate(made) if one.pid == TELETEXT_PID]
     return made[:own[first]] + made[own[first + count]:]
 
 
 OLD, NEW = TELETEXT_PID, 0x111
-# The PES packets, with PIDs, that replace a PES packet.
+# A function that returns the PES packets, with their PIDs, sent in place of a PES packet.
 Carried = Callable[[int], Sequence[tuple[int, bytes]]]
 
 
 def stream_by_plan(pes: Sequence[bytes], plan: Sequence[tuple[int, int]],
                    carried: Carried | None = None,
             descriptor: bytes = teletext_descriptor(), ahead: int | None = AHEAD) -> bytes:
-    """Make a stream whose PMT names another PID from given PES packets on.
+    """Make a transport stream whose Teletext moves to other PIDs.
 
-    `plan` has the number of the first PES packet and the PID. `carried` may put PES packets on
-    other PIDs. A PCR comes before each one unless `ahead` is `None`.
+    `plan` lists numbers of PES packets, each with the PID that the PMT names from this packet on.
+    `carried` may put PES packets on other PIDs. PCRs precede PES packets by `ahead` ticks.
     """
     maker, pid = Maker([]), 0
     for number, one in enumerate(pes):
@@ -386,12 +382,13 @@ def stream_by_plan(pes: Sequence[bytes], plan: Sequence[tuple[int, int]],
 
 def stream_with_video(pes: bytes, descriptor: bytes = teletext_descriptor(),
                  ahead: int = AHEAD) -> bytes:
-    """Make a stream of PES packets on one PID, with the PCR on a video PID."""
+    """Make a transport stream of Teletext PES packets, with PCRs on the video PID."""
     return stream_by_plan(packets(pes), [(0, TELETEXT_PID)], None, descriptor, ahead)
 
 
 def stream_of_pids(*of_pids: tuple[int, bytes]) -> bytes:
-    """Make a stream of PES packets in the order of their PTS; each PID announces page 888."""
+    """Make a transport stream with PES packets on several PIDs, sorted by PTS; the PMT announces
+    page 888 on each PID."""
     maker = Maker([(VIDEO_PID, MPEG_2, b""), *(
         (pid, PRIVATE, teletext_descriptor()) for pid, _ in of_pids)])
     maker.put_tables()

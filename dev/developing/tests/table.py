@@ -1,4 +1,4 @@
-"""Map modules and scripts to their tests by dev/vectors/tests.tsv, which dev/plant extends."""
+"""Map modules and scripts to their tests with dev/vectors/tests.tsv, which dev/plant writes."""
 from __future__ import annotations
 
 import inspect
@@ -11,43 +11,43 @@ from .. import DEV, TOOLS
 
 PATH = os.path.join(DEV, "vectors", "tests.tsv")
 PACKAGE = "subtitles/"
-TIMES = 3  # classes of tests for each function, if there are so many
+TIMES = 3  # number of test classes chosen for each function
 
 
 class Called(NamedTuple):
-    """The functions that a class of tests calls, such as `stream/gaps.py:late_of`, and its run time
-    in seconds."""
+    """The functions that a test class calls, such as `stream/gaps.py:late_of`, and the run time of
+    the class in seconds."""
 
     functions: AbstractSet[str]
     seconds: float
 
 
 def rows() -> dict[str, list[str]]:
-    """Return the classes of tests by module or script."""
+    """Read the table, and return the test classes for each module or script."""
     with open(PATH, encoding="utf-8") as file:
         found = [line.rstrip("\n").split("\t") for line in file if not line.startswith("#")]
     return {module: tests.split() for module, tests in found}
 
 
 def module_of(name: str) -> str:
-    """Return the table's name for a path or dotted name: `stream/gaps.py` for `stream.gaps`."""
+    """Return the name in the table, such as `stream/gaps.py`, for a path or a dotted name."""
     path = name.removeprefix("tools/").removeprefix(PACKAGE).removeprefix("subtitles.")
     is_path = "/" in path or path.endswith(".py") or "." not in path
     return path if is_path else path.replace(".", "/") + ".py"
 
 
 def tests_of(name: str) -> list[str]:
-    """Return the classes of tests of a module or script."""
+    """Return the test classes listed for a module or script."""
     return rows().get(module_of(name), [])
 
 
 def chosen(functions: Collection[str], classes: Mapping[str, Called],
            near: Collection[str] = (), standing: Collection[str] = ()) -> list[str]:
-    """Choose classes of tests so that each function is called by `TIMES` of them, if there are so
-    many.
+    """Choose test classes so that each function is called by `TIMES` of them, or by all if there
+    are fewer.
 
-    Those in `standing` are always chosen. Of the others choose repeatedly the one with the most
-    missing functions for its run time, those in `near` first.
+    The classes in `standing` are always chosen. Then choose the class with the most missing
+    functions per run time, first from `near`, until no function is missing.
     """
     wanted = {name: min(TIMES, sum(name in one.functions for one in classes.values()))
               for name in functions}
@@ -71,11 +71,11 @@ def chosen(functions: Collection[str], classes: Mapping[str, Called],
 
 def lines(classes: Mapping[str, Called], kinds: Collection[Type[object]],
           before: Mapping[str, Sequence[str]]) -> Iterator[str]:
-    """Return the new rows of the table.
+    """Yield the new lines of the table.
 
-    A module keeps its old tests that still exist, since some test it through a process and call
-    little of it. Then come classes by the functions that they call, those that import the module
-    first. A script's tests are found by its name in their source.
+    A module keeps its previous test classes if they still exist, since some of them run it in
+    another process. Other classes are chosen by the functions that they call, first those that
+    import the module. The tests of a script are found by its name in their source.
     """
     names = {name_of(one) for one in kinds}
     standing = {module: {*tests} & names for module, tests in before.items()}
@@ -99,5 +99,5 @@ def lines(classes: Mapping[str, Called], kinds: Collection[Type[object]],
 
 
 def name_of(kind: Type[object]) -> str:
-    """Return the name of a class of tests."""
+    """Return the name of a test class as `module.class`."""
     return f"{kind.__module__.rpartition('.')[2]}.{kind.__name__}"

@@ -58,7 +58,7 @@ ROWS: list[tuple[list[Shown], dict[int, str], tuple[int, int], list[int], list[i
     ([ONE, (176, 220, "a")], {100: "a", 150: "", 178: "a", 220: ""}, (0, 999), [0, 2], [0, 0], []),
     ([ONE, (175, 220, "a")], {100: "a", 150: "", 178: "a", 220: ""}, (0, 999), [0], [0, 0], []),
     ([ONE, (160, 220, "b")], {100: "a", 150: "", 163: "b", 220: ""}, (0, 999), [0, 3], [0, 0], []),
-    # The end of a subtitle that adjoins the next is the begin of that.
+    # If two subtitles adjoin, the TCO of the first is the TCI of the second.
     ([ONE, (150, 200, "b")], {100: "a", 152: "b", 200: ""}, (0, 999), [0, 2], [0], []),
     ([ONE, (151, 200, "b")], {100: "a", 150: "", 152: "b", 200: ""}, (0, 999), [0, 1], [0, 0], []),
     ([ONE, (150, 200, "a")], {100: "a", 201: ""}, (0, 999), [0], [1], []),

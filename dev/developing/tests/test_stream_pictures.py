@@ -141,7 +141,7 @@ class DepartureFaults(Case):
     def faults_and_notes(self, steps: Sequence[tuple[float, int]], within: int = 0,
                          source: str = GIVEN,
               origin: int = 0) -> tuple[list[tuple[str | None, str | None, str]], list[str]]:
-        """Return begin, end and direction of each fault, and all notes."""
+        """Return the start, end and direction of each fault, and all notes."""
         faults, notes = find_desync(survey_with(lines_of(steps, origin)), PID, TimedPart(
             1000, 2000, Clock(origin, source)), within, 1)
         self.check("kinds", {(one.name, one.part) for one in faults} - {(PICTURES_LEFT, 1)}, set())

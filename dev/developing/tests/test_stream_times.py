@@ -248,7 +248,7 @@ class ClockTables(unittest.TestCase):
         """
         whole, every, late = (100, 200), (100, 200, 25), (100, 200, 25, 2)
         rows: list[tuple[str, str, tuple[int, ...], tuple[int, int] | None, bool, bool, int]] = [
-            # The begin of the range.
+            # The start of the range.
             ("with the first header", "100 he, 200 he", whole, (0, 1), True, False, 2),
             ("behind rows", "100 -, 101 -, 120 he, 200 he", whole, (2, 3), True, False, 4),
             ("nowhere: no header", "100 -, 200 -", whole, None, False, False, 2),
@@ -377,7 +377,7 @@ class ClockTables(unittest.TestCase):
         made = Packets(257, [PacketRun(at, 1, TICKS * (100 + at), 0, "he", "") for at in range(9)])
         found = find_range(made, 100, 200, 0, 25, inside=(3, 5))
         self.assertEqual((found.range, found.came, found.read), ((3, 5), 103, 7))
-        # Ranges at the begin and end of the day.
+        # Ranges at the start and end of the day.
         for frames, begin, end, wanted in (([0, 5], 0, 9, (0, 1)), ([-50, -20, 0, 1], -50, -20,
                                                                     (0, 1))):
             first, last = (one % FRAMES_OF_A_DAY for one in (begin, end))
