@@ -24,6 +24,7 @@ from subtitles.stream.receiver import BLANK_PAGE, Timeline
 from .bench import Case, example
 from .parts import make_answer, request_for, markup_text, survey_packets, make_part
 from .transmissions import CLOSING, HEADER
+from .test_judging_status import severity_of
 from .test_judging_verdicts import verdict_of
 
 
@@ -101,3 +102,8 @@ class CompletePage(Case):
             self.assertEqual(page.count('data-name="From">00:00:03:00</td><td data-name="To">00:00:'
                                         '03:24<'), len(kinds) if len(counts) > 1 and not why else 0,
                              (kinds, is_estimated, named))
+
+    def test_counts_waived_faults_in_all_parts(self) -> None:
+        verdict = self.verdict("rar")
+        verdict.severity = severity_of("68 warning")
+        self.check("waived", [*report_page.list_waived(verdict)], ["68 Parity (4)"])
