@@ -54,7 +54,7 @@ BROKEN = ("cells", "passed", "swing")  # kinds derived from day
 
 # Subtitle files
 
-Shown = tuple[int, int, int, bytes]  # first frame, end frame, row and text
+Shown = tuple[int, int, int, bytes]  # first frame, end frame, row, text
 
 
 def stl_file(subtitles: list[Shown]) -> bytes:
@@ -64,7 +64,7 @@ def stl_file(subtitles: list[Shown]) -> bytes:
 
 
 def subtitles_of(kind: str, count: int) -> Iterator[Shown]:
-    """Return the subtitles of day, pages, many or fresh."""
+    """Yield the subtitles of the kinds day, pages, many and fresh."""
     begin, end = START_BOX * 2, END_BOX * 2
     if kind == "day":
         yield 0, count, 22, DOUBLE_HEIGHT + begin + b"One sending a frame" + end
@@ -81,12 +81,12 @@ def subtitles_of(kind: str, count: int) -> Iterator[Shown]:
 # Faults in `day`
 
 SENDING = 184  # bytes of a PES packet
-LETTERS = 19  # of "One sending a frame", from column 11 on
+LETTERS = 19  # length of "One sending a frame", which starts in column 11
 FIRST_LETTER = DATA + UNIT + 4 + 2 + 11
 
 
 def break_pes(kind: str, data: bytearray) -> bytearray:
-    """Return the transmission of day with faults."""
+    """Return the transmission of the kind day with faults."""
     if kind == "cells":
         for number, begin in enumerate(range(0, len(data), SENDING)):
             data[begin + FIRST_LETTER + number % LETTERS] = MIRROR[add_odd_parity(ord("*"))]
@@ -102,9 +102,9 @@ def break_pes(kind: str, data: bytearray) -> bytearray:
 
 # A service
 
-UNITS = 16  # in each frame
-ROUND, SHOWN = 100, 75  # frames of a round, and of its subtitle
-ROWS = (20, 22)  # of the two lines, each in double height
+UNITS = 16  # data units in each frame
+ROUND, SHOWN = 100, 75  # number of frames in a round, and frames that show its subtitle
+ROWS = (20, 22)  # rows of the two double-height lines
 LINE = 31  # characters of a line, which has 36 cells with its codes, and so begins in column 2
 HEAD = START + (914).to_bytes(2, "big") + b"\x84\x80\x24"
 AFTER_PTS = b"\xff" * 31 + b"\x10"
@@ -113,16 +113,16 @@ PLACES = {kind: [bytes([kind, 0x2C, 0xE0 | FIRST_LINE + unit, 0xE4]) for unit in
           for kind in (OTHER, SUBTITLE)}
 CLOSING = reverse_bits(make_packet(0, 0, [15, 15, 15, 7, 15, 3, 0, 0], b" " * 32))
 HEADER = reverse_bits(make_packet(0, 0, [8, 8, 0, 8, 0, 8, 1, 0], b" " * 32))
-Texts = list[tuple[bytes, bytes]]  # of each round in which a subtitle ends
+Texts = list[tuple[bytes, bytes]]  # the two lines of each round's subtitle
 
 
 def letters(chance: random.Random, length: int) -> bytes:
-    """Return random letters, with spaces at one place in six."""
+    """Return random letters, of which about one in six is a space."""
     return bytes(chance.choices(b"abcdefghijklmnopqrstuvwxyz     ", k=length))
 
 
 def page(chance: random.Random, magazine: int, number: int) -> list[bytes]:
-    """Return the packets of a page: header, rows, packet X/27."""
+    """Return the packets of a page: its header, its rows, and a packet X/27."""
     title = b"%d%02d Page of the carousel" % (magazine or 8, number)
     numbers = [number % 10, number // 10, 0, 0, 0, 0, 2, 0]  # C8, update indicator
     made = [make_packet(magazine, 0, numbers, title.ljust(32))]
@@ -133,7 +133,7 @@ def page(chance: random.Random, magazine: int, number: int) -> list[bytes]:
 
 
 class Carousel:
-    """The pages of a magazine, repeated forever."""
+    """The pages of a magazine, repeated endlessly."""
 
     def __init__(self, chance: random.Random, magazine: int, count: int) -> None:
         self.pages = itertools.cycle([page(chance, magazine, number) for number in range(count)])
@@ -148,7 +148,7 @@ class Carousel:
 
 
 class Service:
-    """Everything that is sent, frame by frame."""
+    """A complete Teletext service, frame by frame."""
 
     def __init__(self) -> None:
         chance = random.Random(472)
@@ -158,16 +158,16 @@ class Service:
         self.service_data = reverse_bits(make_packet(0, 30, [0], b"") + chance.randbytes(39))
 
     def turn(self, is_waiting: bool) -> Carousel:
-        """Return the next magazine; while rows wait, none of their own magazine."""
+        """Return the next magazine. While rows are pending, skip the magazine of these rows."""
         magazine = next(self.turns)
         return next(self.turns) if is_waiting and magazine is self.magazines[-1] else magazine
 
     def frame(self, frame: int, first: list[bytes], is_waiting: bool) -> bytes:
-        """Return the PES packet of a frame, which begins with these packets of the page; its rows
-        may follow later."""
+        """Return the PES packet of a frame. `first` contains its packets of the subtitle page,
+        whose rows may come later."""
         units, own = list(first), self.magazines[-1]
         if units and own.place < len(own.page):
-            own.place = 0  # an unfinished page is repeated from its header
+            own.place = 0  # repeat an unfinished page from its header
         heads = PLACES[SUBTITLE][:len(units)] + PLACES[OTHER][len(units):]
         if frame % FRAMES_A_SECOND == FRAMES_A_SECOND // 2:
             units.append(self.service_data)
@@ -177,7 +177,7 @@ class Service:
 
 
 def rows_of(texts: Texts, frame: int) -> list[bytes]:
-    """Return the rows of the page in a frame with a transmission; none if it is blank."""
+    """Return the rows of the page that is sent in a frame, or an empty list for a blank page."""
     number, place = divmod(frame, ROUND)
     if place >= SHOWN or number >= len(texts):
         return []
@@ -227,16 +227,16 @@ def make(program: str, kind: str, count: int, stl: str, pes: str) -> None:
 
 
 PACKET, PID = 188, 0x101
-FILLING = bytes([0x47, 0x02, 0x00, 0x10])  # the head of a packet of PID 0x200
-CLOCKED = 5  # frames between tables and clock
+FILLING = bytes([0x47, 0x02, 0x00, 0x10])  # header of a TS packet with PID 0x200
+CLOCKED = 5  # number of frames between tables and PCRs
 MIXED = 388  # TS packets for each PES packet; 5 have Teletext if it has 920 bytes
 
 
 def record(pes: str, ts: str, size: int = 0) -> None:
-    """Write a transport stream of a PES file by dev/pes2ts.
+    """Convert a PES file to a transport stream by dev/pes2ts.
 
-    Each PES packet gets a fixed number of TS packets, the others with random bytes on another PID;
-    tables and clock come at most every fifth frame. With size 0 only the packets with Teletext are
+    Each PES packet gets `size` TS packets. Those without Teletext have random bytes on another PID.
+    Tables and PCRs come at most every fifth frame. With size 0, only TS packets with Teletext are
     written.
     """
     chance = random.Random(13818)
@@ -248,7 +248,7 @@ def record(pes: str, ts: str, size: int = 0) -> None:
         frames, group = -1, b""
         while one := made.stdout.read(PACKET):
             is_own = (one[1] & 0x1F) << 8 | one[2] == PID
-            if is_own and one[1] & 0x40:  # a PES packet begins
+            if is_own and one[1] & 0x40:  # start of a PES packet
                 frames += 1
                 file.write(group + filling[len(group):] if group else b"")
                 group = b""

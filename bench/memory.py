@@ -1,4 +1,4 @@
-"""The peak memory of a command, as reported by GNU time."""
+"""Measure the peak memory of a command by GNU time."""
 from __future__ import annotations
 
 import os
@@ -10,7 +10,7 @@ GNU_TIME = "/usr/bin/time"
 
 
 def lines_of_log(command: list[str], words: list[str]) -> list[str]:
-    """Return the lines that a command that observes another one writes to its log."""
+    """Return the log lines of a command, such as strace, that runs another command."""
     with tempfile.TemporaryDirectory() as folder:
         log = os.path.join(folder, "log")
         done = subprocess.run([*command, "-o", log, *words], stdout=subprocess.DEVNULL, check=False)
@@ -21,7 +21,7 @@ def lines_of_log(command: list[str], words: list[str]) -> list[str]:
 
 
 def peak(words: list[str]) -> str:
-    """Return the peak memory of a command in MB (10^6 bytes), or - without GNU time.
+    """Return the peak memory of a command in MB (10^6 bytes), or `-` without GNU time.
 
     GNU time starts the command, since a process started by Python inherits Python's peak.
     """

@@ -1,6 +1,6 @@
-"""Let pytest run the tests of dev/check-tools. With `--forked` each test has its own process.
+"""Let pytest run the tests of dev/check-tools. With `--forked`, each test has its own process.
 
-The tests use the program of ./subttx, or the program that the variable SUBTTX names.
+The tests use the program that ./subttx runs, or the program named by the variable SUBTTX.
 """
 import os
 import sys
@@ -32,6 +32,6 @@ def pytest_unconfigure() -> None:
 
 
 def pytest_terminal_summary() -> None:
-    """List the tests that were skipped because this machine lacks something."""
+    """List the tests that were skipped because a tool is missing on this machine."""
     if BENCH.over:
         print("skipped: " + "; ".join(dict.fromkeys(BENCH.over)))

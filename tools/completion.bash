@@ -1,8 +1,8 @@
-# Completion of the command line of subttx, and of the tools that are installed with it, for bash;
-# dev/make-pages writes the parts between `made` and `end`.
-# tools/install puts it where bash looks for it; else: source tools/completion.bash
+# Bash completion for subttx and for the tools that are installed with it. dev/make-pages writes the
+# parts between `made` and `end`.
+# tools/install installs this file for bash. To use it without installing, source this file.
 
-# Words that begin as the one that is typed; files where there are none to choose from.
+# Complete the word $2 from the list $1.
 _subttx_words() {
     local IFS=$' \t\n'
     mapfile -t COMPREPLY < <(compgen -W "$1" -- "$2")
@@ -13,7 +13,7 @@ _subttx_files() {
     mapfile -t COMPREPLY < <(compgen -f -- "$1")
 }
 
-# What an option takes; status 1 where the word before is none with a value to choose.
+# Complete the value of option $1, of which $2 is typed. Return 1 if the option takes no such value.
 _subttx_value() {
     case $1 in
 # made: values
@@ -67,7 +67,7 @@ _subttx() {
     esac
 }
 
-# The options of a tool are those that its --help names. subttx-air has commands.
+# Complete the options that the tool's --help lists. subttx-air also has commands.
 _subttx_tool() {
     local word=${COMP_WORDS[COMP_CWORD]} before=${COMP_WORDS[COMP_CWORD - 1]}
     local command=()
