@@ -136,7 +136,7 @@ class Choices(Case):
         rule = manual.partition('<a id="what-qc-chooses">')[2].partition("<a id=")[0]
         rule = " ".join(rule.split())
         words = {"pid": "the announced PID", "origin": "a clock",
-                 "pes": "the PES packets within the programme's time", "pace": "a pace",
+                 "pes": "the PES packets of the programme", "pace": "a pace",
                  "option": "`--option`"}
         for what in CHOICES:
             self.must(what, words[what] in rule, rule)
