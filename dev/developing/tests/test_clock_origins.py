@@ -1,4 +1,4 @@
-"""The origin of known transmissions, and the lines printed about it."""
+"""Test the estimated origin of known transmissions, and the lines printed about it."""
 from __future__ import annotations
 
 import itertools
@@ -25,25 +25,25 @@ from .transmissions import (
     write_subtitle_file)
 from .test_clock_properties import packets_of
 
-FIRST, COUNT = 1_000_000, 12  # the frame of the first subtitle; number of subtitles
+FIRST, COUNT = 1_000_000, 12  # first TCI in frames; number of subtitles
 
 
 def evenly_spaced(count: int, step: int, lasts: int, text: bytes = b"Number %d", begin: int = 0
          ) -> list[Shown]:
-    """Return evenly spaced subtitles."""
+    """Return evenly spaced subtitles with their texts."""
     return [(begin + step * at, begin + step * at + lasts, text % at if b"%" in text else text)
             for at in range(count)]
 
 
 class Origins(Case):
     def stl(self, times: Sequence[Shown], name: str = "one.stl") -> str:
-        """Write a subtitle file."""
+        """Write a subtitle file with boxed texts; return its path."""
         return write_subtitle_file(self, [(begin, end, box_line(text)) for begin, end,
                                           text in times],
                                    name, 0, 20)
 
     def find(self, stl: str, pes: Sequence[bytes], *words: str) -> OriginEstimate:
-        """Find the origin of PES packets."""
+        """Estimate the origin of PES packets, with options for qc."""
         request = request_for(stl, "one.pes", *words)
         return estimate_origin(OriginSearch(stl, "one.pes", request.page, request.option,
                                             request.origin,
@@ -189,13 +189,13 @@ class Origins(Case):
         self.must("two", found.printed == ["--origin 0"] and not found.shift_texts, found)
 
     def transmission(self, begin: int, late: Sequence[int] = (0,) * COUNT) -> list[bytes]:
-        """Return the PES packets of a programme, some of them delayed."""
+        """Return the PES packets of a programme whose subtitles have these delays in frames."""
         return [make_pes_packet((begin + TICKS * (70 * number + frame + by)) % CLOCK, [
             HEADER, *[row_packet(20, b"Number %d" % number)] * (not frame), CLOSING])
                 for number, by in enumerate(late) for frame in (0, 40)]
 
     def own_stl(self) -> str:
-        """Write the subtitle file of the programme."""
+        """Write the programme's subtitle file; return its path."""
         return self.stl(evenly_spaced(COUNT, 70, 40, begin=FIRST))
 
     def test_prints_no_part_if_one_is_unclear(self) -> None:
@@ -301,7 +301,7 @@ class Tracks(unittest.TestCase):
     cues = find_expected_cues([Due(100 * at, 100 * at + 50, at, b"%d" % at) for at in range(1, 7)])
 
     def base(self, changes: dict[int, bytes], within: int = 0) -> TimeBase:
-        """A time base in which the page changes at some frames."""
+        """Return a time base in which the page changes to these texts at these frames."""
         return TimeBase(self.cues, [PageChange(TICKS * frame, letters, frame, ((20, letters),))
                                     for frame, letters in sorted(changes.items())],
                         0, 1000 * TICKS, (0, 999), within)
@@ -352,7 +352,7 @@ class Tracks(unittest.TestCase):
                               for stretch in row], [(0, 0, 6), (-40, 6, 12)], some)
 
     def test_takes_the_least_of_the_starts_that_fit_equally(self) -> None:
-        """The order of a set of starts does not decide: for -301 and -500 it has 0 first."""
+        # The result must not depend on the order in which a set of start frames is iterated.
         most = {cue.frame: cue.letters for cue in self.cues[:-1]}
         for later in (300, 301, 400, 500):
             twice = {**most, **{frame + later: text for frame, text in most.items()}}
@@ -402,27 +402,27 @@ class Tracks(unittest.TestCase):
                 (first[2], [0] * 7 + [3] * 5, 7), ([3] * 7 + [0] * 5, second, 6),
                 ([3] * 5 + [0, 1] + [0] * 5, [0] * 5 + [3, 0] + [3] * 5, 5)):
             self.assertEqual(row((0, 0, before), (0, -40, own)), [(0, end), (-40, 12)], own)
-        # Another track costs four points, and starts only if its next cue comes later.
+        # A change to another track costs four points, and needs a next cue that comes later.
         half, rest = [3] * 7 + [0] * 5, [0] * 7 + [3] * 5
         for before, place, wanted in (
                 ([3] * 8 + [2] * 4, (0, -40), [(0, 12)]), ([3] * 7 + [2] * 5, (0, -40), [
                     (0, 7), (-40, 12)]), (half, (0, 50), [(0, 12)]),
                 (half, (0, 49), [(0, 7), (49, 12)]), (half, (0, 100), [(0, 12)])):
             self.assertEqual(row((0, 0, before), (*place, rest)), wanted, (before, place))
-        # Agreements before the first five in a row count too.
+        # Matching cues before the first five consecutive matches count, too.
         self.assertEqual(row((0, 0, [3] * 4 + [0] + [3] * 5 + [0, 0]), (0, 5000, [0] * 6 + [
             3] * 6)), [(0, 12)])
 
 
 class Delays(unittest.TestCase):
-    # delays in frames; `None` if not sent
+    # Delays of in-cues and out-cues in frames; `None` if the page was not sent.
     LATE = [(0, 0), (1, 0), (2, 1), (2, 0), (None, None), (2, 2)]
     EDGES = [ExpectedCue(100 * at + 40 * is_end + at * at, b"" if is_end else b"%d" % at,
                          not is_end)
              for at in range(len(LATE)) for is_end in (False, True)]
 
     def base_of_delays(self) -> TimeBase:
-        """Return the time base of page transmissions with these delays."""
+        """Return a time base of page transmissions with the delays in `LATE`."""
         changes = [(TICKS * (cue.frame + by), cue.letters) for cue, by in zip(
             self.EDGES, (by for pair in self.LATE for by in pair)) if by is not None]
         return find_time_bases([], packets_of(changes), 3)[0].copy_between(self.EDGES, -1, 1 << 40)

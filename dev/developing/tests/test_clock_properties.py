@@ -1,4 +1,4 @@
-"""Properties of origins and ranges on random programmes and transmissions."""
+"""Test properties of origins and ranges with random programmes and transmissions."""
 from __future__ import annotations
 
 import random
@@ -16,11 +16,11 @@ from subtitles.stream.packets import PacketRun, Packets, PageChange
 from subtitles.stream.ranges import PageTexts, RangeStart, SentPacket, find_range
 
 SEEDS = range(20)
-Sending = tuple[int, bytes]  # a PTS that doesn't wrap, and the text of the page
+Sending = tuple[int, bytes]  # unwrapped PTS and text of a page transmission
 
 
 def random_programme(chance: random.Random, count: int | None = None) -> list[ExpectedSubtitle]:
-    """Return random subtitles, some of which adjoin or repeat a text."""
+    """Return random subtitles, some of them adjoining or with a repeated text."""
     frame, made = chance.randrange(FRAMES_OF_A_DAY // 2), []
     for number in range(count or chance.choice((6, 12, 30))):
         frame += chance.choice((0, MAX_ERASED + 1, chance.randrange(MAX_ERASED + 1, 200)))
@@ -37,7 +37,7 @@ def page_changes(cues: Sequence[ExpectedCue], origin: int) -> list[Sending]:
 
 def packets_of(sendings: Sequence[Sending], every: int = 0, chance: random.Random | None = None) \
         -> Packets:
-    """Return the PES packets of page transmissions, repeated every so many frames."""
+    """Return the PES packets of page transmissions, repeated every `every` frames if not 0."""
     made = Packets(0)
     shown: bytes | None = None
     for at, (pts, letters) in enumerate(sendings):
@@ -56,7 +56,7 @@ def packets_of(sendings: Sequence[Sending], every: int = 0, chance: random.Rando
 def find_origin(shown: Sequence[ExpectedSubtitle], packets: Packets, within: int = 0,
                 known: int | None = None,
           breaks: int = 0, run: int | None = None, late: Lateness | None = None) -> OriginEstimate:
-    """Find the origin of subtitles in PES packets."""
+    """Estimate the origin of subtitles from PES packets."""
     request = OriginSearch("", "", origin=known, breaks=breaks)
     origin, bases = OriginEstimate(), find_time_bases(shown, packets, within)
     runs = find_airings(bases)
@@ -79,7 +79,7 @@ class OriginProperties(unittest.TestCase):
             chance = random.Random(seed)
             shown = random_programme(chance)
             cues = find_expected_cues(shown)
-            near = -TICKS * cues[len(cues) // 2].frame % CLOCK  # PTS wrap in the middle
+            near = -TICKS * cues[len(cues) // 2].frame % CLOCK  # PTS wrap at the middle cue
             made.append((chance, shown, cues, chance.choice((0, near, chance.randrange(CLOCK)))))
         return made
 
@@ -111,7 +111,7 @@ class OriginProperties(unittest.TestCase):
     def test_reports_that_all_ends_are_late(self) -> None:
         for chance, shown, cues, origin in self.each():
             shown = [one._replace(end=one.end - 6, letters=b"text %d" % at)
-                     for at, one in enumerate(shown)]  # none adjoin or have the same text
+                     for at, one in enumerate(shown)]  # no adjoining subtitles, no equal texts
             cues = find_expected_cues(shown)
             late = chance.choice((-3, -1, 2, 4))
             sendings = [(pts + late * TICKS * (not text), text) for pts, text in
@@ -187,7 +187,7 @@ class OriginProperties(unittest.TestCase):
             sendings = [one for run in range(runs)
                         for one in page_changes(cues, origin + step * run)]
             if sendings[-1][0] - sendings[0][0] >= CLOCK // 2:
-                continue  # the wrap can't be distinguished from a break
+                continue  # a wrap can't be distinguished from a break
             for number in range(1, runs + 1):
                 one = find_origin(shown, packets_of(sendings), run=number)
                 self.assertEqual((len(one.airings), [part.origin for part in one.parts]),
@@ -214,7 +214,7 @@ class OriginProperties(unittest.TestCase):
         self.assertTrue(any("ambiguous" in line for line in one.lines))
 
 
-TEXT = ((20, b"text"),)  # of a page
+TEXT = ((20, b"text"),)  # rows of a page
 
 
 class Ranges(unittest.TestCase):
@@ -253,7 +253,7 @@ class Ranges(unittest.TestCase):
 
 def plain_range(packets: Packets, frames: Sequence[int], begin: int, end: int,
           every: int | None) -> tuple[int, int] | None:
-    """Return the range by the rule, sentence by sentence, for PES packets in order of frames."""
+    """Return the range as the manual defines it, for PES packets that are sorted by frames."""
     does = [run.flags for run in packets.runs]
     changed = {one.number for one in packets.changes}
     early = [at for at, frame in enumerate(frames) if max(begin - (every or 0), 0) <= frame < begin]
@@ -267,7 +267,7 @@ def plain_range(packets: Packets, frames: Sequence[int], begin: int, end: int,
     if blank and not (is_shown and own[0] in changed):
         first = blank[-1]
     elif is_shown and own[0] not in changed and "h" in does[own[0]] and headers:
-        first = headers[-1]  # a repeat: the text came early
+        first = headers[-1]  # repeats a text that was sent before
     else:
         first = next((at for at in own if "h" in does[at]), -1)
     if first < 0:

@@ -1,5 +1,5 @@
-"""The search for a clock takes the requested subtitles, PES packets, origin and delays into
-account."""
+"""Test that the search for a clock respects the requested subtitles, PES packets, origin and
+delays."""
 from __future__ import annotations
 
 import itertools
@@ -25,11 +25,11 @@ class Requests(Case):
         self.cues = find_expected_cues(self.shown)
 
     def find(self, sendings: Sequence[tuple[int, bytes]], **asked: Any) -> OriginEstimate:
-        """Find the origin of page transmissions."""
+        """Estimate the origin of page transmissions, with options for the search."""
         return estimate_origin(OriginSearch(self.stl, "one.pes", **asked), packets_of(sendings))
 
     def transmissions(self, late: Sequence[int]) -> list[tuple[int, bytes]]:
-        """Return all page transmissions, each delayed by some frames."""
+        """Return the page transmissions of all cues, each delayed by some frames."""
         return [(TICKS * (cue.frame + by), cue.letters) for cue, by in zip(self.cues, late)]
 
     def test_searches_only_the_requested_subtitles_and_packets(self) -> None:
@@ -62,7 +62,7 @@ class Requests(Case):
         wrong = [(ticks, text and b"x" + text) for ticks, text in self.transmissions([EACH] * 24)]
         found = self.find(self.transmissions([*[0] * 8, *[50] * 8, *[90] * 8]))
         self.assertEqual((found.first_shift, len(found.shift_texts)), (self.cues[8].frame, 2))
-        # compared with the given origin
+        # Delays are measured from the given origin.
         found = self.find(self.transmissions([*[100] * 12, *[150] * 12]), origin=0)
         self.assertIn("(150 frames) late", found.shift_texts[0])
         late_then = self.transmissions([*[0] * 12, *[50] * 6, *[600] * 6])  # a delay, then a break

@@ -1,6 +1,4 @@
-"""Tables of decisions about a clock:
-time bases, agreement of cues, stretches, parts, and repeats.
-"""
+"""Test the search for a clock with tables: its time bases, matching cues, parts and repeats."""
 from __future__ import annotations
 
 import itertools
@@ -21,19 +19,19 @@ from subtitles.common.times import CLOCK, EARLY_TICKS, TICKS
 from subtitles.stream.packets import PacketRun, Packets, PageChange
 from .test_clock_properties import packets_of
 
-EACH = 5000  # frames from one run of the programme to the next
-SHIFTS = (0, CLOCK - 2 * TICKS - 7)  # the first PTS: 0, or one after which PTS wrap
+EACH = 5000  # frames between the starts of two airings of the programme
+SHIFTS = (0, CLOCK - 2 * TICKS - 7)  # first PTS, before a PTS wrap or without it
 
 
 def changes_at(several: Sequence[tuple[int, bytes]], shift: int = 0) -> list[PageChange]:
-    """Return page changes, each with ticks after the first PTS and a text."""
+    """Return changes to these texts, each at some ticks after the first PTS `shift`."""
     return [PageChange((shift + ticks) % CLOCK, letters, at, ((20, letters),) if letters else ())
             for at, (ticks, letters) in enumerate(several)]
 
 
 def base_with(cues: Sequence[ExpectedCue], several: Sequence[tuple[int, bytes]], length: int = 9999,
               within: int = 0, shift: int = 0) -> TimeBase:
-    """Return a time base of a given length in which the page changes."""
+    """Return a time base of `length` frames with these page changes."""
     return TimeBase(cues, changes_at(several, shift), shift, (shift + TICKS * length) % CLOCK,
                     (0, 99), within)
 
@@ -94,7 +92,7 @@ class TimeBases(unittest.TestCase):
 
     def test_selects_the_time_bases_with_the_most_changes(self) -> None:
         def bases(counts: Sequence[int], inside: tuple[int, int]) -> list[tuple[int, int, int]]:
-            """Return the stretches of four PES packets with changes."""
+            """Return start, end and number of changes of the time bases, each of four packets."""
             packets = Packets(0, [PacketRun(4 * at, 4, 10 ** 9 - at * 10 ** 6, TICKS, "h", "")
                                   for at in range(len(counts))])
             packets.changes = [PageChange(0, b"", 4 * at + more) for at, count in enumerate(counts)
@@ -135,7 +133,7 @@ class Fits(unittest.TestCase):
 
     def fit(self, sent: Sequence[tuple[int, bytes]], offs: Sequence[int] = (0,) * 9,
                length: int = 50, within: int = 0, shift: int = 0, start: int = 10) -> Any:
-        """Return how cues agree with the right origin."""
+        """Return how the cues agree with the correct origin."""
         return base_with(self.cues, [(TICKS * frame + off, letters) for (frame, letters), off in
                                      zip(sent, offs)], length, within, shift).compare(start)
 
@@ -184,7 +182,7 @@ class Fits(unittest.TestCase):
         self.assertEqual((fit.start, fit.delays), (8, [0]))
         base = base_with(self.cues, [(TICKS * (frame + 2), text) for frame, text in self.SENT],
                          60, 2)
-        for start in (8, 9, 10):  # a delay of all is no delay
+        for start in (8, 9, 10):  # all cues have the same delay
             self.assertEqual((base.fit(start).start, base.fit(start).delays), (8, [0] * 6), start)
         self.assertEqual([min(one.delays) for one in base.fits], [0] * len(base.fits))
         self.assertEqual((base_with(self.cues, []).fits, base_with([], self.SENT).fits), ([], []))
@@ -201,7 +199,7 @@ class Fits(unittest.TestCase):
             base = base_with(self.cues, [(TICKS * frame, text) for frame, text in some], 60,
                              within)
             self.assertEqual(base.find_cue_offset(base.compare(10)), wanted, (some, within))
-        half = [(0, b"a"), (10, b""), (12, b""), (20, b"b"), (37, b"")]  # on time, or all later
+        half = [(0, b"a"), (10, b""), (12, b""), (20, b"b"), (37, b"")]  # on time and late
         base = base_with(self.cues[:4], [(TICKS * frame, text) for frame, text in half])
         self.assertIsNone(base.find_cue_offset(base.compare(10)))
         base = base_with(self.cues, [(TICKS * frame, text) for frame, text in self.SENT], 49)
@@ -216,7 +214,7 @@ class Fits(unittest.TestCase):
             self.assertEqual(found, CueOffset(False, at, 1, 1) if is_told else None, (at, is_told))
         base = base_with(self.cues[:2], [(TICKS * 13, b"")])
         self.assertIsNone(base.find_cue_offset(base.compare(10)))
-        # the ends are on time, the beginnings are not: these determine the origin
+        # If only out-cues are on time, the in-cues determine the origin.
         for by in (-3, 3):
             some = [(frame + 9 + by * bool(text), text) for frame, text in self.SENT]
             base = base_with(self.cues, [(TICKS * frame, text) for frame, text in some], 70)
@@ -252,9 +250,9 @@ class Parts(unittest.TestCase):
 
     def parts(self, shown: Sequence[ExpectedSubtitle], later: int, is_anew: bool,
               extra: Sequence[tuple[int, bytes]] = ()) -> list[EstimatedPart]:
-        """Return the parts of a programme whose second half is sent later, or after PTS went back.
+        """Return the parts of a programme whose second half is delayed, or is in a new time base.
 
-        `extra` has further page changes of the first time base.
+        `extra` has further page changes in the first time base.
         """
         cues = find_expected_cues(shown)
         half = sum(cue.frame < 400 for cue in cues)
@@ -318,7 +316,7 @@ class Parts(unittest.TestCase):
                               ([none, base_with(cues, own[:3]), none], 1),
                               ([base_with(cues, own[:5]), strange], 0),
                               ([strange, base_with(cues, own[:5])], 1)):
-            [part] = fit_parts(self.shown[::-1], bases, [])  # in any order
+            [part] = fit_parts(self.shown[::-1], bases, [])  # subtitles in reverse order
             self.assertEqual((part.base, part[:2], part.best.start, part.overlapping), (
                 number, (100, 650), 0, []), number)
             self.assertIs(part.sent, bases[number], (bases, number))
@@ -359,9 +357,10 @@ class Runs(unittest.TestCase):
     def run_frames(self, shown: Sequence[ExpectedSubtitle], kinds: str, step: int,
                    has_clock: bool = False
               ) -> list[tuple[int, int]]:
-        """Return the first and last frame of each run.
+        """Return the first and last frame of each airing of a programme.
 
-        `kinds` has a letter for each: right, wrong texts, few right texts, half, less.
+        `kinds` has a letter for each airing: `r`ight, `w`rong texts, `f`ew right texts, `h`alf of
+        the cues, or `l`ess.
         """
         sendings = []
         for number, kind in enumerate(kinds):
@@ -427,7 +426,7 @@ class Choices(unittest.TestCase):
         self.assertEqual(find_likeliest_clock(base, base.compare(0), late).start, 0)
 
     def base_of_delays(self, delays: Sequence[int | None]) -> TimeBase:
-        """Return the time base of subtitles with these delays."""
+        """Return a time base in which the cues of subtitles have these delays."""
         cues = find_expected_cues([ExpectedSubtitle(100 * at, 100 * at + 50, at, b"%d" % at)
                                    for at in range(1, len(delays) // 2 + 1)])
         return base_with(cues, [(TICKS * (cue.frame + by), cue.letters) for cue, by in zip(

@@ -1,4 +1,4 @@
-"""A recording whose PTS wrap at 2^33 is judged like one whose PTS don't wrap."""
+"""Test that recordings with and without a PTS wrap (at 2^33) are judged in the same way."""
 from __future__ import annotations
 
 import json
@@ -20,14 +20,14 @@ from .test_clock_delays import EARLIER, FIRST_PTS, STARTED, STORY
 from .test_judging_losses import large, lost
 from .test_stream_pace import without_pid, filled
 
-# Members of a result, and parts of its lines, that contain a PTS or depend on the file.
+# Members of a result that depend on the file.
 OF_FILE = {"inputs", "files_at_start", "program", "date", "seconds", "request"}
 OF_PTS = re.compile(r'(--origin |PTS |origin": |_pts": |origin", "value": ")\d+( and \d+(?= \())?')
 PCR_FLAG, FIELD, PTS_FLAG, DTS_FLAG = 0x10, 0x20, 0x80, 0x40
 
 
 def add_ticks(time: bytes, by: int) -> bytes:
-    """Add ticks to the five bytes of a PTS or DTS."""
+    """Return the five bytes of a PTS or DTS that is `by` ticks later."""
     value = time[0] >> 1 & 7
     for high, low in (time[1:3], time[3:5]):
         value = value << 15 | (high << 8 | low) >> 1
@@ -38,7 +38,7 @@ def add_ticks(time: bytes, by: int) -> bytes:
 
 
 def shift_clocks(data: bytes, by: int) -> bytes:
-    """Shift all clocks of a transport stream."""
+    """Shift all PCRs, PTS and DTS in a transport stream by ticks."""
     made = bytearray(data)
     for at in range(0, len(made), PACKET):
         begin = at + 4
@@ -63,7 +63,7 @@ class Wraps(Case):
         self.sent = filled(schedule_pages(self, self.stl))
 
     def judge(self, stl: str, data: bytes, *words: str) -> tuple[str, str]:
-        """Return the verdict, and all output without PTS."""
+        """Judge a recording; return its verdict and all output with PTS replaced."""
         found = judge_files(self, stl, self.write("one.ts", data), *words)
         known: dict[str, Any] = {name: value for name, value in found.result.items()
                                  if name not in OF_FILE}
@@ -71,7 +71,7 @@ class Wraps(Case):
 
     def check_same(self, name: str, word: str, data: bytes, *words: str, stl: str = "",
                      frames: Sequence[int] = (3 * EACH, 3 * EACH + 21, 6 * EACH + LASTS)) -> None:
-        """Check that a stream is judged the same if its PTS wrap at any of some frames."""
+        """Check that a stream is judged in the same way if its PTS wrap at any of these frames."""
         plain = self.judge(stl or self.stl, shift_clocks(data, CLOCK // 3), *words)
         self.must(name, plain[0] == word, plain)
         for frame in frames:
@@ -80,7 +80,7 @@ class Wraps(Case):
                 one for one in zip(plain[1].split(", "), anew[1].split(", ")) if one[0] != one[1]])
 
     def multiplex(self, size: int = 3) -> list[Packet]:
-        """Return a multiplex with `size` TS packets for each PES packet."""
+        """Return a transport stream with PES packets of `size` TS packets."""
         return make_multiplex([large(pes_file([one]), size) for one in self.sent], Shape(200))
 
     def test_reports_losses_by_the_counter(self) -> None:

@@ -1,5 +1,5 @@
-"""Options and arguments at each limit; files that are read, and files that are written completely
-or not at all."""
+"""Test options and arguments at their limits, and files that are read or written completely or not
+at all."""
 from __future__ import annotations
 
 import argparse

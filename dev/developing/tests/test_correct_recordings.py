@@ -1,10 +1,10 @@
-"""Correct recordings that could mislead the rules of a verdict.
+"""Test that correct recordings are accepted, although their delays or intervals are unusual.
 
-Inserters with eleven kinds of delays, PES packets at fourteen kinds of intervals, breaks, several
-programmes, repeats. A rule that refuses correct recordings is worse than none, so `LOST` limits how
-many of each kind may be refused or not judged. The gate judges some of each kind; from dev/,
-`python3 -m developing.tests.test_correct_recordings PROGRAM` judges all; it prints each that is not
-accepted, and the counts.
+The recordings have eleven kinds of delays, fourteen kinds of intervals between PES packets, breaks,
+several programmes, or repeats. `LOST` limits how many recordings of each kind may be refused or not
+judged. The gate judges some of each kind. From dev/, `python3 -m
+developing.tests.test_correct_recordings PROGRAM` judges all recordings; it prints the counts, and
+each recording that was not accepted.
 """
 from __future__ import annotations
 
@@ -23,51 +23,50 @@ from .streams import (
 from .transmissions import CLOSING, HEADER, Sent, pes_file, write_programme, schedule_pages
 from .test_judging_losses import WRONG, large
 
-FIRST, EACH, LASTS = 900_000, 100, 60  # frames: first TCI, from one to the next, length of each
+FIRST, EACH, LASTS = 900_000, 100, 60  # first TCI, distance of TCIs, duration, in frames
 SILENT_PID, OTHER_PID, LATER_PMT = 0x121, 0x111, 0x110
 INSERTERS, ONE_A_FRAME, TWO_A_FRAME = "inserters", "one a frame", "two a frame"
 BREAKS, PROGRAMMES, AIRINGS = "breaks", "programmes", "airings"
-GATE = 8  # the gate judges one of so many of a kind
+GATE = 8  # the gate judges every eighth recording of a kind
 
 
 class Bound(NamedTuple):
-    """The number of recordings of a kind, and how many may be refused and not judged."""
+    """The number of recordings of a kind, and how many of them may be refused or not judged."""
 
     recordings: int
     refused: int
     not_judged: int
 
 
-# Late inserters without a clock, silences that are no loss, breaks under five seconds, and a page
-# of two programmes. The refused ones can't be distinguished from faulty ones: see
-# `IndistinguishableFaults`.
+# Limits for each kind of recordings. The refused recordings can't be distinguished from faulty
+# recordings: see `IndistinguishableFaults`.
 LOST = {
     INSERTERS: Bound(66, 2, 12), ONE_A_FRAME: Bound(30, 7, 0), TWO_A_FRAME: Bound(28, 6, 0),
     BREAKS: Bound(9, 0, 5), PROGRAMMES: Bound(8, 0, 2), AIRINGS: Bound(11, 0, 0)}
 
 
 class Recording(NamedTuple):
-    """A correct recording: kind, name, files, and arguments."""
+    """A correct recording, with its kind, name, files, and arguments for qc."""
 
     kind: str
     name: str
-    # writes the files; returns the paths of subtitle file and recording
+    # Writes the subtitle file and the recording, and returns their paths.
     made: Callable[[Case], tuple[str, str]]
     words: Sequence[str]
 
     def judge(self, case: Case) -> JudgedPair:
-        """Judge the recording."""
+        """Write the recording, and judge it."""
         stl, path = self.made(case)
         return judge_files(case, stl, path, *self.words)
 
 
 def evenly(count: int, is_adjoining: bool = False) -> list[tuple[int, int]]:
-    """Return the frames of subtitles, a hundred frames apart."""
+    """Return the first and end frames of `count` subtitles at distances of a hundred frames."""
     lasts = EACH if is_adjoining else LASTS
     return [(FIRST + EACH * at, FIRST + EACH * at + lasts) for at in range(count)]
 
 
-# Inserters: possible delays of begins and ends in frames.
+# Kinds of inserters, with possible delays of in-cues and out-cues in frames.
 
 SHARES: dict[str, tuple[Sequence[int], Sequence[int]]] = {
     "const": ((0,), (0,)), "b1": ((1,), (0,)), "rows": ((1, 1, 2, 2, 3), (0,)),
@@ -80,7 +79,7 @@ SHARES: dict[str, tuple[Sequence[int], Sequence[int]]] = {
 
 
 def late_inserter(kind: str, count: int, is_adjoining: bool) -> Callable[[Case], tuple[str, str]]:
-    """Return a programme with random delays of begins and ends."""
+    """Return a function that writes a programme with random delays of in-cues and out-cues."""
     def made(case: Case) -> tuple[str, str]:
         chance = random.Random(f"{kind} {count} {is_adjoining}")
         begins, ends = SHARES[kind]
@@ -100,8 +99,8 @@ def late_inserter(kind: str, count: int, is_adjoining: bool) -> Callable[[Case],
 
 
 def inserters() -> Iterator[Recording]:
-    """Yield recordings of each inserter with 12, 24 and 80 subtitles, adjoining or not, without a
-    clock."""
+    """Yield recordings made by each inserter, with 12, 24 and 80 subtitles, adjoining or not, and
+    judged without a clock."""
     for kind, (begins, ends) in SHARES.items():
         within = max([1, *begins, *ends])
         for count in (12, 24, 80):
@@ -111,20 +110,18 @@ def inserters() -> Iterator[Recording]:
                                                  "--no-complete"])
 
 
-# In which frames PES packets come besides page transmissions.
-
 def all_but(left_out: Callable[[int], bool]) -> Callable[[random.Random, int], list[int]]:
-    """Return each frame except some."""
+    """Return a function that selects all frames except those for which `left_out` is true."""
     return lambda chance, frames: [at for at in range(frames) if not left_out(at)]
 
 
 def share_of(one_in: int) -> Callable[[random.Random, int], list[int]]:
-    """Return each frame except a random one in so many."""
+    """Return a function that selects all frames except a random share of one in `one_in`."""
     return lambda chance, frames: [at for at in range(frames) if chance.randrange(one_in)]
 
 
 def steps(step: Callable[[random.Random], int]) -> Callable[[random.Random, int], list[int]]:
-    """Return frames with random steps."""
+    """Return a function that selects frames at random distances."""
     def made(chance: random.Random, frames: int) -> list[int]:
         at, found = 0, list[int]()
         while at < frames:
@@ -150,7 +147,8 @@ DISTANCES: dict[str, Callable[[random.Random, int], list[int]]] = {
 
 
 def paced_sent(case: Case, name: str, count: int, each: int) -> tuple[str, Sent]:
-    """Return a programme with `each` PES packets in such frames."""
+    """Return a subtitle file and its transmission, with `each` PES packets in the frames that the
+    kind `name` selects."""
     chance, times = random.Random(f"{name} {count}"), evenly(count)
     stl = write_programme(case, times)
     known = dict(schedule_pages(case, stl))
@@ -164,7 +162,7 @@ def paced_sent(case: Case, name: str, count: int, each: int) -> tuple[str, Sent]
 
 
 def paced(name: str, count: int, each: int) -> Callable[[Case], tuple[str, str]]:
-    """Return the same as a stream."""
+    """Return a function that writes the programme of `paced_sent` as a transport stream."""
     def made(case: Case) -> tuple[str, str]:
         stl, sent = paced_sent(case, name, count, each)
         return stl, case.write("paced.ts", in_stream(sent))
@@ -173,8 +171,8 @@ def paced(name: str, count: int, each: int) -> Callable[[Case], tuple[str, str]]
 
 
 def paces() -> Iterator[Recording]:
-    """Yield recordings with one PES packet a frame, also only pages and one in three frames; and
-    two a frame."""
+    """Yield recordings with one or two PES packets in each frame, or in the frames selected by each
+    kind."""
     for kind, each, names in ((ONE_A_FRAME, 1, [*DISTANCES, "alone"]),
                               (TWO_A_FRAME, 2, [*DISTANCES])):
         for name in names:
@@ -185,8 +183,8 @@ def paces() -> Iterator[Recording]:
 
 
 class Service(NamedTuple):
-    """A programme of a multiplex:
-    its number, and PID, type and number of the pages that it announces.
+    """A programme in a transport stream: its number, and the pages that its PMT announces, each
+    with PID, type and page number.
     """
 
     number: int
@@ -194,7 +192,7 @@ class Service(NamedTuple):
 
 
 def tables_of(services: Sequence[Service]) -> list[tuple[int, bytes]]:
-    """Return the PAT and a PMT for each programme, with one PCR."""
+    """Return the PAT and the PMT of each programme, all with the same PCR PID."""
     pids = [PMT_PID if not at else LATER_PMT + at for at in range(len(services))]
     made = [(0, program_association([(one.number, pid) for one, pid in zip(services, pids)]))]
     for one, pid in zip(services, pids):
@@ -209,10 +207,10 @@ OWN = Service(1, [(TELETEXT_PID, 2, 0x88)])
 
 def in_stream(sent: Sent, plan: Sequence[tuple[int, Sequence[Service]]] = ((0, (OWN,)),),
               beside: Sequence[int] = ()) -> bytes:
-    """Return a stream of PES packets, each after a PCR.
+    """Return a transport stream with PES packets, each after a PCR.
 
-    `plan` has the tables from given PES packets on. PES packets without Teletext come on other
-    PIDs.
+    `plan` lists numbers of PES packets, each with the programmes announced from this packet on.
+    The PIDs `beside` carry PES packets without Teletext.
     """
     maker = Maker([])
     for number, (pts, some) in enumerate(sent):
@@ -228,8 +226,7 @@ def in_stream(sent: Sent, plan: Sequence[tuple[int, Sequence[Service]]] = ((0, (
 
 
 def services() -> Iterator[Recording]:
-    """Yield recordings with several programmes, and tables that change outside the subtitles' time.
-    """
+    """Yield recordings with several programmes, or with tables that change after the subtitles."""
     silent = Service(2, [(SILENT_PID, 2, 0x88)])
     other_page = Service(2, [(SILENT_PID, 2, 0x89)])
     twice = Service(1, [(TELETEXT_PID, 2, 0x88), (SILENT_PID, 5, 0x88)])
@@ -255,7 +252,8 @@ def services() -> Iterator[Recording]:
 
 
 def broken(*lengths: int) -> Callable[[Case], tuple[str, str]]:
-    """Return a programme in parts of twenty subtitles, with breaks of some frames."""
+    """Return a function that writes a programme with breaks of these lengths in frames, each after
+    twenty subtitles."""
     def made(case: Case) -> tuple[str, str]:
         stl = write_programme(case, evenly(20 * (len(lengths) + 1)))
         sent = []
@@ -268,14 +266,14 @@ def broken(*lengths: int) -> Callable[[Case], tuple[str, str]]:
 
 
 def breaks() -> Iterator[Recording]:
-    """Yield recordings with one or two breaks of one to ten seconds."""
+    """Yield recordings with one or two breaks that last 1 to 16 seconds."""
     for lengths in ((25,), (50,), (100,), (124,), (125,), (126,), (250,), (400, 50), (400, 150)):
         yield Recording(BREAKS, f"{lengths}", broken(*lengths), [
             "--breaks", f"{len(lengths)}", "--every", "40", "--no-complete"])
 
 
 def with_tail(count: int) -> Callable[[Case], tuple[str, str]]:
-    """Return a programme whose last subtitles are repeated ten minutes later."""
+    """Return a function that writes a programme and repeats `count` subtitles ten minutes later."""
     def made(case: Case) -> tuple[str, str]:
         times = [(frame + at * at * 7, end + at * at * 7) for at, (frame, end) in
                  enumerate(evenly(20))]
@@ -289,7 +287,8 @@ def with_tail(count: int) -> Callable[[Case], tuple[str, str]]:
 
 
 def near_short_subtitles(count: int, is_before: bool) -> Callable[[Case], tuple[str, str]]:
-    """Return a few subtitles with six minutes of another programme's short ones before or after."""
+    """Return a function that writes a programme before or after six minutes of short subtitles of
+    another programme."""
     def made(case: Case) -> tuple[str, str]:
         quick = [(FIRST + 20 * at, FIRST + 20 * at + 15) for at in range(450)]
         others = schedule_pages(case,
@@ -303,7 +302,8 @@ def near_short_subtitles(count: int, is_before: bool) -> Callable[[Case], tuple[
 
 
 def cut_at(count: int) -> Callable[[Case], tuple[str, str]]:
-    """Return a programme with a break between adjoining subtitles, at which the page is erased."""
+    """Return a function that writes a programme with a break between adjoining subtitles, at which
+    the page is erased."""
     def made(case: Case) -> tuple[str, str]:
         times = evenly(20, True)
         stl = write_programme(case, times)
@@ -316,8 +316,8 @@ def cut_at(count: int) -> Callable[[Case], tuple[str, str]]:
 
 
 def airings() -> Iterator[Recording]:
-    """Yield recordings with repeated tails, with short subtitles, and with a break between
-    adjoining subtitles."""
+    """Yield recordings with repeated subtitles, with short subtitles of another programme, or with
+    a break between adjoining subtitles."""
     for count in (0, 3, 6):
         yield Recording(AIRINGS, f"tail {count}", with_tail(count), ["--every", "40"])
     for count in (5, 8, 12):
@@ -362,12 +362,12 @@ class IndistinguishableFaults(Case):
 
 
 SILENT = ("one silence", "two silences", "three silences")
-LARGEST = 9  # TS packets of a PES packet
+LARGEST = 9  # maximum size of a PES packet in TS packets
 
 
 def lossy(sent: Sent, each: int) -> bytes:
-    """Return what is left of a stream with PES packets in each frame, if the frames without one in
-    `sent` are lost."""
+    """Return a stream with PES packets in each frame, after the loss of all PES packets that `sent`
+    does not have."""
     maker = Maker([])
     maker.tables = tables_of((OWN,))
     for number, (pts, some) in enumerate(sent):
@@ -390,7 +390,7 @@ def lossy(sent: Sent, each: int) -> bytes:
 
 
 def is_bounded(kind: str, words: Sequence[str]) -> bool:
-    """Return whether no more recordings of a kind are refused or not judged than allowed."""
+    """Return whether at most the allowed number of recordings was refused or not judged."""
     bound = LOST[kind]
     refused = sum(word not in ("accepted", "not judged") for word in words)
     return refused <= bound.refused and \
@@ -398,7 +398,7 @@ def is_bounded(kind: str, words: Sequence[str]) -> bool:
 
 
 def main(program: str) -> None:
-    """Judge all recordings; print the counts."""
+    """Judge all recordings; print the counts, and each recording that was not accepted."""
     BENCH.chosen = program
     case = CorrectRecordings("test_accepts_correct_recordings_of_each_kind")
     kinds = dict[str, list[str]]()

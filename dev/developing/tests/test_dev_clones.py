@@ -1,4 +1,4 @@
-"""./subttx in fresh clones: which program it runs, tools/prove, and dev/release."""
+"""Test ./subttx, tools/prove and dev/release in fresh copies of the repository."""
 from __future__ import annotations
 
 import os
@@ -18,18 +18,18 @@ from .bench import Case, Done, SECONDS
 PACKET = ["packet", "00"]
 SOURCE = os.path.join("crates", "ttx_packet", "src", "parity.rt")
 VERSION = "a toolchain"
-# A fake toolchain that prints its version and proves nothing.
+# A script that replaces `rt`, prints its version and proves nothing.
 TOOLCHAIN = f'#!/bin/sh\n[ "$1" = version ] && echo {VERSION!r}\n'
 LINE = "logic=proved functions=7"
 NEITHER, PASSED, FAILED = (b"\n%d passed, %d failed\n" % it for it in ((0, 0), (1, 0), (0, 1)))
 NEEDED = ["subttx", "crates.txt", "HANDLES", "tools", "dev", "crates"]
 
 
-KEPT = {"lib.rt", "parity.rt", "Lib.antt"}  # of the files in a crate's folders
+KEPT = {"lib.rt", "parity.rt", "Lib.antt"}  # names of the files that a copied crate has
 
 
 def left_out(folder: str, names: list[str]) -> set[str]:
-    """Return the files that a copy of the repository omits: most sources of each crate."""
+    """Return the names in a folder that a copy omits: most sources, tests and output files."""
     if os.path.basename(folder) in ("src", "specs", "proofs"):
         return set(names) - KEPT
     here = {"tests", "every_place"} if os.path.basename(folder) == "developing" else set()
@@ -38,7 +38,7 @@ def left_out(folder: str, names: list[str]) -> set[str]:
 
 
 class Clone:
-    """A copy of the repository in a test's folder, whose dist/ has the program of its sources."""
+    """A copy of the repository in a test's folder, with a program in dist/ and its PROVED."""
 
     def __init__(self, case: Case) -> None:
         self.case, self.top = case, case.path("clone")
@@ -57,11 +57,11 @@ class Clone:
         return os.path.join(self.top, *names)
 
     def tool(self, name: str, *words: str) -> list[str]:
-        """Run a tool of the clone; return its output lines."""
+        """Run a tool of the copy; return its output lines."""
         return self.case.call([self.path("tools", name), *words]).out.decode().splitlines()
 
     def put(self, folder: str, program: str, line: str = LINE) -> None:
-        """Put a program into a folder, with PROVED for the current sources."""
+        """Copy a program to a folder, and write PROVED with the digests of the current sources."""
         os.makedirs(self.path(folder), exist_ok=True)
         shutil.copy(program, self.path(folder, "subttx"))
         os.chmod(self.path(folder, "subttx"), 0o755)
@@ -79,23 +79,23 @@ class Clone:
             file.write(text)
 
     def build(self) -> None:
-        """Put the program where the toolchain builds it."""
+        """Copy the program to the place at which the toolchain builds it."""
         folder = self.path("crates", "subttx", "out")
         os.makedirs(folder)
         shutil.copy(self.case.bench.program, os.path.join(folder, "subttx"))
 
     def give(self, name: str, text: str) -> None:
-        """Put a script next to rt."""
+        """Write a script to the folder with rt."""
         os.makedirs(self.path("bin"), exist_ok=True)
         self.case.write_program(self.path("bin", name), text)
 
     def give_toolchain(self, text: str = TOOLCHAIN) -> str:
-        """Put an rt into the clone; return a PATH with it."""
+        """Write the script `rt` to the copy; return a PATH with it."""
         self.give("rt", text)
         return os.pathsep.join([self.path("bin"), path_without_rt()])
 
     def call(self, command: list[str], path: str, user: int | None = None) -> Done:
-        """Run a command with this PATH, perhaps as another user."""
+        """Run a command with this PATH, as another user if `user` is given."""
         done = subprocess.run(command, cwd=self.case.folder, env={**os.environ, "PATH": path},
                               user=user, stdin=subprocess.DEVNULL, stdout=subprocess.PIPE,
                               stderr=subprocess.PIPE, timeout=SECONDS, check=False)
@@ -109,12 +109,12 @@ class Clone:
         return self.call([self.path("dev", "release"), *words], self.give_toolchain())
 
     def check_runs(self, name: str, done: Done | None = None) -> None:
-        """Check that the program runs, and nothing else is printed."""
+        """Check that ./subttx runs the program and prints nothing else."""
         done = done or self.run(*PACKET)
         self.case.must(name, done == self.case.call([self.case.bench.program, *PACKET]), done)
 
     def check_fails(self, name: str, why: str) -> None:
-        """Check that no program runs, with the reason on two lines."""
+        """Check that ./subttx runs no program and prints the reason `why` on two lines."""
         done = self.run(*PACKET)
         self.case.must(name, done.status == 2 and not done.out and len(done.told) == 2
                        and why in done.told[0] and "rt is not on the PATH" in done.told[1], done)
@@ -126,7 +126,7 @@ def path_without_rt() -> str:
 
 
 def a_log(clone: Clone, kept: Iterable[str] = ()) -> str:
-    """Return the output of rt ci: a crate with tests, one that fails, and stored ones."""
+    """Return output of `rt ci` on proved crates, previously proved crates, and a failed crate."""
     lines = []
     for name in clone.crates:
         if name in kept:
@@ -297,7 +297,7 @@ class Clones(Case):
         self.must("damage", done.status == 1 and b"is not the program" in done.out, done)
 
 
-# It logs the crate, runs FIRST, and proves the crate if its dependencies are there, except FAILS.
+# A fake prover, which logs the crate, runs FIRST, and proves all crates except FAILS.
 PROVER = """#!/bin/sh
 [ "$1 $2" = 'build --crate-name' ] || exit 2
 crate=$3
@@ -319,7 +319,7 @@ SLEEPS = "echo $$ >>'PIDS'; exec sleep 600"
 
 
 class Bare(Clone):
-    """A clone without a program, and with a toolchain."""
+    """A copy of the repository that has a fake toolchain, but no PROVED for its program."""
 
     def __init__(self, case: Case, fails: str = "", first: str = "") -> None:
         super().__init__(case)
@@ -334,11 +334,11 @@ class Bare(Clone):
         self.give("rattle", text.replace("CALLED", self.called))
 
     def start(self) -> Done:
-        """Run ./subttx."""
+        """Run ./subttx with the fake toolchain on the PATH."""
         return self.call([self.path("subttx"), *PACKET], self.environment)
 
     def prove(self, *words: str) -> list[str]:
-        """Run tools/prove; return the proved crates in order."""
+        """Run tools/prove; return the crates for which it called the prover, in order."""
         self.write(self.called, "")
         self.call([self.path("tools", "prove"), *words], self.environment)
         return (read(self.called) or "").split()

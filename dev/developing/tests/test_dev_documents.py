@@ -1,5 +1,5 @@
-"""The documents:
-links, quoted sources, lists of tools, man pages, and bodies without a contract.
+"""Test the documents' links, quoted sources, lists of tools and man pages, and functions without a
+contract.
 """
 from __future__ import annotations
 
@@ -38,14 +38,14 @@ def documents() -> Iterator[tuple[str, str]]:
 
 
 def anchors(text: str) -> set[str]:
-    """Return the anchors and headings of a document, as links name them."""
+    """Return the names by which links refer to the anchors and headings of a document."""
     text = BLOCK.sub("", text)
     return {*ANCHOR.findall(text), *(re.sub(r"[^\w\- ]", "", found.lower()).replace(" ", "-")
                                      for found in HEADING.findall(text))}
 
 
 def sources() -> str:
-    """Return all specifications and code."""
+    """Return the text of all specifications and sources in crates/."""
     paths = [*glob.glob(os.path.join(TOP, "crates", "*", "specs", "**", "*.antt"), recursive=True),
              *glob.glob(os.path.join(TOP, "crates", "*", "src", "**", "*.rt"), recursive=True)]
     return "\n".join(read(path) or "" for path in sorted(paths))
@@ -198,21 +198,21 @@ class GeneratedParts(unittest.TestCase):
             pages.replace_parts(text, {"two": ""})
 
 
-# The folders whose scripts and packages CONTRIBUTING lists, and the section's heading.
+# Folders and packages listed in CONTRIBUTING.md, and the heading of each list.
 FOLDERS = [("tools", "subtitles", "Tools"),
            ("dev", None, "For developers of this repository")]
 PACKAGES = [*(os.path.join("tools", "subtitles", name)
               for name in ("common", "formats", "request", "stream", "clock", "recording",
                            "judging", "results", "report", "cli", "air")),
             os.path.join("dev", "developing"), os.path.join("dev", "developing", "every_place")]
-# A row of a table, or an item of a list: the names in its first cell, or before its text.
+# A row of a table or an item of a list that begins with names.
 ROW = re.compile(r"^[|-] (`.*?`)(?: \||:? )", re.M)
-LINE = re.compile(r"^([a-z_]+) +\S", re.M)  # a line of the module list in __init__.py
+LINE = re.compile(r"^([a-z_]+) +\S", re.M)  # line of the module list in __init__.py
 
 
 def entries(folder: str) -> list[str]:
-    """Return the names in a folder as lists write them:
-    modules without ending, folders with a slash.
+    """Return the names in a folder as lists write them: modules without their ending, and folders
+    with a slash.
     """
     return sorted(name.removesuffix(".py") + "/" * os.path.isdir(os.path.join(folder, name))
                   for name in os.listdir(folder) if not name.startswith("__"))
@@ -272,10 +272,8 @@ class ModuleLists(Case):
             for number, kind in zip(numbers, KINDS)), (numbers, counts))
 
 
-# Bodies without a contract are unchanged since they were read.
-
 STORED = "dev/bodies-to-read.txt"
-# What calls the system, by the first words of each body.
+# The first line of each stored function or impl, which calls the system without a contract.
 HELD = [
     "fn main(rt: HostRuntime)",
     "impl<'a, R: Files + Eprint> FileSystem for SystemFiles<'a, R>",
@@ -301,8 +299,7 @@ HELD = [
     "impl<T: Drop> Release for T",
     "impl ConsumedBytes",
 ]
-# An impl of Drop, at any indentation and over several lines, or under another name; comments don't
-# count.
+# An implementation of Drop, possibly over several lines, or an import of Drop under another name.
 DROP = re.compile(r"\bimpl\b[^{};]*\bDrop\s+for\b|\bDrop\s+as\b")
 COMMENT = re.compile(r"//[^\n]*|/\*.*?\*/", re.DOTALL)
 
@@ -327,13 +324,13 @@ class Examples(Case):
 
 
 def text_of(name: str) -> str:
-    """Return the text of a file of the repository."""
+    """Return the text of a file in the repository."""
     with open(os.path.join(TOP, name), encoding="utf-8") as file:
         return file.read()
 
 
 def text_of_sources() -> list[str]:
-    """Return the sources of all crates."""
+    """Return the paths of the sources of all crates."""
     crates = os.path.join(TOP, "crates")
     return [os.path.relpath(os.path.join(place, name), TOP)
             for crate in sorted(os.listdir(crates))
@@ -342,7 +339,7 @@ def text_of_sources() -> list[str]:
 
 
 def implements_drop(text: str) -> bool:
-    """Return whether a source implements Drop."""
+    """Return whether the text of a source implements Drop."""
     return DROP.search(COMMENT.sub(" ", text)) is not None
 
 

@@ -1,4 +1,4 @@
-"""The gate: shell scripts, the manual's job scripts, last lines, and the selection of tests."""
+"""Test shell scripts, the job scripts in the manual, and the selection of tests for the gate."""
 from __future__ import annotations
 
 import glob
@@ -56,7 +56,7 @@ class JobScripts(Case):
         self.env = {**os.environ, "PATH": f"{self.path('bin')}:{os.environ['PATH']}"}
 
     def check_results(self, name: str) -> None:
-        """Check that each line has its result, and nothing was executed."""
+        """Check that each line of the list has a result, and that no text in it was executed."""
         os.makedirs(self.path("out"), exist_ok=True)
         found = {path.removesuffix(".json"): (read_result(self.path(f"out/{path}")) or
                                               {})["verdict"]

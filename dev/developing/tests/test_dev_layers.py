@@ -1,4 +1,4 @@
-"""Imports, type hints and style of the tools and scripts."""
+"""Check the imports, type hints and style of the tools and scripts."""
 from __future__ import annotations
 
 import ast
@@ -14,11 +14,11 @@ from subtitles.common.times import CLOCK, ticks_between, wrap_pts
 from .bench import Case, SECONDS
 
 ORDER = ["common", "formats", "request", "stream", "clock", "recording", "judging", "results",
-         "report", "cli", "air"]  # the packages of users, lowest first
+         "report", "cli", "air"]  # packages of the tools, lowest first
 LONGEST_LINE = 100
 MAIN = "subtitles.cli.main"  # imports modules on demand
-IN_ROWS = os.path.join("developing", "signs.py")  # a table with one row a line
-# The second implementation shares codes, times, layouts and file blocks with the tools.
+IN_ROWS = os.path.join("developing", "signs.py")  # has a table with long lines
+# Modules of the tools that the second implementation may import.
 SHARED = {"subtitles." + name for name in (
     "common.command_line", "common.program.TOP", "common.program.find_built_program",
     "common.times", "formats.layout", *("formats.stl." + name for name in (
@@ -27,14 +27,14 @@ SHARED = {"subtitles." + name for name in (
 
 
 def name_of(path: str) -> str:
-    """Return the name of a module by its file; a package has the name of its folder."""
+    """Return the dotted module name for a file; a package is named by its folder."""
     home = TOOLS if path.startswith(TOOLS + os.sep) else DEV
     words = os.path.relpath(path, home).removesuffix(".py").split(os.sep)
     return ".".join(words[:-1] if words[-1] == "__init__" else words)
 
 
 def imported(text: str, name: str, is_package: bool) -> Iterator[str]:
-    """Return the names that a module imports, also in functions and for type hints."""
+    """Yield the names that a module imports, including imports in functions and for type hints."""
     here = name.split(".") if is_package else name.split(".")[:-1]
     for node in ast.walk(ast.parse(text)):
         if isinstance(node, ast.Import):
@@ -47,7 +47,7 @@ def imported(text: str, name: str, is_package: bool) -> Iterator[str]:
 
 
 def wrong_imports(name: str, names: Iterator[str]) -> list[str]:
-    """Return the imports that a module must not have."""
+    """Return the names among `names` that the module `name` must not import."""
     here = name.split(".")
     if here[0] == "developing":
         if here[1:2] != ["every_place"]:
@@ -66,19 +66,19 @@ def wrong_imports(name: str, names: Iterator[str]) -> list[str]:
 
 
 def wraps(text: str) -> list[int]:
-    """Return the lines that wrap PTS by themselves."""
+    """Return the numbers of lines that wrap PTS without the functions for it."""
     return [node.lineno for node in ast.walk(ast.parse(text))
             if isinstance(node, ast.BinOp) and isinstance(node.op, (ast.Mod, ast.FloorDiv))
             and isinstance(node.right, ast.Name) and node.right.id == "CLOCK"]
 
 
-# Arguments of functions that are newer than Python 3.9.
+# Functions with keyword arguments that Python 3.9 does not have.
 NEWER_ARGUMENTS = {*((name, "key") for name in ("bisect", "bisect_left", "bisect_right", "insort")),
                    ("dataclass", "slots"), ("dataclass", "kw_only"), ("zip", "strict")}
 
 
 def newer_lines(text: str) -> list[int]:
-    """Return the lines that Python 3.9 rejects, such as `|` in a type outside an annotation."""
+    """Return the numbers of lines that Python 3.9 rejects, such as `X | None` in an assignment."""
     found = []
     for node in ast.walk(ast.parse(text, feature_version=(3, 9))):
         if isinstance(node, ast.Call):
@@ -98,7 +98,7 @@ def long_lines(text: str) -> list[int]:
 
 
 def cycle_in(imports: dict[str, set[str]]) -> list[str]:
-    """Return a cycle of imports, or nothing."""
+    """Return the modules of an import cycle, or an empty list."""
     clear: set[str] = set()
 
     def walk(name: str, way: list[str]) -> list[str]:
@@ -204,7 +204,7 @@ PACKAGES = [os.path.join(TOOLS, "subtitles"), os.path.join(DEV, "developing")]
 
 
 def is_python(path: str) -> bool:
-    """Return whether a file is a Python script."""
+    """Return whether a file is a Python script, judged by its first line."""
     if not os.path.isfile(path):
         return False
     with open(path, "rb") as file:
@@ -212,7 +212,7 @@ def is_python(path: str) -> bool:
 
 
 def modules(folder: str) -> list[str]:
-    """Yield the modules of a folder, recursively."""
+    """Return the paths of all Python modules in a folder and its subfolders."""
     found: list[str] = []
     for name in sorted(os.listdir(folder)):
         path = os.path.join(folder, name)
@@ -224,7 +224,7 @@ def modules(folder: str) -> list[str]:
 
 
 def scripts() -> list[str]:
-    """Return the Python scripts."""
+    """Return the paths of all Python scripts in tools/, dev/ and bench/."""
     paths = (os.path.join(folder, name) for folder in (TOOLS, DEV, BENCH)
              for name in sorted(os.listdir(folder)))
     return list(filter(is_python, paths))
@@ -232,8 +232,8 @@ def scripts() -> list[str]:
 
 @contextlib.contextmanager
 def cache_of(case: Case) -> Iterator[str]:
-    """Return a folder for mypy's cache:
-    one of the user that no other call uses, or an empty one in the gate.
+    """Return a context manager for mypy's cache folder: the user's folder if no other process uses
+    it, and an empty folder otherwise or in the gate.
     """
     home = os.environ.get("XDG_CACHE_HOME") or os.path.expanduser("~/.cache")
     kept = os.path.join(home, "subttx-mypy")

@@ -1,4 +1,4 @@
-"""Times, codes and PES packets, compared bit by bit with the standards."""
+"""Compare times, codes and PES packets bit by bit with the standards."""
 from __future__ import annotations
 
 import itertools
@@ -14,11 +14,11 @@ CLOCK, DAY = 8_589_934_592, 2_160_000
 START = b"\0\0\1\xbd"
 CODES = ["00010101", "00000010", "01001001", "01011110", "01100100", "01110011", "00111000",
          "00101111", "11010000", "11000111", "10001100", "10011011", "10100001", "10110110",
-         # Hamming 8/4 codes of 0 to 15, the last bit first (EN 300 706, 8.2)
+         # Hamming 8/4 code words for 0 to 15, last bit first (EN 300 706, 8.2).
          "11111101", "11101010"]
 
 
-NOTHING = b"\x01"  # two bits away from every code
+NOTHING = b"\x01"  # differs from each code word in at least two bits
 
 
 def bits_of(number: int, count: int) -> str:
@@ -63,7 +63,7 @@ class Times(unittest.TestCase):
                  for first in (off + 3600 * frame for frame in (0, DAY - 3, DAY - 2, DAY - 1)
                                for off in (-900, 0, 1, 2700))]
         rows += [[], [0, 3600, 7201], [0, 7200], [3600, 0], [0, 0]]
-        # Evenly spaced, though one frame has no PTS or a later one.
+        # PTS that are evenly spaced on average, with an empty frame.
         rows += [[0, 3600, 3600, 10800], [0, 7200, 7200, 10800], [0, 7200, 3600, 10800],
                  [0, 3600, 7250, 10800], [0, 3599, 7200]]
         for origin, ticks, within in itertools.product((0, 1, 900, CLOCK - 3600, CLOCK - 1), rows,

@@ -1,4 +1,4 @@
-"""Characters, national options and character sets."""
+"""Test characters, national options and character sets."""
 from __future__ import annotations
 
 import csv
@@ -34,7 +34,7 @@ VECTORS = os.path.join(TOP, "dev", "vectors", "national")
 
 
 def rows_of(name: str) -> Iterator[dict[str, str]]:
-    """Return the rows of one of the outside tables."""
+    """Yield the rows of a table in dev/vectors/national/."""
     with open(os.path.join(VECTORS, name), encoding="utf-8", newline="") as file:
         yield from csv.DictReader(file, delimiter="\t", quoting=csv.QUOTE_NONE)
 
@@ -61,7 +61,7 @@ class NationalOptions(unittest.TestCase):
         self.assertEqual("".join(character_table(ENGLISH.bits)[code] for code in b"[\\]^`{|}~"),
                          "←½→↑—¼‖¾÷")
         self.assertEqual(character_table(GERMAN.bits)[0x5E:0x60], ["^", "_"])
-        # reserved bits: national characters are unknown, the others known
+        # With reserved control bits, only characters that are the same in all options are known.
         for bits in (RESERVED, 8):
             self.assertEqual([(code, character_table(bits)[code] != "\u25a1") for code in
                               range(32, 127)],
@@ -75,7 +75,7 @@ class NationalOptions(unittest.TestCase):
                     whole = encode_line(text, option)
                     if (option.word, text) not in known and len(whole) == 1:
                         self.assertEqual(whole, [None], (option.word, text))
-                    if (option.word, text) not in known:  # each byte is a character of its own
+                    if (option.word, text) not in known:  # each byte makes a cell
                         self.assertEqual(whole, [code for byte in text for code in encode_line(
                             bytes([byte]), option)], (option.word, text))
 
@@ -127,17 +127,16 @@ class Advice(unittest.TestCase):
             self.assertEqual(character_bytes(text, at), letter, text)
 
 
-# Transmissions in each national option, compared with dev/vectors/national/; libzvbi decodes the
-# same characters.
+# Compare transmissions in each national option with dev/vectors/national/ and with libzvbi.
 
-FIRST, LENGTH = 90_000, 25  # frame of the first subtitle; length of each
+FIRST, LENGTH = 90_000, 25  # first TCI and subtitle duration, in frames
 ACCENT_BYTES = range(0xC0, 0xD0)  # diacritical marks
-SPACING = {*range(0x01, 0x0E), 0x1C, 0x1D}  # spacing attributes that a text may have
-WITHOUT_CELL = {*range(0x80, 0x86), 0x8A}  # italics, underline, boxing; the end of a line
+SPACING = {*range(0x01, 0x0E), 0x1C, 0x1D}  # spacing attributes allowed in a text
+WITHOUT_CELL = {*range(0x80, 0x86), 0x8A}  # codes for italics, underline, boxing and a new line
 
 
 class Text(NamedTuple):
-    """A text, its position, and the row of 40 cells that it gives."""
+    """A subtitle text with its position and the 40 cells of the expected row."""
 
     text: bytes
     row: int
@@ -146,7 +145,7 @@ class Text(NamedTuple):
 
 
 def character_texts(option: NationalOption) -> list[tuple[Text, str]]:
-    """Return the single characters of an option as texts."""
+    """Return a text for each character of a national option, with the character."""
     return [(Text(bytes.fromhex(line["stl"]), 5, 0, (
         START_BOX * 2 + bytes([int(line["cell"], 16)]) + END_BOX * 2).ljust(40)),
         chr(int(line["unicode"][2:], 16)))
@@ -154,7 +153,7 @@ def character_texts(option: NationalOption) -> list[tuple[Text, str]]:
 
 
 def texts(option: NationalOption) -> list[tuple[Text, str]]:
-    """Return the longer texts, each with its error message or ""."""
+    """Return the longer texts for a national option, each with its error message or ""."""
     found = []
     for line in rows_of("vectors.tsv"):
         cells, message = b"", line["prepared line or refusal"]
@@ -169,22 +168,22 @@ def texts(option: NationalOption) -> list[tuple[Text, str]]:
 
 
 class Sliced(ctypes.Structure):
-    """`vbi_sliced` of libzvbi."""
+    """The type `vbi_sliced` in libzvbi: a line of the vertical blanking interval."""
 
     _fields_ = [("id", ctypes.c_uint32), ("line", ctypes.c_uint32), ("data", ctypes.c_uint8 * 56)]
 
 
 HANDLER = ctypes.CFUNCTYPE(None, ctypes.c_void_p, ctypes.c_void_p)
-TELETEXT_B = 3  # VBI_SLICED_TELETEXT_B
-PAGE_EVENT = 2  # VBI_EVENT_TTX_PAGE; libzvbi decodes pages only if there is a handler
+TELETEXT_B = 3  # the constant VBI_SLICED_TELETEXT_B in libzvbi
+PAGE_EVENT = 2  # VBI_EVENT_TTX_PAGE; libzvbi decodes pages only with a handler for this event
 ANY_SUBCODE = 0x3F7F
-LEVEL_1 = 0  # VBI_WST_LEVEL_1
-TEXT_AT, CHARACTER = 28, 8  # of `vbi_page`: offset of its characters, and their size
-UNICODE_AT = 6  # of `vbi_char`
+LEVEL_1 = 0  # the constant VBI_WST_LEVEL_1 in libzvbi
+TEXT_AT, CHARACTER = 28, 8  # offset and size of characters in `vbi_page`
+UNICODE_AT = 6  # offset of the code point in `vbi_char`
 
 
 class Receiver:
-    """libzvbi with default region 0000 at level 1."""
+    """A level 1 receiver with default region 0000, implemented by libzvbi."""
 
     def __init__(self) -> None:
         self.library = ctypes.CDLL("libzvbi.so.0")
@@ -196,7 +195,7 @@ class Receiver:
         self.time = 0.0
 
     def row(self, sent: list[bytes], row: int) -> str:
-        """Return the text of a row of page 888 after some packets."""
+        """Decode packets, and return the text in a row of page 888."""
         lines = (Sliced * len(sent))()
         for line, packet in zip(lines, sent):
             line.id = TELETEXT_B
@@ -214,7 +213,7 @@ class Receiver:
 
 class Transmissions(Case):
     def schedule_of(self, option: NationalOption, several: list[Text]) -> str:
-        """Return the last line of `schedule` for adjoining subtitles."""
+        """Run `schedule` on adjoining subtitles with these texts; return the last printed line."""
         blocks = [make_tti_block(number, begin, begin + LENGTH, one.row, one.justify, one.text)
                   for number, one in enumerate(several) for begin in [FIRST + LENGTH * number]]
         self.write("a.stl", make_gsi_block(b"", len(blocks), len(blocks), FIRST) + b"".join(blocks))
@@ -222,7 +221,7 @@ class Transmissions(Case):
                             option.word)[1][-1]
 
     def transmit(self, option: NationalOption, several: list[Text]) -> list[list[bytes]]:
-        """Return the Teletext packets of each text; none for a repeated page."""
+        """Return the Teletext packets sent for each text, or no packets for a repeated page."""
         line = self.schedule_of(option, several)
         self.must(f"{option.word}: a schedule", line.startswith("written "), line)
         line = self.program("check", "a.stl", "a.pes", "--every", "1500", "--option",
@@ -233,7 +232,7 @@ class Transmissions(Case):
         return [by_frame.get(FIRST + LENGTH * number, []) for number in range(len(several))]
 
     def check_cells(self, option: NationalOption, several: list[Text]) -> None:
-        """Check that each text gives its cells, in a page with the option's control bits."""
+        """Check the cells sent for each text, and the control bits of the national option."""
         before = b""
         for one, found in zip(several, self.transmit(option, several)):
             name = f"{option.word} {one.text.hex()}"
@@ -304,7 +303,7 @@ ROW = make_packet(0, 20, (), b"a row".ljust(40))
 
 def character_set_packet(number: int, character_set: int, designation: int = 0, magazine: int = 0,
            function: int = 0) -> bytes:
-    """Return a packet that designates a character set of seven bits."""
+    """Return a packet X/28 or M/29 that designates a character set (seven bits)."""
     first = encode_triplet(function | character_set << 7)
     address = magazine + 8 * number
     head = bytes(CODE_WORDS[one] for one in (address & 15, address >> 4, designation))
@@ -312,7 +311,7 @@ def character_set_packet(number: int, character_set: int, designation: int = 0, 
 
 
 def with_bits(data: bytes, *bits: int) -> bytes:
-    """Flip some bits."""
+    """Return the data with some bits flipped."""
     found = bytearray(data)
     for bit in bits:
         found[bit >> 3] ^= 1 << (bit & 7)
@@ -320,7 +319,7 @@ def with_bits(data: bytes, *bits: int) -> bytes:
 
 
 def check_warnings(case: Case, name: str, done: Done, kinds: list[str]) -> list[Any]:
-    """Check the kinds of the warnings in one.json, and that each is printed and in the report.
+    """Check the kinds of the warnings in one.json, and that each warning is printed and reported.
 
     Return the warnings.
     """

@@ -1,4 +1,4 @@
-"""Blocks of subtitle files, and lines of the program, at each limit."""
+"""Test the parsers for subtitle files and for the program's output at their limits."""
 from __future__ import annotations
 
 import itertools
@@ -23,7 +23,7 @@ GSI = 1024
 
 
 def refusal(call: Callable[[], object], error: type[Exception] = Stop) -> str:
-    """Return why a call was refused, or ""."""
+    """Return the message of the error that a function raises, or "" if it raises none."""
     try:
         call()
     except error as reason:
@@ -101,7 +101,7 @@ class Blocks(unittest.TestCase):
 
 
 class PlainSubtitle(NamedTuple):
-    """A subtitle found by a plain look at each block."""
+    """A subtitle as a simple model of the format describes it."""
 
     blocks: list[int]
     begin: int | None
@@ -114,9 +114,9 @@ class Files(Case):
     TEXTS = (b"one", b"two \x8f not", b"\x8f\x8f", b"\xc8a", b"x" * 112)
 
     def file(self, chance: random.Random) -> tuple[bytes, list[PlainSubtitle]]:
-        """Return blocks of random subtitles with comments and user data, and the subtitles.
+        """Return a random subtitle file with comments and user data, and its subtitles.
 
-        Some have several blocks or invalid times; the last may have no end.
+        Some subtitles have several blocks or invalid times; the last subtitle may be incomplete.
         """
         blocks, groups, frame = list[bytes](), list[PlainSubtitle](), chance.randrange(50)
         for number in range(1, chance.randrange(2, 7)):
@@ -311,7 +311,7 @@ class Order(unittest.TestCase):
                     places = list(range(0, len(times), count))
                     self.assertEqual(programme.find_nearest(places, frame), min(
                         places, key=lambda place: abs(times[place][0] - frame)),
-                                     count)  # the first of two
+                                     count)  # the first, if two are equally near
             self.assertEqual([programme.before(at) for at in range(len(times))],
                              [0, *(end for _, end in times)][:len(times)], times)
             self.assertEqual([programme.after(at) for at in range(len(times))],
