@@ -1,18 +1,18 @@
-"""The Python package of the tools for users.
+"""The Python modules of tools/qc and tools/air.
 
 A package imports only from packages above it in this list, which `dev/check-tools` tests. The
 docstring of each package lists its modules.
 
 common     shared helpers: command line, files, times, JSON values, running the program
-formats    file formats: EBU STL, Teletext, layouts, lines of `check`
+formats    file formats: EBU STL, Teletext, layouts, and output lines of `check`
 request    the request for a pair: options, lists, profiles, and commands for the operator
 stream     contents of a recording, from the output of `subttx survey`
 clock      the origin of the clock: estimating it, or checking a given origin
-recording  reading a recording from a file or a pipe; choosing the PID; warnings
-judging    judging a pair: the output of `check` for its parts, causes and the verdict
-results    result files: JSON, CSV, JUnit
-report     the page about a verdict
-cli        the commands of qc: a pair, many pairs, a folder
+recording  reading a recording from a file or a pipe, choosing the PID, and warnings
+judging    judging a pair: running `check` on its parts, causes of faults, and the verdict
+results    result files: JSON, CSV and JUnit
+report     the HTML page about a verdict
+cli        the commands of qc: judging a pair, many pairs, or a folder
 air        recording and judging programmes on air, for tools/air
 
 To find                                See
@@ -31,13 +31,13 @@ import os
 import sys
 
 
-def end_early(kind, reason, _):  # type: ignore[no-untyped-def]  # old Pythons take no hints
-    """End a tool that can't be loaded with status 2, since Python's status 1 would be a verdict."""
+def end_early(kind, reason, _):  # type: ignore[no-untyped-def]  # old Python versions lack hints
+    """Exit with status 2 if a tool can't be loaded, since status 1 would mean a verdict."""
     line = "%s: %s: %s\n" % (os.path.basename(sys.argv[0]), kind.__name__, reason)
     try:
         sys.stderr.write(" ".join(line.split()) + "\n")
         sys.stderr.flush()
-    finally:  # it may be closed, or on a full disk
+    finally:  # standard error may be closed, or on a full disk
         os._exit(2)
 
 

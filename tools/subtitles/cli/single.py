@@ -63,8 +63,7 @@ def refuse_folder_files(folder: str, inputs: Inputs) -> None:
 
 
 def is_own_file(path: str) -> bool:
-    """Return whether these tools wrote a file, from its first bytes or, for a recording, its
-    time."""
+    """Return whether these tools wrote a file, from its first bytes or a recording's time."""
     stem, ending = os.path.splitext(path)
     if ending in (".pes", ".ts"):
         return is_kept_recording(path, f"{os.path.splitext(stem)[0]}.json")

@@ -1,4 +1,4 @@
-"""Classify why each subtitle differs from its expected page, and describe the causes."""
+"""Find out why each subtitle differs from its expected page, and describe the causes."""
 from __future__ import annotations
 
 import collections
@@ -20,13 +20,13 @@ from .pages import (
 from .transmissions import ExpectedPages, PageTransmissions, find_omitted_rows
 
 
-# Each subtitle with a wrong page at some frame has one cause.
+# Each subtitle that has a wrong page at any frame gets one cause.
 
 LATE, EARLY, NEVER, OTHER_TEXT = "late", "early", "never sent", "another subtitle's text"
 WRONG_TEXT, WRONG_PLACE, WRONG_ATTRIBUTE = "wrong text", "wrong place", "wrong colour or attribute"
 NOT_ERASED, INCOMPLETE_REPEAT, UNKNOWN_CAUSE = "not erased", "not repeated whole", "unknown"
-# ERASED: a header without rows came before the TCO. IN_PAUSE: a text of no subtitle came in the
-# pause after the subtitle. NOT_RECEIVED: TS packets are lost at the time of the subtitle.
+# ERASED: a header without rows came before the TCO. TEXT_IN_PAUSE: a text that belongs to no
+# subtitle came in the pause after the subtitle. NOT_RECEIVED: TS packets were lost.
 ERASED, TEXT_IN_PAUSE, NOT_RECEIVED = "erased", "another text in a pause", "not received"
 CAUSE_NAMES = (LATE, EARLY, NEVER, OTHER_TEXT, WRONG_TEXT, WRONG_PLACE, WRONG_ATTRIBUTE, NOT_ERASED,
                INCOMPLETE_REPEAT, ERASED, TEXT_IN_PAUSE, NOT_RECEIVED, UNKNOWN_CAUSE)
@@ -41,9 +41,9 @@ class Cause(NamedTuple):
     """The reason why a subtitle is refused.
 
     `subtitle_index` is the position of the subtitle in the file; `frames` says by how many frames
-    the subtitle is late or early; `sent_page` is the transmitted page, and `other_index` the
-    position of the subtitle that has the transmitted text. More of the recording after frame
-    `final_frame` cannot change the cause.
+    the subtitle is late or early; `sent_page` is the page that was sent, and `other_index` the
+    position of the subtitle that has the text of this page. Nothing after frame `final_frame` can
+    change the cause.
     """
 
     subtitle_index: int
@@ -56,21 +56,21 @@ class Cause(NamedTuple):
 
     @property
     def may_be_correct(self) -> bool:
-        """Return whether the subtitle may be correct: PES packets can't be read, or it is the last
-        subtitle and the next programme begins at its TCO."""
+        """Return whether the subtitle may be correct: PES packets can't be read, or the subtitle is
+        the last one and the next programme begins at its TCO."""
         return self.details in (NOT_READABLE, NEXT_PROGRAMME)
 
 
 class FaultyFrames:
-    """The frames of a subtitle with a wrong page: the first such frames before the TCO, and the
-    first after the TCO."""
+    """The frames in which a subtitle has a wrong page: the first such frames before the TCO, and
+    the first such frames after it."""
 
     def __init__(self) -> None:
         self.during: Span | None = None
         self.after_end: Span | None = None
 
     def add(self, span: Span, subtitle: Subtitle) -> None:
-        """Add frames during which the decoded page does not change."""
+        """Add consecutive frames in which the decoded page is wrong and does not change."""
         if subtitle.begin <= span.first < subtitle.end:
             self.during = self.during or span
         elif span.first >= subtitle.end:
@@ -78,8 +78,7 @@ class FaultyFrames:
 
 
 class CauseFinder(PageTransmissions):
-    """Classify the causes of subtitles from the decoded pages and the faults that `check` reports.
-    """
+    """Finds the causes of faults from the decoded pages and the faults that `check` reports."""
 
     def __init__(self, expected: ExpectedPages, timeline: Timeline,
                  output: CheckOutput | None = None) -> None:
@@ -87,7 +86,7 @@ class CauseFinder(PageTransmissions):
         self.output = output
 
     def find_cause(self, place: int, faulty: FaultyFrames) -> Cause:
-        """Return the cause of a subtitle; the cause is unknown if a pause in the PES packets
+        """Return the cause for a subtitle; the cause is unknown if a pause in the PES packets
         explains the fault."""
         cause, subtitle = self.classify_transmission(place, faulty), self.subtitles[place]
         pause = self.timeline.pause_at(subtitle.end if cause.name == NOT_ERASED else subtitle.begin)
@@ -106,7 +105,7 @@ class CauseFinder(PageTransmissions):
                                        f"{time_of(pause.first)} on")
 
     def classify_transmission(self, place: int, faulty: FaultyFrames) -> Cause:
-        """Return the cause of a subtitle from its page transmissions."""
+        """Return the cause for a subtitle, from its page transmissions."""
         subtitle, came = self.subtitles[place], self.find_transmission(place)
         if self.timeline.page_at(subtitle.begin) == self.pages[place]:
             if came is not None and came < subtitle.begin:
@@ -125,7 +124,7 @@ class CauseFinder(PageTransmissions):
         return self.classify_delay(place, came)
 
     def classify_delay(self, place: int, came: int) -> Cause:
-        """Return the cause of a subtitle whose page came late or early, at frame `came`."""
+        """Return the cause for a subtitle whose page came late or early, in frame `came`."""
         subtitle = self.subtitles[place]
         if came > subtitle.begin and not self.timeline.was_received(subtitle.begin, came):
             return self.make_unknown_cause(place, subtitle.begin, came,
@@ -139,29 +138,29 @@ class CauseFinder(PageTransmissions):
         return Cause(place, name, frames, self.pages[place], None, words, max(came, subtitle.begin))
 
     def is_allowed_delay(self, place: int, came: int) -> bool:
-        """Return whether a page came after the TCI, but within the allowed delay, and so was not
-        incomplete for longer than that."""
+        """Return whether a page came late but within the allowed delay, and was not incomplete for
+        longer than the allowed delay."""
         late = came - self.subtitles[place].begin
         return 0 < late <= self.timeline.within and \
             came - self.find_first_wrong_frame(came - 1) <= self.timeline.within
 
     def find_first_wrong_frame(self, frame: int) -> int:
-        """Return the first of the consecutive frames up to `frame` with a wrong page, searching
-        back at most 250 frames."""
+        """Return the first of the consecutive frames up to `frame` that have a wrong page, at most
+        250 frames earlier."""
         first = frame
         while frame - first < LEAST and first > 0 and not self.is_expected_page(first - 1):
             first -= 1
         return first
 
     def describe_incomplete_frames(self, came: int) -> str:
-        """Describe for how many consecutive frames the page was incomplete before frame `came`:
-        more frames than the subtitle is late if the page was incomplete before the TCI too."""
+        """Describe for how many frames the page was incomplete before frame `came`. If it was
+        incomplete before the TCI too, these are more frames than the subtitle is late."""
         first = self.find_first_wrong_frame(came - 1)
         return f"the page is incomplete for {counted(came - first, 'frame')} in a row, from " \
             f"{time_of(first)} on"
 
     def classify_missing_page(self, place: int) -> Cause:
-        """Return the cause of a subtitle whose page was not transmitted near its time."""
+        """Return the cause for a subtitle whose page was not sent near its time."""
         subtitle, window = self.subtitles[place], self.search_window(place)
         other = self.find_other_during(place)
         if other is not None:
@@ -185,19 +184,19 @@ class CauseFinder(PageTransmissions):
                      window.last)
 
     def came_while_closed(self, place: int) -> bool:
-        """Return whether rows of a subtitle came in its time while the page was not open."""
+        """Return whether rows of a subtitle were received while the page was not open."""
         subtitle, page = self.subtitles[place], self.pages[place]
         return any(span.first < subtitle.end and subtitle.begin <= span.last and any(
             content == page[row - 1] for row, content in texts)
             for span, texts in self.timeline.stray_rows)
 
     def describe_closed_page(self) -> str:
-        """Return that rows came while the page was not open."""
+        """Describe that rows were received while the page was not open."""
         return f"its rows came while page {page_name(*self.timeline.page)} was not open"
 
     def classify_difference(self, place: int, number: int) -> Cause:
-        """Return how the page at the time of a subtitle differs, if the page is not that of another
-        subtitle."""
+        """Return how the page sent at a subtitle's time differs from the expected page. It is not
+        the page of another subtitle."""
         subtitle, due, sent = self.subtitles[place], self.pages[place], self.timeline.pages[number]
         words = join_page_text(sent)
         if words != join_page_text(due):
@@ -215,12 +214,12 @@ class CauseFinder(PageTransmissions):
                      describe_attribute_difference(due, sent), subtitle.end)
 
     def make_other_text_cause(self, place: int, other: int, known: int) -> Cause:
-        """Return that a subtitle has the text of another subtitle."""
+        """Return the cause for a subtitle that was sent with the text of another subtitle."""
         return Cause(place, OTHER_TEXT, None, self.pages[other], other, "", known)
 
     def classify_later_fault(self, place: int, faulty: FaultyFrames) -> Cause:
-        """Return the cause of a subtitle whose page came at its TCI: the fault is before or after
-        that frame."""
+        """Return the cause for a subtitle whose page was correct at its TCI, so that the fault is
+        in another frame."""
         subtitle = self.subtitles[place]
         span = faulty.during or faulty.after_end
         if span and self.is_expected_page(span.first):
@@ -245,8 +244,8 @@ class CauseFinder(PageTransmissions):
                      self.describe_removal(place, number), subtitle.end)
 
     def describe_hidden_fault(self, frame: int) -> str:
-        """Describe why `check` reports a wrong page at a frame at whose end the expected page is
-        decoded."""
+        """Describe why `check` reports a wrong page in a frame although the decoded page is correct
+        at the end of this frame."""
         if len(self.timeline.runs_in_frame(frame)) > 1:
             return COMPLETED_LATER
         if not self.timeline.was_received(frame, frame):
@@ -254,24 +253,23 @@ class CauseFinder(PageTransmissions):
         return EVEN_PARITY if HIT in b"".join(self.timeline.state_at(frame).rows) else ""
 
     def list_omitted_rows(self, frame: int) -> str:
-        """Describe which rows of the expected page a repeat left out, if these explain the fault at
-        a frame: everything sent in this frame can be read, and without --within the frame has only
-        one PES packet."""
+        """Describe which rows a repeat of the page omitted, if this explains the fault in a frame:
+        all packets of this frame can be read, and without --within it has only one PES packet."""
         is_one = self.timeline.within or len(self.timeline.runs_in_frame(frame)) == 1
         return find_omitted_rows(self.timeline, self.expected.page_at(frame), frame, self.output) \
             if is_one and self.timeline.was_received(frame, frame) else ""
 
     @functools.cached_property
     def subcode_text(self) -> str:
-        """Describe the sub-pages that alternate, if any."""
+        """Describe the sub-pages that alternate, or return an empty text."""
         subcodes = alternating_subcodes(self.timeline.packets, self.timeline.inside)
         return subpage_text(subcodes, page_name(*self.timeline.page)) if subcodes else ""
 
     def classify_after_end(self, place: int, number: int, frame: int) -> Cause:
-        """Return the cause of a page sent after the TCO of a subtitle.
+        """Return the cause for a subtitle if a page was sent after its TCO.
 
-        A page of no subtitle is another text in the pause; at the last TCO it belongs to the next
-        programme.
+        A page that belongs to no subtitle is another text in the pause; at the last TCO it belongs
+        to the next programme.
         """
         subtitle, page = self.subtitles[place], self.timeline.pages[number]
         is_other = page not in self.expected.by_page and page != BLANK_PAGE
@@ -287,8 +285,8 @@ class CauseFinder(PageTransmissions):
                                        f"sent after its TCO, at {time_of(frame)}")
 
     def describe_removal(self, place: int, number: int) -> str:
-        """Describe how long after the TCO a page stayed, or which next subtitle has the same page.
-        """
+        """Describe how long after the TCO a page stayed, or that the next subtitle has the same
+        page."""
         until, end = self.timeline.page_span(number).last, self.subtitles[place].end
         following = self.subtitles[place + 1:place + 2]
         if following and following[0].begin <= until and \
@@ -301,7 +299,7 @@ class CauseFinder(PageTransmissions):
         return f"it disappears {counted(until + 1 - end, 'frame')} later"
 
     def classify_replacement(self, place: int, span: Span) -> Cause:
-        """Return the cause of a subtitle whose page came, and was replaced before the TCO."""
+        """Return the cause for a subtitle whose page was received, but replaced before the TCO."""
         subtitle, number = self.subtitles[place], self.timeline.number_at(span.first)
         page = self.timeline.pages[number]
         other = self.expected.find_subtitle(page, span.first)
@@ -312,7 +310,7 @@ class CauseFinder(PageTransmissions):
             return self.make_other_text_cause(place, other, subtitle.end)
         if page == BLANK_PAGE:
             erased = self.timeline.frames[number]
-            if erased < subtitle.begin:  # before its TCI
+            if erased < subtitle.begin:  # before the TCI
                 return self.make_unknown_cause(place, span.first, subtitle.end,
                                                f"it is missing at {time_of(span.first)}")
             if self.was_erased(number):
@@ -323,34 +321,34 @@ class CauseFinder(PageTransmissions):
         return self.classify_difference(place, number)
 
     def was_erased(self, number: int) -> bool:
-        """Return whether a header without rows erased the page; the next page must have a header of
-        its own."""
+        """Return whether a header without rows erased the page, and the next page has another
+        header."""
         begins = self.timeline.frames[number:number + 2]
         return all(any(HEADER in run.flags for run in self.timeline.runs_in_frame(frame))
                    for frame in begins)
 
     def describe_unreceived(self, first: int, last: int) -> str:
-        """Describe why the transmission in some frames is not certain."""
+        """Describe why it is uncertain what was sent in some frames."""
         return NOT_RECEIVED if self.timeline.lost.has(first, last) else NOT_READABLE
 
     def make_unknown_cause(self, place: int, frame: int, known: int, words: str) -> Cause:
-        """Return a cause that is not known, or that the subtitle was not received."""
+        """Return the cause for a subtitle that was not received, or has an unknown fault."""
         sent = self.timeline.page_at(frame)
         name, words = (NOT_RECEIVED, "") if words == NOT_RECEIVED else (UNKNOWN_CAUSE, words)
         return Cause(place, name, None, None if sent == BLANK_PAGE else sent, None, words, known)
 
 
-# The causes in a list of `check --all`
+# Causes of the faults in a list of `check --all`
 
 SENT_BEFORE_CUT = f"its page was sent before the judged range, so {BEGIN} is reported"
 
 
 class Causes:
-    """The causes of subtitles, from the list of `check --all` and the decoded pages.
+    """The causes of faults, from the list of `check --all` and the decoded pages.
 
-    `by_index` has the causes that are certain, by subtitle; `by_end_fault` the subtitle that a
-    fault 63 or 74 is about, if the recording continues there. `recorded_span` are the frames that
-    the recording covers, if its PCR shows more frames than its PES packets.
+    `by_index` has the certain causes by subtitle; `by_end_fault` the subtitle that a fault 63 or 74
+    refers to, if the recording continues there. `recorded_span` are the frames that the recording
+    covers, if its PCR shows more frames than its PES packets.
     """
 
     def __init__(self, expected: ExpectedPages, timeline: Timeline,
@@ -360,11 +358,11 @@ class Causes:
         self.by_index: dict[int, Cause] = {}
         self.by_end_fault: dict[int, int] = {}
         self.pending: dict[int, FaultyFrames] = {}
-        # By subtitle: its first frame with a wrong page.
+        # First frame with a wrong page, by subtitle
         self.first_wrong_frames: dict[int, int] = {}
 
     def classify_all(self, output: CheckOutput) -> None:
-        """Classify the causes of all reported faults."""
+        """Find the causes of all reported faults."""
         self.finder.output = output
         begin, end = (output.first_faults.get(number) for number in (BEGIN, END))
         if begin and begin.frame is not None:
@@ -380,18 +378,18 @@ class Causes:
             self.classify_first(begin.frame)
 
     def add_frames(self, first: int, last: int) -> None:
-        """Add frames with a wrong page."""
+        """Add frames that have a wrong page."""
         for span in self.finder.split_frames(first, last):
             self.add_span(self.finder.find_owner(span.first), span)
 
     def add_span(self, place: int, span: Span) -> int:
-        """Add frames with a wrong page to a subtitle; return the position of the subtitle."""
+        """Add frames with a wrong page to a subtitle, and return the position of this subtitle."""
         self.first_wrong_frames.setdefault(place, span.first)
         if place not in self.by_index:
             self.pending.setdefault(place, FaultyFrames()).add(span, self.expected.subtitles[place])
         return place
 
-    # Frames before the first judged frame, and after the last one
+    # Frames before the first judged frame and after the last judged frame
 
     def find_covered_span(self) -> Span:
         """Return the frames that the recording covers."""
@@ -402,8 +400,8 @@ class Causes:
     def compare_before(self, frame: int) -> None:
         """Compare the frames from the first TCI up to `frame`, the first judged frame.
 
-        Do so only if the recording covers these frames, or begins as long before the first TCI as
-        `frame` is after the TCI: then a late first subtitle was not early.
+        Do this only if the recording covers these frames, or begins as long before the first TCI
+        as `frame` is after it: the first subtitle is then certainly late and not early.
         """
         begin, held = self.expected.begins[0], self.timeline
         if not (held.frames and held.frames[0] <= begin or
@@ -432,39 +430,39 @@ class Causes:
         self.by_index[0] = Cause(0, LATE, late, page, None, "", max(frame, first.begin + late))
 
     def compare_after(self, frame: int) -> None:
-        """Compare the frames from `frame`, the last judged frame, to the last TCO, if they were
+        """Compare the frames from `frame`, the last judged frame, to the last TCO if they were
         recorded."""
         end = self.expected.subtitles[-1].end
         if self.find_covered_span().last >= end:
             self.add_differences(END, frame + 1, end)
 
     def add_differences(self, number: int, first: int, last: int) -> None:
-        """Add the frames between two frames that have a wrong page, for a fault 63 or 74."""
+        """Add all frames with a wrong page between two frames, because of a fault 63 or 74."""
         for span in self.finder.split_frames(first, last):
             if not self.finder.is_expected_page(span.first):
                 place = self.add_span(self.finder.find_owner(span.first), span)
                 self.by_end_fault.setdefault(number, place)
 
     def classify_subtitle(self, place: int) -> Cause:
-        """Return the cause of a subtitle."""
+        """Return the cause for a subtitle."""
         cause = self.finder.find_cause(place, self.pending[place])
         begin = self.expected.begins[place]
         if cause.name == LATE and begin + (cause.frames or 0) == self.timeline.first \
                 and begin < self.find_covered_span().first:
-            # The page may have come earlier.
+            # The page may have been sent before the recording began.
             cause = self.finder.classify_later_fault(place, self.pending[place])
         is_before = cause.name == EARLY and self.by_end_fault.get(BEGIN) == place
         return cause._replace(details=SENT_BEFORE_CUT) if is_before else cause
 
     def find_cause(self, number: int, frame: int) -> Cause | None:
-        """Return the cause of a fault at a frame, or `None`."""
+        """Return the cause of a fault in a frame, or `None` if it has no cause."""
         if number == CONTENT:
             return self.by_index.get(self.finder.find_owner(frame))
         edge = self.by_end_fault.get(number)
         return None if edge is None else self.by_index.get(edge)
 
     def ended_early(self, place: int) -> bool:
-        """Return whether a subtitle came early, and another page replaced it."""
+        """Return whether a subtitle was sent early, and another page replaced it early."""
         cause = self.by_index.get(place)
         if cause is None or cause.name != EARLY:
             return False
@@ -472,23 +470,23 @@ class Causes:
         return self.timeline.number_at(came) + 1 < len(self.timeline.frames)
 
     def list_causes(self) -> list[Cause]:
-        """Return all causes, in the order of the subtitles."""
+        """Return all causes in the order of the subtitles."""
         return [self.by_index[place] for place in sorted(self.by_index)]
 
 
 def count_causes(several: Iterable[Causes]) -> dict[str, int]:
-    """Count the causes of several parts by name."""
+    """Count the causes in several parts by their names."""
     counted = collections.Counter(cause.name for one in several for cause in one.by_index.values())
     return {name: counted[name] for name in CAUSE_NAMES}
 
 
-# Text and JSON values of causes
+# Causes as text and as JSON values
 
-LINE_PREFIX = "cause: "  # before each
+LINE_PREFIX = "cause: "  # prefix of each line with a cause
 
 
 class CauseDescriber:
-    """Describe the causes of a part, with the characters of a national option."""
+    """Describes the causes in a part, with the characters of a national option."""
 
     def __init__(self, causes: Causes, option: str) -> None:
         self.causes, self.subtitles = causes, causes.expected.subtitles
@@ -496,7 +494,7 @@ class CauseDescriber:
         self.option = BY_WORD[option].bits
 
     def make_json(self, cause: Cause) -> Members:
-        """Return a cause for the JSON result."""
+        """Return a cause as a JSON value."""
         subtitle = self.subtitles[cause.subtitle_index]
         other = None if cause.other_index is None else self.subtitles[cause.other_index]
         return {
@@ -512,19 +510,19 @@ class CauseDescriber:
         }
 
     def format_expected_text(self, cause: Cause) -> str:
-        """Return the expected text of the subtitle."""
+        """Return the expected text of the subtitle with a cause."""
         return format_page_text(self.pages[cause.subtitle_index], self.option)
 
     def format_line(self, cause: Cause) -> str:
-        """Return the line of a cause."""
+        """Return the output line for a cause."""
         subtitle = self.subtitles[cause.subtitle_index]
-        if cause.name == TEXT_IN_PAUSE:  # no fault of the subtitle before it
+        if cause.name == TEXT_IN_PAUSE:  # not a fault of the subtitle before the pause
             return f"{LINE_PREFIX}{self.describe(cause)}"
         return (f'{LINE_PREFIX}{subtitle.name} at {time_of(subtitle.begin)}, '
                 f'"{self.format_expected_text(cause)}": {self.describe(cause)}')
 
     def describe(self, cause: Cause, has_text: bool = True) -> str:
-        """Describe a cause with its details, and with the transmitted text if that is not the
+        """Describe a cause with its details, and with the text that was sent if this is not the
         expected text."""
         subtitle = self.subtitles[cause.subtitle_index]
         words = cause.name
@@ -549,11 +547,11 @@ class CauseDescriber:
 
 
 def format_cause_counts(several: list[Causes]) -> str:
-    """Return a line with the number of subtitles that have a cause, and the count of each cause."""
+    """Return a line with the number of subtitles that have a cause, in total and for each cause."""
     count = sum(len(one.by_index) for one in several)
     return f"causes of faults in {counted(count, 'subtitle')}: {list_cause_counts(several)}"
 
 
 def list_cause_counts(several: list[Causes]) -> str:
-    """List the number of subtitles with each cause."""
+    """Return texts with the number of subtitles for each cause."""
     return ", ".join(f"{count} {name}" for name, count in count_causes(several).items() if count)

@@ -1,4 +1,4 @@
-"""Run `check --all` and read its list."""
+"""Run `check --all` and read the list of faults that it prints."""
 from __future__ import annotations
 
 import bisect
@@ -23,7 +23,7 @@ from .status import CheckSummary, NOT_ANSWERED, NOT_JUDGED, decide_part
 
 
 class FaultEnd(NamedTuple):
-    """Last frame of a fault, or its last PES packet."""
+    """The last frame or the last PES packet of a fault."""
 
     time: str | None
     pes: int | None
@@ -36,44 +36,44 @@ TIME_CODE = re.compile(r"\d\d:\d\d:\d\d:\d\d")
 
 
 class CheckOutput:
-    """Output of `check --all`; all its lines are in the file at `path`.
+    """The output of `check --all`. The file at `path` contains all lines.
 
-    `first_fault` is the first fault, as `check` prints it without `--all`. By fault number,
-    `counts_by_number` are the faults, `first_faults` the first fault of each number, and
-    `fault_spans` the frames from the beginning to the end of each fault. `fault_ends` has the end
-    of each fault by its position in the list. `skipped_packets` are the numbers of the PES packets
-    that `check` skipped, `trusted_frames` the clean frames.
+    `first_fault` is the first fault, which `check` prints without `--all`. By fault number,
+    `counts_by_number` has the number of faults, `first_faults` the first fault, and `fault_spans`
+    the frames from the beginning to the end of each fault. `fault_ends` has the end of each fault
+    by its position in the list. `skipped_packets` has the numbers of the PES packets that `check`
+    skipped, and `trusted_frames` the clean frames.
     """
 
     def __init__(self, path: str) -> None:
         self.path, self.last_line = path, ""
-        self.exit_status: int | None = None  # until it has ended
-        self.is_accepted = False  # by the last line
-        self.unknown_line: str | None = None  # the first line that `check` does not print
+        self.exit_status: int | None = None  # `None` until `check` has ended
+        self.is_accepted = False  # whether the last line is `accepted`
+        self.unknown_line: str | None = None  # the first line that `check` can't have printed
         self.frames: int | None = None
         self.transmissions: int | None = None
         self.clear_faults()
         self.file: BinaryIO = open(path, "wb")
 
     def clear_faults(self) -> None:
-        """Clear all faults of the output."""
+        """Forget all faults that were read."""
         self.fault_count = 0
         self.counts_by_number: collections.Counter[int] = collections.Counter()
         self.first_faults: dict[int, FaultLine] = {}
         self.first_fault: FaultLine | None = None
         self.fault_spans: dict[int, Spans] = {}
         self.fault_ends: dict[int, FaultEnd] = {}
-        self.last_positions: dict[str, int] = {}  # position of the last fault, by its number
-        self.skipping_fault = ""  # the fault of the PES packets skipped last
+        self.last_positions: dict[str, int] = {}  # position of the last fault with each number
+        self.skipping_fault = ""  # the last fault that made `check` skip PES packets
         self.skipped_packets, self.trusted_frames = Spans(), Spans()
 
     @property
     def fault_numbers(self) -> set[int]:
-        """Return the numbers of the reported faults."""
+        """Return the fault numbers of all reported faults."""
         return set(self.counts_by_number)
 
     def read_fault(self, line: str, words: list[str]) -> None:
-        """Read a line `refused`, split into words."""
+        """Read a line `refused`, which is also split into words."""
         number, place = int(words[1]), words[3:5]
         if number not in self.counts_by_number:
             fault = parse_fault_line(line)
@@ -91,7 +91,7 @@ class CheckOutput:
             self.skipped_packets.add(int(place[1]), int(place[1]))
 
     def read_end(self, words: list[str]) -> None:
-        """Read a line `ended`: a fault lasted up to a frame, or for consecutive PES packets."""
+        """Read a line `ended`, which gives the last frame or the last PES packet of a fault."""
         number, (kind, value) = int(words[1]), words[3:5]
         index = self.last_positions.pop(words[1], None)
         if index is None:
@@ -107,12 +107,12 @@ class CheckOutput:
 
     @property
     def transmission_fault_count(self) -> int:
-        """Return the number of faults of the transmission."""
+        """Return the number of transmission faults."""
         return sum(count for number, count in self.counts_by_number.items()
                    if number not in STL_FAULTS | {UNDECIDED})
 
     def read_line(self, line: str) -> None:
-        """Read one line of output, and append it to the file."""
+        """Read one line of output, and append it to the file with the list."""
         with name_errors(self.path):
             self.file.write(line.encode() + b"\n")
         self.last_line, self.is_accepted = line, False
@@ -130,7 +130,7 @@ class CheckOutput:
             self.unknown_line = line
 
     def finish(self, status: int) -> None:
-        """Store the exit status of `check`; raise `IncompleteAnswer` if it printed no verdict."""
+        """Store the exit status of `check`; raise `IncompleteAnswer` if there is no verdict."""
         with name_errors(self.path):
             self.file.close()
         self.exit_status = status
@@ -140,42 +140,42 @@ class CheckOutput:
             f"{NOT_ANSWERED}: {line or 'it printed nothing'}, status {status}")
 
     def close_file(self) -> None:
-        """Close the file of a list that is incomplete."""
+        """Close the file with an incomplete list."""
         with name_errors(self.path):
             self.file.close()
 
     @functools.cached_property
     def content_fault_rows(self) -> list[tuple[int, int]]:
-        """Return frame and row of each content fault, sorted."""
+        """Return the frame and row of each content fault, sorted by frame."""
         return sorted((fault.frame, fault.row) for fault, _ in self.read_faults()
                       if fault.frame is not None and fault.row is not None)
 
     def find_fault_row(self, frame: int) -> int | None:
-        """Return the row of the last content fault up to a frame."""
+        """Return the row of the last content fault in or before a frame."""
         at = bisect.bisect_right(self.content_fault_rows, (frame, FRAMES_OF_A_DAY)) - 1
         return self.content_fault_rows[at][1] if at >= 0 else None
 
     def find_last_time(self) -> str | None:
-        """Return the time on the last line of output, up to which `check` reported faults."""
+        """Return the time on the last line of output; later faults are not reported yet."""
         times: list[str] = TIME_CODE.findall(self.last_line)
         return times[-1] if times else None
 
     def move_file(self, path: str) -> None:
-        """Move the file with the lines of output."""
+        """Move the file with the output lines to another path."""
         with name_errors(path):
             shutil.move(self.path, path)
         self.path = path
 
     def accept_file(self, line: str) -> None:
-        """Accept a subtitle file without faults that has no recording."""
+        """Accept a subtitle file that has no faults, if there is no recording."""
         self.last_line, self.exit_status, self.is_accepted = line, 0, True
         self.clear_faults()
         with open(self.path, "wb"):
             pass
 
     def summarize(self, is_read: bool = True) -> CheckSummary:
-        """Return what decides the verdict on a part; a line that is not from `check` makes the part
-        not judged."""
+        """Return the values that decide the verdict on a part. If any line is not from `check`, the
+        part is not judged."""
         is_clear = self.unknown_line is None
         is_list = is_clear and self.first_fault is not None and self.frames is None
         counted = parse_count_line(self.last_line) if is_list else None
@@ -188,7 +188,7 @@ class CheckOutput:
         return decide_part(self.summarize())
 
     def copy_without(self, number: int, path: str) -> CheckOutput:
-        """Return a copy at `path` without the faults of one number."""
+        """Return a copy of this output at `path`, without faults that have a certain number."""
         made = CheckOutput(path)
         for line in self.read_lines():
             if parse_count_line(line) is not None:
@@ -200,7 +200,7 @@ class CheckOutput:
 
     @property
     def line(self) -> str:
-        """Return the line that `check` prints without `--all`."""
+        """Return the line that `check` would print without `--all`."""
         return self.first_fault.line if self.first_fault else self.last_line
 
     def read_bytes(self) -> Iterator[bytes]:
@@ -214,7 +214,7 @@ class CheckOutput:
                 yield line.rstrip("\n")
 
     def read_faults(self) -> Iterator[tuple[FaultLine, FaultEnd]]:
-        """Yield the faults in the order of the list, each with its end."""
+        """Yield all faults in the order of the list, each with its end."""
         faults = (fault for fault in map(parse_fault_line, self.read_lines()) if fault
                   and fault.is_fault)
         return ((fault, self.fault_ends.get(index, NO_END)) for index, fault in enumerate(faults))
@@ -222,8 +222,8 @@ class CheckOutput:
 
 def run_check(command: list[str], output: CheckOutput,
               report_line: Callable[[str], None]) -> CheckOutput:
-    """Run `check --all` and return its output. `report_line` gets each line at once, but a line
-    `accepted` only after the exit status confirms it."""
+    """Run `check --all` and return its output. `report_line` is called for each line at once, but
+    for a line `accepted` only after the exit status confirms the line."""
     with subprocess.Popen(command, stdin=subprocess.DEVNULL, stdout=subprocess.PIPE,
                           encoding="utf-8", errors="replace") as process:
         assert process.stdout
@@ -241,7 +241,7 @@ def run_check(command: list[str], output: CheckOutput,
     return output
 
 
-# A subtitle file alone: `check` gets no PES packets.
+# Checking a subtitle file alone, without PES packets
 
 NO_PES = os.devnull
 
@@ -254,7 +254,7 @@ def check_file_alone(request: Request, program: str, names: OutputNames) -> Chec
 
 
 def report_file_check(request: Request, command_paths: CommandPaths, listener: Listener) -> None:
-    """Report the command that checks the subtitle file alone."""
+    """Print the command that checks the subtitle file alone."""
     listener.add_command(command_paths.program_command, "check", request.stl, NO_PES,
                          *request.check_arguments(True),
                      "--all")

@@ -1,4 +1,4 @@
-"""Each subtitle of a part: when it was expected, when a receiver decoded it, and its verdict."""
+"""The cues of each subtitle in a part: expected times, times decoded by a receiver, and verdict."""
 from __future__ import annotations
 
 import functools
@@ -24,15 +24,15 @@ from .subtitles import ValidSubtitles
 from .transmissions import ExpectedPages
 
 
-# Cues of the decoded pages
+# The cues of decoded pages
 
-# Causes with another page in place of the expected one.
+# Causes in which another page was sent instead of the expected page
 REPLACING_CAUSES = {WRONG_TEXT, WRONG_PLACE, WRONG_ATTRIBUTE, OTHER_TEXT}
 
 
 class Cue(NamedTuple):
-    """A subtitle with its expected page; the frame at which a receiver decoded this page, or the
-    page sent instead, and the first frame without that page. `None`: not seen."""
+    """A subtitle and its expected page; the frame in which a receiver decoded this page, or the
+    page sent instead; and the first frame without that page. A frame is `None` if not seen."""
 
     subtitle: Subtitle
     expected: Rows
@@ -43,12 +43,12 @@ class Cue(NamedTuple):
 
     @property
     def delay_in(self) -> int | None:
-        """Return by how many frames the in-cue is late; negative if it is early."""
+        """Return the delay of the in-cue in frames; it is negative for an early cue."""
         return None if self.begin is None else self.begin - self.subtitle.begin
 
     @property
     def delay_out(self) -> int | None:
-        """Return by how many frames the out-cue is late; negative if it is early."""
+        """Return the delay of the out-cue in frames; it is negative for an early cue."""
         return None if self.end is None else self.end - self.subtitle.end
 
 
@@ -64,7 +64,7 @@ def find_cues(part: Part) -> Iterator[Cue]:
 
 def find_decoded_times(cue: Cue, place: int, expected: ExpectedPages, timeline: Timeline,
                        delay: int | None) -> Cue:
-    """Return a cue with the frames between which a receiver had the page."""
+    """Return a cue with the first frame of the decoded page, and the first frame without it."""
     number = find_page_number(cue, expected, timeline, delay)
     if number is None:
         return cue
@@ -76,23 +76,23 @@ def find_decoded_times(cue: Cue, place: int, expected: ExpectedPages, timeline: 
     before, after = expected.subtitles[place - 1:place], expected.subtitles[place + 1:place + 2]
     begin: int | None = first
     if place and before[0].end == subtitle.begin and expected.pages[place - 1] == page:
-        begin = max(first, subtitle.begin)  # the same page twice without a change between
+        begin = max(first, subtitle.begin)  # two subtitles may have the same page
     elif subtitle.begin < first == timeline.first and not (
             cue.cause and subtitle.begin + (cue.cause.frames or 0) == first):
-        begin = None  # the page was there when the recording began
+        begin = None  # received before the recording began
     end: int | None = last + 1
     if after and after[0].begin == subtitle.end and expected.pages[place + 1] == page:
         end = min(last + 1, subtitle.end)
     elif number + 1 == len(timeline.pages) or \
             last + 1 != subtitle.end and not timeline.was_received(
             min(subtitle.end, last + 1), max(subtitle.end, last + 1)):
-        end = None  # the page was still there when the recording ended, or packets are lost
+        end = None  # the recording ended first, or packets are lost
     return cue._replace(decoded=page, begin=begin, end=end)
 
 
 def find_page_number(cue: Cue, expected: ExpectedPages, timeline: Timeline,
                      delay: int | None) -> int | None:
-    """Return the number of the decoded page that belongs to a cue, if any was decoded."""
+    """Return the number of the decoded page for a cue; `None` if no such page was decoded."""
     cause, (begin, end) = cue.cause, (cue.subtitle.begin, cue.subtitle.end)
     if cause and cause.name in (LATE, EARLY):
         frame = begin + (cause.frames or 0) * (1 if cause.name == LATE else -1)
@@ -114,22 +114,22 @@ def find_page_number(cue: Cue, expected: ExpectedPages, timeline: Timeline,
 
 def is_variant(page: Rows, decoded: Rows, expected: ExpectedPages) -> bool:
     """Return whether a page is a damaged or corrected repeat of another page: most characters are
-    the same, and no other subtitle has the page."""
+    equal, and no other subtitle has the page."""
     if page == decoded or page in expected.by_page:
         return page == decoded
     differing: int = sum(map(operator.ne, b"".join(page), b"".join(decoded)))
     return 2 * differing < sum(code > SPACE for code in b"".join(decoded))
 
 
-# The verdict on each subtitle, for reports and results
+# Verdicts on subtitles, for reports and results
 
 RIGHT, WRONG, WAIVED, NOT_KNOWN = "right", "wrong", "waived", "not known"
 NOT_ALL_RECEIVED = "not received completely"
 
 
 class CueVerdict(NamedTuple):
-    """The verdict on a subtitle, and the reason if the subtitle is not right: its cause, the
-    numbers of the other faults at its time, or why the verdict is not known."""
+    """The verdict on a subtitle. If the subtitle is not right, the reason is its cause, the fault
+    numbers of other faults at its time, or why the verdict is unknown."""
 
     word: str
     cause: str = ""
@@ -138,7 +138,7 @@ class CueVerdict(NamedTuple):
 
 
 class CueJudge:
-    """Decide the verdicts on the subtitles of a part."""
+    """Decides the verdict on each subtitle in a part."""
 
     def __init__(self, part: Part, severity: Severity) -> None:
         self.part, self.severity = part, severity
@@ -150,12 +150,12 @@ class CueJudge:
 
     @functools.cached_property
     def is_cause_waived(self) -> bool:
-        """Return whether all faults that have causes are warnings."""
+        """Return whether the severity file makes all faults with causes warnings."""
         numbers = WITH_CAUSE & self.part.check_output.fault_numbers
         return bool(numbers) and not any(map(self.severity.is_error, numbers))
 
     def judge(self, cue: Cue) -> CueVerdict:
-        """Return the verdict on a cue."""
+        """Return the verdict on the subtitle of a cue."""
         begin, end = cue.subtitle.begin, cue.subtitle.end
         numbers = [number for number, spans in self.spans.items()
                    if any(True for _ in spans.between(begin, end))]
@@ -171,9 +171,8 @@ class CueJudge:
         return CueVerdict(word, words, numbers)
 
     def describe_doubt(self, cue: Cue) -> str:
-        """Describe why it is not known whether a cue without a fault is right; return an empty text
-        if a receiver had the page: the part is accepted, or `check` trusts all frames of the cue.
-        """
+        """Describe why it is unknown whether a cue without fault is right. Return an empty text if
+        a receiver decoded the page: the part is accepted, or all frames of the cue are clean."""
         begin, end = cue.subtitle.begin, cue.subtitle.end
         if self.part.check_output.verdict == ACCEPTED:
             is_lost = any(span.first < end and begin <= span.last
@@ -189,7 +188,7 @@ class CueJudge:
         return f"{words}: the out-cue is moved" if cue.delay_out else words
 
     def describe_reason(self, verdict: CueVerdict) -> str:
-        """Return the text of the reason for a verdict; an empty text if the cue is right."""
+        """Return the text of a verdict's reason; an empty text for a right cue."""
         firsts = self.part.check_output.first_faults
         faults = [f"{number} {firsts[number].name}" for number in verdict.fault_numbers]
         return "; ".join(filter(None, [verdict.cause, *faults, verdict.doubt]))
@@ -197,25 +196,25 @@ class CueJudge:
 
 # Refused subtitles, which are not judged
 
-MAX_FAULTS_READ = 20_000  # faults of a subtitle file to read at most
+MAX_FAULTS_READ = 20_000  # maximum number of faults to read from a subtitle file
 NEXT_IS_REFUSED = "not judged: the next subtitle is refused"
 
 
 class SubtitleFaults(NamedTuple):
-    """The faults of one subtitle of a file; the GSI block has no subtitle."""
+    """A subtitle and its faults. Faults of the GSI block have no subtitle."""
 
     subtitle: NamedSubtitle | None
     faults: Sequence[FaultLine]
 
     def is_waived(self, severity: Severity) -> bool:
-        """Return whether all faults of the subtitle are warnings."""
+        """Return whether the severity file makes all faults of the subtitle warnings."""
         return not any(severity.is_error(fault.number) for fault in self.faults)
 
 
 def find_refused_subtitles(part: Part, file: SubtitleFile, beside: ValidSubtitles | None) \
         -> Iterator[SubtitleFaults]:
-    """Yield the refused subtitles of a file, each with its faults; then the subtitles without a
-    fault that cannot be judged, since the next subtitle is refused."""
+    """Yield the refused subtitles in a file, each with its faults; then the subtitles that have no
+    fault but can't be judged, since the next subtitle is refused."""
     left_out = set(beside.skipped_positions) if beside else set[int]()
     faults = [fault for fault,
               _ in itertools.islice(part.check_output.read_faults(), MAX_FAULTS_READ)
@@ -231,13 +230,13 @@ def find_refused_subtitles(part: Part, file: SubtitleFile, beside: ValidSubtitle
 
 
 def find_first_block(file: SubtitleFile, fault: FaultLine) -> int:
-    """Return the first block of the subtitle of a fault."""
+    """Return the first block of the subtitle that has a fault."""
     block = fault.block or 0
     return file.first_blocks[block] if block < len(file.first_blocks) else block
 
 
 def read_block_text(file: SubtitleFile, block: int) -> bytes:
-    """Return the text of a block's subtitle, as far as the file has blocks of that subtitle."""
+    """Return the text in the blocks of a subtitle, as far as the file contains them."""
     first, last = file.first_blocks[block], block
     for number in range(block, len(file.first_blocks)):
         data = file.block(number)
@@ -248,14 +247,14 @@ def read_block_text(file: SubtitleFile, block: int) -> bytes:
     return file.text(last)
 
 
-# Position of a frame in the recording
+# Position of frames in the recording
 
-LONGEST_STEP = 3600 * 90_000  # ticks: a longer step, or one back, is a jump of the clock
+LONGEST_STEP = 3600 * 90_000  # ticks; a longer step, or a step back, is a jump of the clock
 
 
 def find_recording_start(part: Part) -> int | None:
-    """Return the PTS that the beginning of a recording would have by the clock of a part: the first
-    PCR, or without a PCR the first PTS. A jump of the PTS before the part counts as no time."""
+    """Return the PTS at the beginning of the recording, by the clock of a part: the first PCR, or
+    without a PCR the first PTS. A jump of the PTS before the part counts as no time."""
     if part.recording is None or part.pes is None:
         return None
     clock = part.recording.survey.clock_of(part.packets.pid) if part.recording.is_stream else None
@@ -269,8 +268,8 @@ def find_recording_start(part: Part) -> int | None:
 
 
 def format_recording_offset(part: Part, start: int | None, frame: int) -> str:
-    """Return how far into the recording a frame is, as H:MM:SS; an empty text if that is not known.
-    """
+    """Return the time from the beginning of the recording to a frame as H:MM:SS, or an empty
+    text."""
     if start is None or part.origin is None:
         return ""
     seconds = ticks_between(start, pts_of(frame, part.origin)) // 90_000
@@ -278,25 +277,25 @@ def format_recording_offset(part: Part, start: int | None, frame: int) -> str:
 
 
 def find_text_spans(timeline: Timeline) -> Iterator[Span]:
-    """Yield the frames during which a receiver had a page with text."""
+    """Yield the frames in which a receiver had a page with text."""
     for number, page in enumerate(timeline.pages):
         if page != BLANK_PAGE:
             yield timeline.page_span(number)
 
 
-# The subtitles of a part for results
+# Subtitles of a part in JSON results
 
 
 def make_subtitle_rows(part: Part, severity: Severity, beside: ValidSubtitles | None) \
         -> Iterator[Members]:
-    """Yield the JSON rows of the subtitles of a part in the order of the file, with times and
-    verdicts."""
+    """Yield the JSON values of a part's subtitles, with times and verdicts, in the order of the
+    file."""
     rows = [*make_judged_rows(part, severity), *make_refused_rows(part, severity, beside)]
     yield from sorted(rows, key=lambda row: int(row["position"]))
 
 
 def make_judged_rows(part: Part, severity: Severity) -> Iterator[Members]:
-    """Yield the JSON rows of the subtitles that were judged."""
+    """Yield the JSON values of the judged subtitles."""
     judge, option = CueJudge(part, severity), BY_WORD[part.request.option].bits
     start = find_recording_start(part)
     for place, cue in enumerate(find_cues(part)):
@@ -322,7 +321,7 @@ def make_judged_rows(part: Part, severity: Severity) -> Iterator[Members]:
 
 def make_refused_rows(part: Part, severity: Severity, beside: ValidSubtitles | None) \
         -> Iterator[Members]:
-    """Yield the JSON rows of the subtitles with faults in the subtitle file."""
+    """Yield the JSON values of subtitles that have faults in the subtitle file."""
     file = SubtitleFile(part.names.program_stl, part.request.between)
     for refused in find_refused_subtitles(part, file, beside):
         if refused.subtitle and (refused.faults or beside):
@@ -334,7 +333,7 @@ def make_refused_rows(part: Part, severity: Severity, beside: ValidSubtitles | N
 
 def make_file_row(part: Part, subtitle: NamedSubtitle, verdict: str, reason: str | None,
                   text: str | None) -> Members:
-    """Return the JSON row of a subtitle that is known only from the subtitle file."""
+    """Return the JSON value of a subtitle that was only checked in the subtitle file."""
     unknown = dict.fromkeys(("recording_offset", "actual_in", "actual_out", "delay_in",
                              "delay_out", "decoded_text", "complete_after"))
     return {"part": part.number, "position": subtitle.position, "number": subtitle.number,

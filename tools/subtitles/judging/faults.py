@@ -1,4 +1,4 @@
-"""Faults with their places and details, and hints on some numbers."""
+"""Faults with their places and details, and hints on faults with certain numbers."""
 from __future__ import annotations
 
 import itertools
@@ -29,12 +29,12 @@ from .transmissions import PageHeader, describe_effect, describe_header_faults, 
 from .verdict import Verdict
 
 
-# Cells and PES packets at the places of faults
+# Cells and PES packets that faults refer to
 
 
 class FaultPlace(NamedTuple):
-    """A PES packet (`None` between two packets), its PTS, and the page decoded then; for refused
-    control bits (67) each header of the page."""
+    """A PES packet, or `None` between two packets; its PTS and the page decoded then; and, for
+    refused control bits (67), the headers of the page."""
 
     pes: int | None
     pts: int | None
@@ -47,7 +47,7 @@ NO_PLACE = FaultPlace(None, None, None)
 
 def find_fault_place(fault: FaultLine, packets: Packets, timeline: Timeline | None,
                      expected: Rows | None = None) -> FaultPlace:
-    """Return the place of a fault of a transmission; `expected` is the expected page."""
+    """Return the place of a transmission fault; `expected` is the expected page."""
     if fault.pes is not None:
         return FaultPlace(fault.pes, packets.pts_at(fault.pes), None)
     if fault.frame is None or timeline is None:
@@ -55,7 +55,7 @@ def find_fault_place(fault: FaultLine, packets: Packets, timeline: Timeline | No
     members = timeline.runs_in_frame(fault.frame)
     if not members:
         return FaultPlace(None, None, timeline.state_at(fault.frame).rows)
-    # Reported before others of the frame, which are 62.
+    # Without --within, fault 73 is reported for the first PES packet in a frame.
     if not timeline.within and fault.number == GAP:
         members = members[:1]
     if expected:
@@ -69,37 +69,37 @@ def find_fault_place(fault: FaultLine, packets: Packets, timeline: Timeline | No
 
 
 def find_pes_packet(members: Sequence[PacketRun], packet: int) -> PacketRun:
-    """Return the PES packet of a frame that has a Teletext packet; the packet numbers run on
+    """Return the PES packet of a frame that contains a Teletext packet. The packet numbers count
     through all PES packets of the frame."""
     ends = itertools.accumulate(run.units for run in members)
     return next((run for run, end in zip(members, ends) if packet < end), members[-1])
 
 
 def find_fault_code(fault: FaultLine, page: Rows) -> int | None:
-    """Return the code of the cell that a fault names, or `None` if the fault names no cell."""
+    """Return the code of the cell that a fault refers to, or `None`."""
     return None if fault.row is None or fault.column is None else \
         find_code(page, fault.row, fault.column)
 
 
 def find_code(rows: Rows | None, row: int, column: int) -> int | None:
-    """Return the code of a cell, or `None` if no code was received for the cell."""
+    """Return the code of a cell, or `None` if it was not received."""
     if rows is None or rows[row - 1][column] == OLD:
         return None
     return rows[row - 1][column] & 0x7F
 
 
-# Hints on the first fault of some numbers
+# Hints on the first fault with a certain number
 
 HINTS_BY_NUMBER = {EMPTY_TIME, CHARACTER, OUT_OF_ORDER, OFF_FRAME, CONTROL, GAP, PARITY, SILENT}
-HINTS_ON_PAGES = {DISPLAY, CONTENT}  # faults whose hint names the option, or the difference
-LENGTH_FAULTS = {32, 35}  # lengths of PES packets and of their headers
+HINTS_ON_PAGES = {DISPLAY, CONTENT}  # faults whose hint names an option, or a difference
+LENGTH_FAULTS = {32, 35}  # wrong lengths of PES packets or their headers
 RANGE_FAULTS = {BEGIN, END}  # the recording begins late or ends early
 FAULTS_WITH_HINT = HINTS_BY_NUMBER | HINTS_ON_PAGES | LENGTH_FAULTS | RANGE_FAULTS
-DSC = slice(11, 12)  # the field in the GSI block
+DSC = slice(11, 12)  # display standard code (DSC) in the GSI block
 
 
 def list_hints(verdict: Verdict) -> Iterator[str]:
-    """Yield a line on the first fault of each number with a hint, in the order of the faults."""
+    """Yield a hint on the first fault with each number, in the order of the faults."""
     for part in verdict.parts:
         for number, fault in part.check_output.first_faults.items():
             if number in FAULTS_WITH_HINT and (words := describe_hint(fault, part, verdict)):
@@ -107,7 +107,7 @@ def list_hints(verdict: Verdict) -> Iterator[str]:
 
 
 def describe_hint(fault: FaultLine, part: Part, verdict: Verdict) -> str:
-    """Return the hint on a fault, or an empty text."""
+    """Return a hint on a fault, or an empty text."""
     request = verdict.request
     if fault.number == CHARACTER:
         if not fault.block or fault.at is None:
@@ -143,8 +143,8 @@ def describe_hint(fault: FaultLine, part: Part, verdict: Verdict) -> str:
 
 
 def describe_first_hint(fault: FaultLine, part: Part, verdict: Verdict) -> str:
-    """Return the hint on the fault to report first. The hint on a header begins with the subtitle
-    and the effect on receivers."""
+    """Return the hint on the fault to report first. For a header fault, begin with the subtitle and
+    the effect on receivers."""
     words = describe_hint(fault, part, verdict)
     if fault.number != CONTROL or not words or fault.frame is None:
         return words
@@ -154,8 +154,8 @@ def describe_first_hint(fault: FaultLine, part: Part, verdict: Verdict) -> str:
 
 
 def describe_subtitle_at(frame: int, part: Part) -> str:
-    """Describe the subtitle expected at a frame with its text; in a pause, the page and the
-    subtitle before."""
+    """Describe the subtitle that is expected in a frame, with its text; in a pause, the decoded
+    page and the previous subtitle."""
     due = part.expected_pages()
     count, is_due = due.count_begun(frame)
     if not is_due:
@@ -165,7 +165,7 @@ def describe_subtitle_at(frame: int, part: Part) -> str:
 
 
 def describe_parity_fault(fault: FaultLine, part: Part) -> str:
-    """Describe which character of a subtitle has even parity; an empty text if none is known."""
+    """Describe which character of a subtitle has even parity; empty if it is unknown."""
     rows = find_fault_place(fault, part.packets, part.decoded_pages).rows
     if fault.frame is None or rows is None:
         return ""
@@ -183,14 +183,14 @@ def describe_parity_fault(fault: FaultLine, part: Part) -> str:
 
 
 def describe_pid_end(part: Part) -> str:
-    """Describe why the PID has no Teletext after the last judged PES packet; an empty text if it
-    does."""
+    """Describe why there is no Teletext after the last judged PES packet; return an empty text if
+    there is."""
     is_last = part.pes is not None and part.pes[1] == part.packets.count - 1
     return (explain_refusal(part.packets) or "") if is_last and part.packets.refusal else ""
 
 
 def describe_unrecorded(fault: FaultLine, part: Part) -> str:
-    """Describe how many subtitles were not recorded, and the option that judges the other
+    """Describe how many subtitles were not recorded, and the option to judge only the recorded
     subtitles."""
     frame, subtitles = fault.frame, part.expected_pages().subtitles
     if frame is None or not subtitles or part.causes and fault.number in part.causes.by_end_fault:
@@ -211,8 +211,8 @@ def describe_unrecorded(fault: FaultLine, part: Part) -> str:
 
 
 def describe_block_subtitle(fault: FaultLine, subtitles: SubtitleFile) -> str:
-    """Describe the subtitle of the block of a fault, with its time and text; an empty text without
-    a block."""
+    """Describe the subtitle in the block of a fault, with its time and text; return an empty text
+    if the fault has no block."""
     subtitle = subtitles.find_by_block(fault.block) if fault.block else None
     if subtitle is None or not fault.block:
         return ""
@@ -221,8 +221,7 @@ def describe_block_subtitle(fault: FaultLine, subtitles: SubtitleFile) -> str:
 
 
 def format_stored_text(text: bytes) -> str:
-    """Return the stored text of a subtitle as readable characters, its lines separated by slashes.
-    """
+    """Return the stored text of a subtitle in readable form, with a slash between lines."""
     lines = list[str]()
     for line in text.split(NEW_LINE):
         at, characters = 0, ""
@@ -236,13 +235,13 @@ def format_stored_text(text: bytes) -> str:
 
 
 def describe_open_option(subtitles: SubtitleFile) -> str:
-    """Describe how to accept a display standard code of open subtitles, or of none."""
+    """Describe how to accept a display standard code of open subtitles, or a blank code."""
     kind = {b"0": "0 (open subtitles)", b" ": "blank"}.get(subtitles.data[DSC])
     return f"its DSC is {kind}: --open accepts it" if kind else ""
 
 
 def describe_silence(fault: FaultLine, part: Part) -> str:
-    """Describe from which time on, and for how many frames, no PES packet came."""
+    """Describe since when, and for how many frames, there was no PES packet."""
     request, pes, origin = part.request, part.pes, part.origin
     if request is None or request.pace is None or pes is None or origin is None \
             or fault.frame is None:
@@ -256,8 +255,8 @@ def describe_silence(fault: FaultLine, part: Part) -> str:
 
 def describe_longest_gap(sent: tuple[Sequence[int], Sequence[int]], origin: int, request: Request,
                          numbers: set[int], times: Sequence[tuple[int, int]]) -> str:
-    """Describe the longest gap between headers of the page, or after the last header; an empty text
-    if some PES packets can't be read. `sent` has the PTS of headers and of the last PES packet."""
+    """Describe the longest interval without a page header; return an empty text if some PES packets
+    can't be read. `sent` has the PTS of headers and of the last PES packet."""
     headers, last = ([frame for pts in some if (frame := frame_at(pts, origin, request.within))
                       is not None] for some in sent)
     end = last[0] + 1 if last else 0
@@ -269,11 +268,11 @@ def describe_longest_gap(sent: tuple[Sequence[int], Sequence[int]], origin: int,
     return f"{words} ({usual} are usual)" if usual and usual <= request.every else words
 
 
-# The faults of a verdict
+# The faults of a verdict as JSON values
 
 
 class PartFaults:
-    """The faults of one part with their details."""
+    """Makes JSON values of the faults in one part, with details."""
 
     def __init__(self, verdict: Verdict, part: Part) -> None:
         self.verdict, self.part, self.request = verdict, part, verdict.request
@@ -289,7 +288,7 @@ class PartFaults:
         return itertools.starmap(self.make_fault, self.part.check_output.read_faults())
 
     def make_fault(self, fault: FaultLine, end: FaultEnd) -> Members:
-        """Return a fault with its details for the JSON result."""
+        """Return the JSON value of a fault, with details."""
         is_stl = fault.number in STL_FAULTS
         due = self.part.expected_pages().page_at(fault.frame) if fault.number == CONTENT and \
             fault.frame is not None else None
@@ -323,27 +322,27 @@ class PartFaults:
         }
 
     def make_cause(self, fault: FaultLine) -> Members | None:
-        """Return the cause of the subtitle of a fault 63, 72 or 74."""
+        """Return the cause of a fault 63, 72 or 74, as a JSON value."""
         if self.wording is None or fault.number not in WITH_CAUSE or fault.frame is None:
             return None
         cause = self.wording.causes.find_cause(fault.number, fault.frame)
         return self.wording.make_json(cause) if cause else None
 
     def find_subtitle(self, fault: FaultLine) -> NamedSubtitle | None:
-        """Return the subtitle of the block of a fault, or the subtitle expected at its frame."""
+        """Return the subtitle in the block of a fault, or the subtitle expected in its frame."""
         if fault.block is not None:
             return self.subtitles.find_by_block(fault.block)
         return self.subtitles.find_by_frame(fault.frame) if fault.frame is not None else None
 
     def format_time(self, pts: int | None) -> str | None:
-        """Return the time code of a PTS, or `None` if the PTS is not that of a frame."""
+        """Return the time code of a PTS; `None` if the PTS is not on a frame."""
         if pts is None or self.part.origin is None:
             return None
         frame = frame_at(pts, self.part.origin, self.request.within)
         return None if frame is None else time_of(frame)
 
     def make_cell(self, rows: Rows | None, fault: FaultLine) -> Members | None:
-        """Return the cell that a fault names, for the JSON result."""
+        """Return the JSON value of the cell that a fault refers to."""
         if fault.row is None or fault.column is None:
             return None
         code = find_code(rows, fault.row, fault.column)
@@ -352,19 +351,19 @@ class PartFaults:
         return {"code": f"{code:02X}", "character": self.letters[code] if code >= 0x20 else None}
 
 
-# Details that a fault without a number lacks.
+# details that a fault without a number does not have
 KEYS_WITHOUT_NUMBER = ("number", "byte", "character", "text_offset", "pes", "pes_pts", "pes_time",
                        "packet", "row", "column", "expected", "decoded", "last_pes", "cause")
 
 
 def make_subtitle(subtitle: NamedSubtitle) -> Members:
-    """Return a subtitle for the JSON result."""
+    """Return the JSON value of a subtitle."""
     return {"position": subtitle.position, "number": subtitle.number, "begin": subtitle.begin,
             "end": subtitle.end}
 
 
 def make_named_fault(verdict: Verdict, fault: NamedFault) -> Members:
-    """Return a fault without a number, with its details for the JSON result."""
+    """Return the JSON value of a fault without a number, with details."""
     part = next((part for part in verdict.parts if part.number == fault.part), None)
     file = part.open_subtitle_file() if part else None
     frame = frame_of(fault.time) if fault.time else None
@@ -380,7 +379,7 @@ def make_named_fault(verdict: Verdict, fault: NamedFault) -> Members:
 
 
 def make_faults(verdict: Verdict) -> Iterator[Members]:
-    """Yield the faults without a number, then the numbered faults of all parts."""
+    """Yield the JSON values of faults without a number, then of numbered faults, in all parts."""
     yield from (make_named_fault(verdict, fault) for fault in verdict.named_faults)
     for part in verdict.parts:
         if part.check_output.fault_count:

@@ -1,4 +1,4 @@
-"""Text of pages, differences between two pages, and rows that no receiver shows."""
+"""The text of pages, differences between two pages, and rows that no receiver shows."""
 from __future__ import annotations
 
 import enum
@@ -23,14 +23,14 @@ ATTRIBUTES = (
     "double height", "double width", "double size", "mosaic black", "mosaic red", "mosaic green",
     "mosaic yellow", "mosaic blue", "mosaic magenta", "mosaic cyan", "mosaic white", "conceal",
     "contiguous mosaics", "separated mosaics", "escape", "black background", "new background",
-    "hold mosaics", "release mosaics")  # of the codes 00 to 1F
+    "hold mosaics", "release mosaics")  # names of the codes 00 to 1F
 SPACE = 0x20
-SPACES = bytes(max(code, SPACE) for code in range(256))  # spacing attributes are spaces
+SPACES = bytes(max(code, SPACE) for code in range(256))  # translates attributes to spaces
 
 
 class TextRow(NamedTuple):
-    """A row with characters: the row number, the column of the first character, the text and the
-    attributes."""
+    """A row that has characters: its number, the column of its first character, the text between
+    the first and the last character, and the attributes."""
 
     row: int
     column: int
@@ -40,7 +40,7 @@ class TextRow(NamedTuple):
 
 @functools.lru_cache(maxsize=1 << 12)
 def find_text_rows(rows: Rows) -> tuple[TextRow, ...]:
-    """Return the rows of a page that have characters."""
+    """Return the rows of a page that contain characters."""
     lettered = []
     for number, row in enumerate(rows, 1):
         words = row.translate(SPACES)
@@ -52,20 +52,19 @@ def find_text_rows(rows: Rows) -> tuple[TextRow, ...]:
 
 
 def join_page_text(rows: Rows) -> str:
-    """Return the text of a page in one line, wherever the text is on the page."""
+    """Return the text of a page as one line, ignoring where the text is on the page."""
     return " ".join(b" ".join(line.text for line in find_text_rows(rows)).decode("latin-1").split())
 
 
 def format_page_text(rows: Rows, option: int) -> str:
-    """Return the text of a page row by row, with the characters of a national option."""
+    """Return the text of a page, row by row, in the characters of a national option."""
     table = character_table(option)
     return " / ".join("".join(table[code & 0x7F] for code in line.text)
                       for line in find_text_rows(rows))
 
 
 def format_cells(rows: Rows) -> str:
-    """Return the rows of a page that have cells: attributes in hexadecimal, characters as they are.
-    """
+    """Return the rows of a page that have any cells: attributes in hexadecimal, and characters."""
     lines = []
     for number, row in enumerate(rows, 1):
         cells = row.strip(b" ")
@@ -78,20 +77,20 @@ def format_cells(rows: Rows) -> str:
 
 
 def find_text_columns(rows: Rows) -> list[int]:
-    """Return the column of the first character of each row that has one."""
+    """Return the column of the first character in each row that has characters."""
     return [next(at for at, cell in enumerate(row) if cell > SPACE) for row in rows
             if any(cell > SPACE for cell in row)]
 
 
 def describe_code(code: int) -> str:
-    """Return the name of an attribute, or the code of a cell."""
+    """Return the name of an attribute, or the code of any other cell."""
     if code == SPACE:
         return "a space"
     return ATTRIBUTES[code] if code < SPACE else f"{code:02X}"
 
 
 def describe_move(due: Rows, sent: Rows) -> str:
-    """Describe the first difference between the places of the same text on two pages."""
+    """Describe the first difference in position between two pages with the same text."""
     for row, other in zip(find_text_rows(due), find_text_rows(sent)):
         if row.row != other.row:
             return f"row {other.row} instead of {row.row}"
@@ -101,8 +100,8 @@ def describe_move(due: Rows, sent: Rows) -> str:
 
 
 def describe_attribute_difference(due: Rows, sent: Rows) -> str:
-    """Describe the first differing cell of two pages, and how far its row begins or ends elsewhere.
-    """
+    """Describe the first cell that differs between two pages, and how the ends of its row
+    differ."""
     for number, (row, other) in enumerate(zip(due, sent), 1):
         for column, (code, held) in enumerate(zip(row, other)):
             if code != held:
@@ -112,7 +111,7 @@ def describe_attribute_difference(due: Rows, sent: Rows) -> str:
 
 
 def describe_row_ends(due: bytes, sent: bytes) -> str:
-    """Describe by how many columns a row begins or ends early or late, attributes included."""
+    """Describe by how many columns a row, with its attributes, begins or ends early or late."""
     (first, end), (begins, ends) = find_extent(due), find_extent(sent)
     words = [] if begins == first else [describe_columns("begins", begins - first)]
     words += [] if ends == end else [describe_columns("ends", ends - end)]
@@ -120,20 +119,20 @@ def describe_row_ends(due: bytes, sent: bytes) -> str:
 
 
 def find_extent(row: bytes) -> tuple[int, int]:
-    """Return the first column of a row that is not a space, and the column after the last such one.
-    """
+    """Return the first column of a row that is not a space, and the column after the last such
+    column."""
     return len(row) - len(row.lstrip(b" ")), len(row.rstrip(b" "))
 
 
 def describe_columns(what: str, columns: int) -> str:
-    """Return text such as `begins a column early`; positive columns are late."""
+    """Return text such as `begins a column early`. A positive number of columns is late."""
     count = "a column" if abs(columns) == 1 else counted(abs(columns), "column")
     return f"{what} {count} {'late' if columns > 0 else 'early'}"
 
 
 def is_text_moved(due: Rows, sent: Rows) -> bool:
-    """Return whether the same text is at other places on two pages, and not only because an
-    attribute differs, which takes a cell too."""
+    """Return whether the same text is in other positions on two pages, except if only an attribute
+    differs, which also takes a cell."""
     rows, other = find_text_rows(due), find_text_rows(sent)
     if [line.row for line in rows] != [line.row for line in other]:
         return True
@@ -142,8 +141,8 @@ def is_text_moved(due: Rows, sent: Rows) -> bool:
 
 
 def describe_extra_rows(due: Rows, sent: Rows) -> str:
-    """Describe the rows that a page has in addition to the expected rows, if these are all right.
-    """
+    """Describe the rows that a page has besides the expected rows, if all expected rows are
+    correct."""
     if any(row != other for row, other in zip(due, sent) if row.strip()):
         return ""
     *others, last = ["", *(str(line.row) for line in find_text_rows(sent)
@@ -155,16 +154,16 @@ def describe_extra_rows(due: Rows, sent: Rows) -> str:
 
 
 def is_partial_page(sent: Rows, due: Rows) -> bool:
-    """Return whether a page has only some rows of another page."""
+    """Return whether a page has only some of the rows of another page."""
     return all(row == wanted or not row.strip() for row, wanted in zip(sent, due))
 
 
-# Subtitles with the right characters that are drawn otherwise
+# Subtitles that have the correct characters but are drawn differently
 
 
 class CodedRow(NamedTuple):
-    """A row with characters: the row number, the column of the first cell, the codes before the
-    first character, the cells from the first character to the last, and the codes after that."""
+    """A row that has characters: its number, the column of its first cell, the codes before the
+    first character, the cells from the first to the last character, and the codes after it."""
 
     row: int
     column: int
@@ -174,7 +173,7 @@ class CodedRow(NamedTuple):
 
 
 def find_coded_rows(rows: Rows) -> Iterator[CodedRow]:
-    """Yield the rows of a page that have characters."""
+    """Yield the rows of a page that contain characters."""
     for number, row in enumerate(rows, 1):
         cells = row.strip(b" ")
         at = [place for place, cell in enumerate(cells) if cell > SPACE]
@@ -185,8 +184,8 @@ def find_coded_rows(rows: Rows) -> Iterator[CodedRow]:
 
 def describe_drawing_differences(subtitles: Sequence[Subtitle], pages: Sequence[Rows],
                                  held: Timeline, option: NationalOption) -> str:
-    """Describe how many subtitles were sent with the right characters but drawn differently, and
-    the difference of the first."""
+    """Describe how many subtitles were sent with the correct characters but drawn differently, and
+    the difference in the first of them."""
     differing = [(subtitle, page, sent.rows) for subtitle, page in zip(subtitles, pages)
                  for sent in find_sent_subtitles([subtitle], held, option) if sent.rows != page]
     if not differing:
@@ -199,7 +198,7 @@ def describe_drawing_differences(subtitles: Sequence[Subtitle], pages: Sequence[
 
 
 def describe_row_difference(due: Rows, sent: Rows) -> str:
-    """Describe the first differing row of a page with the right characters: its row, column and
+    """Describe the first row that differs on a page with the correct characters: row, column and
     codes."""
     lines, others = [*find_coded_rows(due)], [*find_coded_rows(sent)]
     if len(lines) != len(others):
@@ -217,11 +216,11 @@ def describe_row_difference(due: Rows, sent: Rows) -> str:
 
 
 def format_codes(codes: bytes) -> str:
-    """Return codes in hexadecimal, spaces included."""
+    """Format codes in hexadecimal, including spaces."""
     return " ".join(f"{code:02X}" for code in codes) or "nothing"
 
 
-# Rows that all receivers hide, or some
+# Rows that all receivers or some receivers hide
 #
 # Receivers show only the boxes of a subtitle page. libzvbi opens a box at two start boxes in a row
 # (0B 0B), ffmpeg at the first; two end boxes (0A 0A) close it. Characters in the colour of their
@@ -229,13 +228,13 @@ def format_codes(codes: bytes) -> str:
 
 START_BOX, END_BOX, BLACK_BACKGROUND, NEW_BACKGROUND = 0x0B, 0x0A, 0x1C, 0x1D
 WHITE, BLACK = 7, 0
-HIDING = bytes((START_BOX, END_BOX, NEW_BACKGROUND))  # codes of a text that may hide characters
-HIDDEN = "hidden"  # kind of a warning
+HIDING = bytes((START_BOX, END_BOX, NEW_BACKGROUND))  # codes that may hide characters of a text
+HIDDEN = "hidden"  # kind of a warning on hidden rows
 
 
 class Cell(NamedTuple):
     """A character of a row: its column and code; whether two start boxes open its box, or at least
-    one start box does; and whether it has the colour of its background."""
+    one start box; and whether it has the same colour as its background."""
 
     column: int
     code: int
@@ -255,7 +254,7 @@ class Cell(NamedTuple):
 
 
 class Visibility(enum.Enum):
-    """How much of a row receivers show."""
+    """The amount of a row that receivers show."""
 
     ALL = "all of it, or it has no letters"
     SOME = "some letters, or all by some receivers"
@@ -263,7 +262,7 @@ class Visibility(enum.Enum):
 
 
 def decode_cells(cells: bytes) -> Iterator[Cell]:
-    """Yield the characters of a row."""
+    """Yield the characters of a row as cells."""
     ink, paper, is_boxed, is_begun, last = WHITE, BLACK, False, False, SPACE
     for column, byte in enumerate(cells):
         code = byte & 0x7F
@@ -277,14 +276,14 @@ def decode_cells(cells: bytes) -> Iterator[Cell]:
             paper = ink
         if code > SPACE:
             yield Cell(column, code, is_boxed, is_begun, ink == paper)
-        elif code < 8 or 0x10 <= code < 0x18:  # for the cells after it
+        elif code < 8 or 0x10 <= code < 0x18:  # acts on the next cells
             ink = code & 7
         last = code
 
 
 @functools.lru_cache(maxsize=1000)
 def find_visibility(cells: bytes) -> Visibility:
-    """Return how much of a row receivers show. Results are cached, since most rows are blank."""
+    """Return how much of a row receivers show; cached, since most rows are blank."""
     drawn_cells = [*decode_cells(cells)]
     if all(cell.is_shown for cell in drawn_cells):
         return Visibility.ALL
@@ -293,7 +292,7 @@ def find_visibility(cells: bytes) -> Visibility:
 
 
 def describe_hidden_characters(cells: bytes, option: str) -> str:
-    """Describe which characters of a row are hidden, by which decoders, and why."""
+    """Describe which characters of a row are hidden, by which decoders, and for which reason."""
     table = character_table(BY_WORD[option].bits)
 
     def text(several: Sequence[Cell]) -> str:
@@ -312,21 +311,21 @@ def describe_hidden_characters(cells: bytes, option: str) -> str:
 
 
 class HiddenRows(NamedTuple):
-    """Faults of rows that no receiver shows, and warnings of rows that some hide."""
+    """Faults of rows that no receiver shows, and warnings on rows that some receivers hide."""
 
     faults: list[NamedFault]
     warnings: list[Notice]
 
 
 def may_hide_rows(subtitles: Sequence[Subtitle], has_layout: bool) -> bool:
-    """Return whether a row may be hidden: only codes of a text or a layout can do that."""
+    """Return whether a row may be hidden: only certain codes in a text or layout do that."""
     return has_layout or any(bytes([code]) in subtitle.text
                              for subtitle in subtitles for code in HIDING)
 
 
 def find_hidden_rows(subtitles: Sequence[Subtitle], pages: Sequence[Rows], file: SubtitleFile,
                      option: str) -> HiddenRows:
-    """Return the faults and warnings on hidden rows of all subtitles."""
+    """Return the faults and the warnings on hidden rows in all subtitles."""
     hidden = HiddenRows([], [])
     for subtitle, page in zip(subtitles, pages):
         for row, cells in enumerate(page, 1):

@@ -1,4 +1,4 @@
-"""Judge a pair of subtitle file and recording, step by step."""
+"""Judge a subtitle file with its recording, step by step."""
 from __future__ import annotations
 
 import contextlib
@@ -36,12 +36,12 @@ from .transmissions import ExpectedPages, count_keeping_headers, read_subtitles,
 from .verdict import DELAYING_FAULTS, Verdict, find_gaps, measure_delay
 
 
-# Explaining why `check` refuses a part
+# Explaining why `check` refuses a part of the recording
 
 
 def explain_part(part: Part, verdict: Verdict, listener: Listener, is_result_written: bool) -> Part:
-    """Return a part with the explanation of its faults. `is_result_written`: results are written,
-    so the delays are computed even if --within is 0."""
+    """Return a part with the explanation of its faults. If `is_result_written`, compute the delays
+    even if --within is 0, since results contain them."""
     request, numbers = verdict.request, part.check_output.fault_numbers
     causes = find_part_causes(part) if numbers & WITH_CAUSE else None
     if causes:
@@ -61,7 +61,7 @@ def explain_part(part: Part, verdict: Verdict, listener: Listener, is_result_wri
 
 
 def describe_part_drawing(part: Part, causes: Causes, option: str) -> str:
-    """Describe how receivers draw a refused page differently though all characters are right."""
+    """Describe how a refused page is drawn differently although all its characters are correct."""
     if CONTENT not in part.check_output.fault_numbers:
         return ""
     due = part.expected_pages()
@@ -70,8 +70,7 @@ def describe_part_drawing(part: Part, causes: Causes, option: str) -> str:
 
 def measure_delays(part: Part, causes: Causes | None, request: Request, is_result_written: bool) \
         -> Sequence[int | None]:
-    """Return the delay of each subtitle of a part in frames; an empty list if no output has the
-    delays."""
+    """Return the delay of each subtitle in frames; an empty list if no output needs the delays."""
     timeline = causes.timeline if causes else part.decoded_pages
     if not (is_result_written or request.within) or not timeline:
         return ()
@@ -83,15 +82,15 @@ def measure_delays(part: Part, causes: Causes | None, request: Request, is_resul
 
 
 def find_hint(lead: WorstFault | None, part: Part, verdict: Verdict) -> str:
-    """Return the hint on the fault to report first."""
+    """Return the hint on the fault to report first, or an empty text."""
     return describe_first_hint(lead.fault, part, verdict) if lead else ""
 
 
-# Calling `check` for a part
+# Running `check` on a part of the recording
 
 
 def list_check_options(part: Part) -> list[str]:
-    """Return the options of `check` for a part."""
+    """Return the options for running `check` on a part."""
     recording, alignment = part.judged_recording
     first, last = part.pes or (0, 0)
     return [*recording.words(), "--pes", f"{first}-{last}", *part.request.check_arguments(),
@@ -99,7 +98,7 @@ def list_check_options(part: Part) -> list[str]:
 
 
 def check_part(part: Part, command_paths: CommandPaths, listener: Listener) -> None:
-    """Run `check` on the PES packets of a part, and list all faults."""
+    """Run `check` on the PES packets of a part, and read its list of faults."""
     recording, words = part.judged_recording[0], [*list_check_options(part), "--all"]
     listener.add_command(command_paths.program_command, "check", part.request.stl, recording.shown,
                          *words)
@@ -109,12 +108,11 @@ def check_part(part: Part, command_paths: CommandPaths, listener: Listener) -> N
     listener.printer.end_list(part.check_output.last_line)
 
 
-# The steps of judging
+# The steps of judging a pair
 
 
 class LocatedRecording(NamedTuple):
-    """A recording that was read, the parts of it with their clocks, and the subtitles of the file.
-    """
+    """A recording that was read, its parts and their clocks, and the subtitles in the file."""
 
     recording: Recording
     clocks: PartClocks
@@ -131,8 +129,8 @@ def find_adjoining_end(part: Part) -> int | None:
 
 
 def find_nearest_pauses(subtitles: Sequence[Subtitle], at: int) -> list[int]:
-    """Return the last TCO before frame `at` that a pause follows, and the first such TCO after the
-    frame. The end of the file counts as a pause."""
+    """Return the nearest TCO before frame `at` that a pause follows, and the nearest such TCO after
+    it. The end of the file counts as a pause."""
     ends = [subtitle.end for subtitle, other in zip(subtitles, subtitles[1:])
             if subtitle.end < other.begin]
     ends += [subtitles[-1].end] if subtitles else []
@@ -140,7 +138,7 @@ def find_nearest_pauses(subtitles: Sequence[Subtitle], at: int) -> list[int]:
 
 
 class PairJudge:
-    """Judge one pair step by step, and collect the results in `verdict`."""
+    """Judges a pair step by step, and collects the results in `verdict`."""
 
     def __init__(self, verdict: Verdict, command_paths: CommandPaths, names: OutputNames,
                  listener: Listener, is_result_written: bool) -> None:
@@ -148,14 +146,14 @@ class PairJudge:
         self.command_paths, self.names, self.listener = command_paths, names, listener
         self.is_result_written = is_result_written
         self.recording: Recording | None = None
-        self.current_part: Part | None = None  # the part that is being judged, or was last
+        self.current_part: Part | None = None  # the part judged now or last
 
     def format_call(self, *more: str) -> str:
-        """Return the command line of this call with more arguments."""
+        """Return the command line of this run with additional arguments."""
         return make_qc_command(self.request, self.command_paths, *more)
 
     def judge(self) -> None:
-        """Judge the pair; raise `Unclear` if the operator must settle something first."""
+        """Judge the pair; raise `Unclear` if the operator must decide something first."""
         request = self.request
         refuse_files(request)
         if request.language is not None:
@@ -175,7 +173,7 @@ class PairJudge:
 
     @contextlib.contextmanager
     def catch_missing_page(self) -> Iterator[None]:
-        """Add the fault of a page that is never sent to the verdict; after that nothing more can be
+        """If a page is never sent, add this fault to the verdict; then nothing more can be
         judged."""
         try:
             yield
@@ -187,8 +185,8 @@ class PairJudge:
                 self.listener.print_line(line)
 
     def stop(self, now: str) -> str:
-        """Keep the faults reported before a signal came. Return `now` with the time up to which the
-        recording was judged."""
+        """Keep the faults that were reported before a signal. Return the text `now` with the time
+        up to which the recording was judged."""
         part = self.current_part
         if part is None or any(known.check_output is part.check_output
                                for known in self.verdict.parts):
@@ -198,11 +196,11 @@ class PairJudge:
         time = part.check_output.find_last_time()
         return f"{now}, when check had reported {f'all up to {time}' if time else 'nothing yet'}"
 
-    # The subtitle file.
+    # Judging the subtitle file
 
     def judge_file(self) -> CheckOutput:
         """Return the faults of the subtitle file alone. If some subtitles are refused, store in the
-        verdict which other subtitles are judged."""
+        verdict which of the other subtitles are judged."""
         request, verdict = self.request, self.verdict
         if self.is_result_written:
             verdict.stl = sum_file(request.stl_path, request.stl)
@@ -216,8 +214,8 @@ class PairJudge:
         return answer
 
     def check_hidden_rows(self) -> None:
-        """Add faults for rows that no receiver shows, and warnings for rows that some receivers
-        hide."""
+        """Add faults for rows that no receiver shows, and warnings for rows that some receivers do
+        not show."""
         request, file = self.request, SubtitleFile(self.names.program_stl)
         if not may_hide_rows(decode_subtitles(file.data), bool(request.layout)):
             return
@@ -229,8 +227,8 @@ class PairJudge:
         self.verdict.warn(hidden.warnings)
 
     def check_alone(self) -> CheckOutput:
-        """Return the faults of the subtitle file; the fault of missing PES packets is among them.
-        """
+        """Return the faults of the subtitle file, including the fault that there is no PES
+        packet."""
         answer = check_file_alone(self.request, self.command_paths.program_path, self.names)
         if answer.verdict != REFUSED or not answer.fault_numbers <= STL_FAULTS | {EMPTY}:
             raise IncompleteAnswer(
@@ -238,8 +236,8 @@ class PairJudge:
         return answer
 
     def find_valid_subtitles(self, answer: CheckOutput) -> CheckOutput:
-        """Store which subtitles are judged though others are refused. Return the faults of the file
-        alone."""
+        """Store which subtitles can be judged although others are refused. Return the faults of the
+        file alone."""
         if self.request.recording is not None:
             file = SubtitleFile(self.names.program_stl, self.request.between)
             faults = (fault for fault, _ in answer.read_faults())
@@ -248,12 +246,12 @@ class PairJudge:
 
     @property
     def skipped_positions(self) -> frozenset[int]:
-        """Return the positions of the subtitles that are not judged."""
+        """Return the positions of subtitles that are not judged."""
         return self.verdict.valid_subtitles.skipped_positions \
             if self.verdict.valid_subtitles else frozenset()
 
     def judge_alone(self, answer: CheckOutput, is_refused: bool) -> None:
-        """Finish a pair whose subtitle file is refused, or that has no recording."""
+        """Complete the verdict if the subtitle file is refused, or if there is no recording."""
         report_file_check(self.request, self.command_paths, self.listener)
         answer.move_file(self.names.list_path)
         if is_refused:
@@ -273,8 +271,8 @@ class PairJudge:
                                                        part.open_subtitle_file()))
 
     def find_subtitles(self) -> list[Subtitle]:
-        """Return the subtitles to judge; raise `Unclear` if no subtitle is between --from and --to.
-        """
+        """Return the subtitles to judge; raise `Unclear` if no subtitle is between --from and
+        --to."""
         between = self.request.between
         if self.verdict.valid_subtitles:
             return self.verdict.valid_subtitles.judged
@@ -285,12 +283,12 @@ class PairJudge:
                           f"{time_of(between.begin)} or later and before {time_of(between.end)}")
         return subtitles
 
-    # The recording.
+    # Judging the recording
 
     @functools.cached_property
     def located_recording(self) -> LocatedRecording:
-        """Read the recording, once, and find its parts; raise `Unclear` if the parts are not clear.
-        """
+        """Read the recording once, and find its parts; raise `Unclear` if the parts are not
+        clear."""
         request = self.request
         subtitles = self.find_subtitles()
         self.verdict.subtitle_count = len(subtitles)
@@ -317,8 +315,8 @@ class PairJudge:
         return LocatedRecording(recording, clocks, subtitles)
 
     def is_continued(self, first: Subtitle) -> bool:
-        """Return whether a subtitle that is not judged adjoins the first judged one and has the
-        same text."""
+        """Return whether the subtitle before the first judged subtitle ends where this begins, and
+        has the same text."""
         request, option = self.request, BY_WORD[self.request.option]
         if not request.between.begin and not self.skipped_positions:
             return False
@@ -327,7 +325,7 @@ class PairJudge:
                    for one in decode_subtitles(SubtitleFile(self.names.program_stl).data))
 
     def refuse_range(self, recording: Recording) -> None:
-        """Raise `Unclear` if the recording has no PES packet in the range of --pes."""
+        """Raise `Unclear` if there is no PES packet in the range of --pes."""
         count, pes = recording.packets.count, self.request.pes
         if pes and count and pes[0] >= count:
             has = f"{counted(count, 'PES packet')}, 0-{count - 1}"
@@ -335,8 +333,8 @@ class PairJudge:
                           self.format_call("--pes", f"0-{count - 1}"))
 
     def judge_valid_subtitles(self, answer: CheckOutput) -> None:
-        """Judge the transmission of the subtitles that are not refused. If that fails, the file is
-        refused all the same, and a note gives the reason."""
+        """Judge the transmission of subtitles that are not refused. If that fails, the file is
+        still refused, and a note gives the reason."""
         try:
             with self.catch_missing_page():
                 self.judge_transmission()
@@ -352,7 +350,7 @@ class PairJudge:
         self.judge_alone(answer, True)
 
     def judge_transmission(self) -> None:
-        """Judge the recording, part by part."""
+        """Judge all parts of the recording."""
         recording, clocks, subtitles = self.located_recording
         programme = clocks.search._replace(skipped_positions=self.skipped_positions)
         if self.verdict.valid_subtitles:
@@ -371,7 +369,7 @@ class PairJudge:
 
     def parts_in(self, recording: Recording, alignments: list[TimedPart], programme: PartSearch,
                  subtitles: list[Subtitle]) -> list[Part]:
-        """Return the parts to judge, with their frames and clocks."""
+        """Return the parts to judge, with their frames and their clocks."""
         request = self.request
         alignments = choose_parts(alignments, programme.full_range)
         if len(alignments) > 1:
@@ -386,7 +384,7 @@ class PairJudge:
         return parts
 
     def judge_part(self, part: Part, programme: PartSearch, subtitles: list[Subtitle]) -> None:
-        """Judge a part: find its PES packets, measure their pace, run `check` and explain its
+        """Judge a part: find its PES packets, measure their intervals, run `check`, and explain the
         faults."""
         listener, request, (recording, _) = self.listener, part.request, part.judged_recording
         own = [subtitle for subtitle in subtitles if request.between.has(subtitle.begin)]
@@ -407,8 +405,8 @@ class PairJudge:
         self.add_part_warnings(part, subtitles)
 
     def refuse_adjoining_cut(self, part: Part) -> None:
-        """Raise `Unclear` if the only fault is that the next subtitle comes at the last TCO, since
-        --to cuts the file where subtitles adjoin."""
+        """Raise `Unclear` if the only fault is that the next subtitle comes at the last TCO,
+        because --to cuts the file between adjoining subtitles."""
         at = find_adjoining_end(part) if self.request.to_time and \
             not self.verdict.valid_subtitles else None
         if at is None or part.decoded_pages is None:
@@ -423,7 +421,7 @@ class PairJudge:
         if not due.pages or not fault or \
                 part.decoded_pages.page_at(fault.frame or at) != due.pages[0]:
             return
-        # Unless the range is the default one, refused subtitles are skipped, not an error.
+        # Without --from and --to, refused subtitles are skipped and are no error here.
         subtitles = read_subtitles(program, given, Between(0, FRAMES_OF_A_DAY + 1), request.is_open)
         raise Unclear(f"--to cuts the file at {time_of(at)}, where the next subtitle follows "
                       "directly: the page is right up to there, and is not erased",
@@ -431,7 +429,7 @@ class PairJudge:
                         for end in find_nearest_pauses(subtitles, at)))
 
     def check_pictures(self, part: Part) -> None:
-        """Add faults of pictures that drift from the subtitles of a part."""
+        """Add a fault for each time when pictures drift from the subtitles of a part."""
         recording, alignment = part.judged_recording
         faults, notes = find_desync(recording.survey, recording.packets.pid, alignment,
                                     part.request.within, part.number)
@@ -439,8 +437,8 @@ class PairJudge:
         self.listener.add_notes(*notes)
 
     def make_expected_pages(self, request: Request, subtitles: list[Subtitle]) -> ExpectedPages:
-        """Return the expected pages of a part; if the file has refused subtitles, only those of the
-        others."""
+        """Return the expected pages of a part; in a file with refused subtitles, only the expected
+        pages of the other subtitles."""
         if self.verdict.valid_subtitles:
             layout = parse_layout(request.layout or "") or PLAIN
             return draw_valid_pages(subtitles, request.page, request.option, layout)
@@ -448,7 +446,7 @@ class PairJudge:
                               request.page,
                               request.option, request.between, request.schedule_arguments())
 
-    # Anomalies that break no rule
+    # Anomalies that violate no rule
 
     def add_recording_warnings(self, recording: Recording, origin: int, part: TimedPart) -> None:
         """Add warnings about the recording and the PID."""
@@ -461,7 +459,7 @@ class PairJudge:
         self.verdict.warn([*warnings, *notices.character_set_notices(packets, self.request)])
 
     def add_part_warnings(self, part: Part, subtitles: list[Subtitle]) -> None:
-        """Add warnings about pauses in a part, and about how often the page is repeated."""
+        """Add warnings about pauses in a part, and about long intervals between page headers."""
         origin = part.judged_recording[1].origin
         times = [(subtitle.begin, subtitle.end) for subtitle in subtitles]
         self.verdict.warn([

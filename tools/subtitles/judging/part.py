@@ -1,4 +1,4 @@
-"""The parts of a pair that are judged separately: their subtitles, and why they are refused."""
+"""A part of a pair that is judged separately: its subtitles, and why they are refused."""
 from __future__ import annotations
 
 import array
@@ -29,7 +29,7 @@ from .transmissions import ExpectedPages, KeepingHeaders
 
 
 def no_expected_pages() -> ExpectedPages:
-    """Return no pages: a subtitle file that is refused has no expected pages."""
+    """Return an object without pages: a refused subtitle file has no expected pages."""
     return ExpectedPages([], [])
 
 
@@ -58,20 +58,20 @@ class Part:
     expected_pages: Callable[[], ExpectedPages] = no_expected_pages
     timeline: Callable[[], Timeline | None] = lambda: None
     severity: Severity | None = None
-    causes: Causes | None = None  # of refused content
-    delays: Sequence[int | None] = ()  # frames until each subtitle was complete
-    is_recording_read: bool = False  # also if there is no recording
-    hint: str = ""  # on the fault to report first
-    block_subtitle: str = ""  # the subtitle of the refused block
-    transmission_hint: str = ""  # on the first fault of the transmission
-    header_problem: str = ""  # the fault of the PES headers
-    drawing_differences: str = ""  # how receivers draw pages with the right characters differently
-    # Headers that don't erase the page, if they have no other fault.
+    causes: Causes | None = None  # of refused pages
+    delays: Sequence[int | None] = ()  # frames from each TCI until the subtitle was complete
+    is_recording_read: bool = False  # also set if there is no recording
+    hint: str = ""  # hint on the fault to report first
+    block_subtitle: str = ""  # description of the refused block's subtitle
+    transmission_hint: str = ""  # hint on the first fault of the transmission
+    header_problem: str = ""  # fault in the headers of PES packets
+    drawing_differences: str = ""  # how receivers draw correct characters differently
+    # Headers that do not erase the page but have no other fault
     keeping_headers: KeepingHeaders | None = None
 
     @property
     def packets(self) -> Packets:
-        """Return the packets on the PID of the part's recording."""
+        """Return the packets with the PID of the recording."""
         return self.recording.packets if self.recording else Packets(PES)
 
     @property
@@ -84,32 +84,32 @@ class Part:
 
     @property
     def stream(self) -> tuple[int, int] | None:
-        """Return the PID and the TS packet size in bytes, or `None` unless the recording is a
+        """Return the PID and the TS packet size in bytes; `None` unless the recording is a
         transport stream."""
         return self.recording.stream() if self.recording else None
 
     @property
     def judged_recording(self) -> tuple[Recording, TimedPart]:
-        """Return the recording and the frames of a part that has both."""
+        """Return the recording and the frames of the part, which must have both."""
         assert self.recording and self.alignment
         return self.recording, self.alignment
 
     @property
     def waived_numbers(self) -> set[int]:
-        """Return the fault numbers that the severity file makes warnings; none if all fault numbers
-        of the part are warnings, since these then decide the verdict."""
+        """Return the fault numbers that the severity file makes warnings; no numbers if these are
+        all faults of the part, since then they decide the verdict."""
         numbers = {number for number in self.check_output.fault_numbers
                    if self.severity and not self.severity.is_error(number)}
         return numbers if numbers != self.check_output.fault_numbers else set()
 
     @functools.cached_property
     def worst_fault(self) -> WorstFault | None:
-        """Return the fault to report first, if any; never a waived fault."""
+        """Return the fault to report first, which is never waived; `None` if there is none."""
         return find_worst_fault(self.check_output, self.causes, self.waived_numbers)
 
     @functools.cached_property
     def worst_transmission_fault(self) -> WorstFault | None:
-        """Return the first fault of the transmission, in a file with refused subtitles."""
+        """Return the transmission fault to report first, if the file has refused subtitles."""
         return find_worst_fault(self.check_output, self.causes,
                                 STL_FAULTS | {UNDECIDED} | self.waived_numbers)
 
@@ -120,7 +120,7 @@ class Part:
 
     @property
     def first_text(self) -> str:
-        """Return the text to report first."""
+        """Return the line of output to report first."""
         return self.worst_fault.fault.line if self.worst_fault else self.check_output.last_line
 
     @property
@@ -140,24 +140,24 @@ class Part:
                                    timeline=functools.lru_cache(maxsize=None)(timeline))
 
     def open_subtitle_file(self) -> SubtitleFile:
-        """Open the subtitle file of a part, to look up subtitles by block or frame."""
+        """Open the subtitle file, to find subtitles by block or frame."""
         return SubtitleFile(self.names.program_stl, self.request.between, self.skipped_positions)
 
     def summarize_check(self) -> CheckSummary:
-        """Return what decides the verdict on a part."""
+        """Return the values that decide the verdict on the part."""
         return self.check_output.summarize(self.is_recording_read)
 
     @property
     def is_refused(self) -> bool:
-        """Return whether a part has faults, of any severity."""
+        """Return whether the part has any faults, whatever their severity."""
         return self.check_output.verdict == REFUSED
 
     def is_read(self) -> bool:
-        """Return whether at least one PES packet of a part could be read."""
+        """Return whether at least one PES packet in the part could be read."""
         if self.pes is None:
             return False
         numbers = self.check_output.fault_numbers - STL_FAULTS
-        if not numbers:  # with refused subtitles, faults of the transmission show that it was read
+        if not numbers:  # faults of the transmission also show that PES packets were read
             return not self.check_output.fault_numbers or len(self.trusted_frames) > 0
         if numbers - SKIPPED_PACKETS - {EMPTY}:
             return True
@@ -165,13 +165,13 @@ class Part:
         return count > self.check_output.skipped_packets.total()
 
     def find_loss_places(self) -> list[LossPlace]:
-        """Return the places of the part's recording where packets are missing."""
+        """Return the places in the recording of the part where packets are missing."""
         return self.recording.places(self.jumps) if self.recording else []
 
     @functools.cached_property
     def unmarked_losses(self) -> list[Span]:
-        """Return the frames that miss packets without a gap marker, which `check` would report:
-        only the PCR shows these losses."""
+        """Return the frames that lack packets although there is no gap marker, which `check` would
+        report: only the PCR shows these losses."""
         if self.alignment is None:
             return []
         places = [place for place in self.find_loss_places() if place.gap_marker is None
@@ -180,22 +180,22 @@ class Part:
 
     @functools.cached_property
     def trusted_frames(self) -> Spans:
-        """Return the clean frames, except frames with lost packets."""
+        """Return the clean frames, without frames that lost packets."""
         return self.check_output.trusted_frames.without(self.unmarked_losses)
 
     def list_pts(self, flags: str = "") -> array.array[int]:
-        """Return the PTS of the part's PES packets, or only of packets with some of the flags
-        `flags`."""
+        """Return the PTS of the PES packets in the part, or only of packets that have some of the
+        flags `flags`."""
         return array.array("q", self.packets.pts(self.pes, flags) if self.pes else ())
 
     def find_options(self) -> set[str]:
-        """Return the national options in the headers of the page."""
+        """Return the national options in the page headers."""
         bits = {national_option(header) for run in self.packets.runs_between(*self.pes or NO_RANGE)
                 for header in parse_headers(run.control)}
         return {BY_BITS[one].word for one in bits if one != RESERVED}
 
     def count_headers(self) -> collections.Counter[bytes]:
-        """Count each header of the page that `check` reads."""
+        """Count how often each page header occurs in the PES packets that `check` reads."""
         counts: collections.Counter[bytes] = collections.Counter()
         for run in self.packets.runs_between(*self.pes or NO_RANGE):
             if run.pts is not None and not run.fault:
@@ -205,7 +205,7 @@ class Part:
 
     @property
     def pes_argument(self) -> str | None:
-        """Return the range of the part's PES packets as an argument of --pes."""
+        """Return the range of the part's PES packets as the value of --pes."""
         return self.pes and f"{self.pes[0]}-{self.pes[1]}"
 
     def time_codes(self) -> tuple[str, str] | tuple[None, None]:
@@ -215,8 +215,8 @@ class Part:
 
 
 def belongs_to_part(place: LossPlace, part: Part) -> bool:
-    """Return whether packets missing at a place belong to a part: the gap marker is among the
-    part's PES packets, or if there is no gap marker, frames of the part may lack packets."""
+    """Return whether missing packets belong to a part: their gap marker is among its PES packets
+    or, if there is no gap marker, some of its frames may lack packets."""
     if part.alignment is None:
         return False
     if place.gap_marker is not None and part.pes is not None:
@@ -228,12 +228,12 @@ def belongs_to_part(place: LossPlace, part: Part) -> bool:
     return not is_before and not is_after
 
 
-# The subtitles of each part
+# The subtitles in each part
 
 
 def choose_parts(alignments: Sequence[TimedPart], whole: TimedPart) -> list[TimedPart]:
-    """Return the parts to judge: the file as one part, or several parts, each with the subtitles
-    that begin in its frames."""
+    """Return the parts to judge: one part with all subtitles of the file, or several parts, each
+    with the subtitles that begin in its frames."""
     if len(alignments) == 1:
         return [whole._replace(clock=alignments[0].clock, packets=alignments[0].packets)]
     return [alignment._replace(between=Between(alignment.begin, alignment.end))
@@ -242,8 +242,8 @@ def choose_parts(alignments: Sequence[TimedPart], whole: TimedPart) -> list[Time
 
 def refuse_missing_subtitles(parts: Sequence[TimedPart], subtitles: Sequence[Subtitle],
                              stl: str) -> None:
-    """Raise `Unclear` unless the parts together have the subtitles of `stl`, in the order of the
-    file."""
+    """Raise `Unclear` unless all parts together have the subtitles of the file `stl`, in the same
+    order."""
     own = [subtitle for part in parts for subtitle in subtitles if part.between.has(subtitle.begin)]
     left = len(subtitles) - len(own)
     if left > 0:
@@ -253,11 +253,11 @@ def refuse_missing_subtitles(parts: Sequence[TimedPart], subtitles: Sequence[Sub
         raise Unclear(f"the parts of {stl} would have other subtitles than the file")
 
 
-# The causes of a part, by the pages decoded around it
+# Causes of the faults in a part, from the pages decoded around it
 
 
 def find_part_causes(part: Part) -> Causes | None:
-    """Return the causes of faults in a part that was judged, or `None` if there are no causes."""
+    """Return the causes of faults in a judged part; `None` if no fault has a cause."""
     request, (recording, alignment) = part.request, part.judged_recording
     lost = part.find_loss_places() if recording.is_stream else []
     held = decode_near(part.packets, request.page, alignment.origin, request.within,
@@ -271,7 +271,7 @@ def find_part_causes(part: Part) -> Causes | None:
 
 
 def find_recorded_span(pts: tuple[int, int] | None, alignment: TimedPart) -> Span | None:
-    """Return the frames between two PTS, which were all recorded, or `None` if PTS go back."""
+    """Return the frames between two PTS, all of which were recorded; `None` if PTS decrease."""
     if pts is None or alignment.packets:
         return None
     first, last = (ticks_within(pts_of(alignment.begin, alignment.origin),
@@ -282,8 +282,8 @@ def find_recorded_span(pts: tuple[int, int] | None, alignment: TimedPart) -> Spa
 def find_lost_spans(places: Sequence[LossPlace], origin: int, within: int,
                     is_with_next: bool = True) \
         -> Iterator[Span]:
-    """Return the frames that may lack packets at some places, with or without the frame of the next
-    PES packet."""
+    """Find the frames that may lack packets because of losses at some places; include the frame of
+    the next PES packet or not."""
     for place in places:
         first, last = (None if pts is None else frame_in(pts, origin, within)
                        for pts in (place.before, place.after))
@@ -292,7 +292,7 @@ def find_lost_spans(places: Sequence[LossPlace], origin: int, within: int,
 
 
 def report_causes(listener: Listener, causes: Causes, option: str) -> None:
-    """Print the first causes, and how many more there are."""
+    """Print the first causes, and the number of further causes."""
     wording, every = CauseDescriber(causes, option), causes.list_causes()
     for cause in every[:MAX_LIST_LINES]:
         listener.print_line(wording.format_line(cause))

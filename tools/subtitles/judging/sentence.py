@@ -1,4 +1,4 @@
-"""Choose the fault to report first, and write the sentence of a verdict."""
+"""Choose the fault to report first, and write the sentence of the verdict."""
 from __future__ import annotations
 
 import collections
@@ -23,20 +23,20 @@ from .pages import format_page_text
 from .status import ACCEPTED, LOST, NOT_ANSWERED, NOT_JUDGED, REFUSED, RELATIVE, WAIVED, WARNED
 
 
-# The sentence, reports and batch tables begin with the fault of the worst rank.
+# Sentences, reports and batch tables begin with the fault of the worst rank.
 
 
 class Rank(enum.IntEnum):
-    """Severity of a fault for viewers, worst first."""
+    """Severity of a fault for viewers; the worst rank comes first."""
 
-    FILE = 0  # the subtitle file itself is refused: nothing of it should be sent
+    FILE = 0  # the subtitle file is refused, so it should not be sent at all
     NEVER = 1  # viewers see nothing of a subtitle
-    WRONG = 2  # viewers see something else, or something hides it
-    MOVED = 3  # viewers see it late or early
-    COLOUR = 4  # viewers see it in another colour, height or box
-    SOME = 5  # viewers of some receivers see that something is wrong
-    UNSEEN = 6  # the transmission was not received there
-    LATER = 7  # viewers may see it with other receivers, in weak reception, or when they switch on
+    WRONG = 2  # viewers see a wrong text, or a text that something hides
+    MOVED = 3  # viewers see a text late or early
+    COLOUR = 4  # viewers see a text in another colour, height or box
+    SOME = 5  # viewers with some receivers see a fault
+    UNSEEN = 6  # nothing was received at that time
+    LATER = 7  # viewers may see it with other receivers, with weak reception, or after switching on
 
 
 CAUSE_RANKS = {
@@ -46,8 +46,8 @@ CAUSE_RANKS = {
     UNKNOWN_CAUSE: Rank.WRONG, LATE: Rank.MOVED, EARLY: Rank.MOVED,
     WRONG_ATTRIBUTE: Rank.COLOUR,
     NOT_RECEIVED: Rank.UNSEEN}
-# Receivers drop PES packets with 31 to 40; 60 to 62 are faults of times, 67 and 68 of headers and
-# characters. Without a cause 63 and 74 mean that the recording begins too late or ends too early.
+# Receivers ignore PES packets with the faults 31 to 40; 60 to 62 are time faults, 67 and 68 header
+# and character faults. Without a cause, 63 and 74 mean an incomplete recording.
 NUMBER_RANKS = {
     **dict.fromkeys(STL_FAULTS, Rank.FILE),
     CONTENT: Rank.WRONG, INCOMPLETE: Rank.WRONG,
@@ -59,42 +59,42 @@ NAME_RANKS = {NEVER_SENT: Rank.NEVER, NOT_SHOWN: Rank.WRONG, PICTURES_LEFT: Rank
 
 
 def find_worst_named_fault(faults: Sequence[NamedFault], than: Rank | None) -> NamedFault | None:
-    """Return the first of the worst named faults, or `None` if the rank `than` is worse."""
+    """Return the first named fault with the worst rank; `None` if the rank `than` is worse."""
     worst = min(faults, key=lambda fault: NAME_RANKS[fault.name]) if faults else None
     return worst if worst and (than is None or NAME_RANKS[worst.name] <= than) else None
 
 
 def rank_number(number: int) -> Rank:
-    """Return how severe a fault number is for viewers."""
+    """Return the rank of a fault number: how severe it is for viewers."""
     return NUMBER_RANKS.get(number, Rank.LATER)
 
 
 def rank_cause(cause: Cause) -> Rank:
-    """Return how severe a cause is for viewers. Causes that may be no fault come after certain
-    ones."""
+    """Return the rank of a cause: how severe it is for viewers. A cause that may be no fault ranks
+    after certain causes."""
     return Rank.UNSEEN if cause.may_be_correct else CAUSE_RANKS[cause.name]
 
 
 def find_worst_cause(causes: Iterable[Cause]) -> Cause | None:
-    """Return the first of the most severe causes, or `None` if there are no causes."""
+    """Return the first of the causes with the worst rank, or `None` if there is no cause."""
     several = [*causes]
     return min(several,
                key=lambda cause: (rank_cause(cause), cause.subtitle_index)) if several else None
 
 
 class WorstFault(NamedTuple):
-    """The fault to report first: its rank, its position among the faults of that rank, and its
-    line."""
+    """The fault to report first: its rank, its position among the faults with this rank, and its
+    fault line."""
 
     rank: Rank
     place: int
     fault: FaultLine
-    is_caused: bool = False  # by the cause of a subtitle
+    is_caused: bool = False  # whether a subtitle has a cause for it
 
 
 def find_worst_fault(answer: CheckOutput, causes: Causes | None,
                      left_out: Collection[int] = ()) -> WorstFault | None:
-    """Return the first of the most severe faults of a part, except faults with a number in
+    """Return the first of the faults with the worst rank in a part, ignoring the fault numbers in
     `left_out`."""
     is_caused = bool(causes and causes.by_index)
     leads = [WorstFault(rank_number(number), at, told)
@@ -108,8 +108,8 @@ def find_worst_fault(answer: CheckOutput, causes: Causes | None,
 
 
 def find_fault_line(answer: CheckOutput, causes: Causes, cause: Cause) -> FaultLine | None:
-    """Return the fault line of a cause: the last line up to the first frame with a wrong page, or
-    else the first line."""
+    """Return the fault line for a cause: the last line up to the first frame with a wrong page, or
+    else the first line of the list."""
     edge = next((number for number in (BEGIN, END)
                  if causes.by_end_fault.get(number) == cause.subtitle_index
                  and number in answer.first_faults), None)
@@ -125,7 +125,7 @@ def find_fault_line(answer: CheckOutput, causes: Causes, cause: Cause) -> FaultL
     return last
 
 
-# A clause for each fault number, after `Refused: at TIME`; the manual's tables have all its cases.
+# Clauses by fault number, after `Refused: at TIME`. The tables of the manual explain all cases.
 
 FAULT_CLAUSES = {
     10: "the file ends within the GSI block (1024 bytes) or within a TTI block (128 bytes)",
@@ -191,7 +191,7 @@ FAULT_CLAUSES = {
 
 # The sentence of a verdict: the fault, its first time, and the number of subtitles
 
-# The predicate of a cause, for one subtitle and for several.
+# Predicate for a cause, with one subtitle and with several
 CAUSE_PREDICATES = {
     NEVER: ("was never sent", "were never sent"),
     OTHER_TEXT: ("has another subtitle's text", "have other subtitles' texts"),
@@ -203,13 +203,13 @@ CAUSE_PREDICATES = {
     ERASED: ("is erased before its TCO", "are erased before their TCO"),
     NOT_RECEIVED: ("was not received", "were not received"),
     UNKNOWN_CAUSE: ("is not as expected", "are not as expected")}
-HINTS_ON_ALL = {GAP, OFF_FRAME}  # faults whose hint is about everything that was judged
-HINTS_FOR_CLAUSE = {CONTROL, PARITY}  # faults whose hint replaces the clause
-MAX_NUMBERS = 4  # listed in a sentence
+HINTS_ON_ALL = {GAP, OFF_FRAME}  # faults whose hint is about all judged frames
+HINTS_FOR_CLAUSE = {CONTROL, PARITY}  # faults whose hint replaces their clause
+MAX_NUMBERS = 4  # maximum number of fault numbers listed in a sentence
 
 
 class FaultCount(NamedTuple):
-    """The number of faults that have one fault number."""
+    """The number of faults with the same fault number."""
 
     number: int
     name: str
@@ -217,11 +217,11 @@ class FaultCount(NamedTuple):
 
 
 class Facts(NamedTuple):
-    """Everything that the sentence of a verdict is made from.
+    """The facts from which the sentence of a verdict is made.
 
-    `word` is the verdict and `first` the fault to report first. `hint` explains that fault,
-    `counts` has all faults by number, `lost` the lines of gaps, `warnings` the kinds of warnings
-    that count, and `named` the text of the first fault without a number.
+    `word` is the verdict, `first` the fault to report first, and `hint` explains this fault.
+    `counts` has the number of faults by fault number, `lost` the lines about gaps, `warnings` the
+    kinds of warnings, and `named` the text of the first fault without a number.
     """
 
     word: str
@@ -237,14 +237,14 @@ class Facts(NamedTuple):
     lost: Sequence[str] = ()
     warnings: Sequence[str] = ()
     reason: str | None = None
-    is_file: bool = False  # a subtitle file alone
-    refused: str = ""  # which subtitles are refused, if the others are judged
+    is_file: bool = False  # whether there is no recording
+    refused: str = ""  # description of refused subtitles, if other subtitles are judged
     within: int = 0
     named: str = ""
-    waived: Sequence[FaultCount] = ()  # if something else is refused
-    parts: int = 1  # each with its own clock
-    delay: int = 0  # frames by which all subtitles are late by the given clock
-    has_picture: bool = False  # the recording has a first picture for `--start`
+    waived: Sequence[FaultCount] = ()  # set only if other faults are not waived
+    parts: int = 1  # number of parts with their own clock
+    delay: int = 0  # delay in frames that all subtitles have by a given clock
+    has_picture: bool = False  # whether --start can give the time of a first picture
 
 
 def write_sentence(seen: Facts) -> str:
@@ -272,12 +272,12 @@ def write_sentence(seen: Facts) -> str:
 
 
 def describe_waived_faults(seen: Facts) -> str:
-    """Describe faults that the severity file makes warnings."""
+    """Describe the faults that the severity file makes warnings."""
     return f"Waived, since these faults are declared as warnings: {describe_faults(seen)}"
 
 
 def describe_relative_match(seen: Facts) -> str:
-    """Describe how the subtitles match by an estimated clock, and which delay is not checked."""
+    """Describe how well the subtitles match an estimated clock, and which delay was not checked."""
     within = f" within {counted(seen.within, 'frame')}" if seen.within else ""
     if seen.faults or seen.refused:
         found, delay = describe_waived_faults(seen), "a delay that all subtitles share"
@@ -293,7 +293,7 @@ def describe_relative_match(seen: Facts) -> str:
 
 
 def describe_success(seen: Facts) -> str:
-    """Describe subtitles without a fault."""
+    """Describe that subtitles have no fault."""
     subtitles = counted(seen.subtitles, "subtitle")
     if seen.is_file:
         return f"{subtitles} without a fault"
@@ -303,7 +303,7 @@ def describe_success(seen: Facts) -> str:
 
 
 def describe_valid_subtitles(seen: Facts) -> str:
-    """Describe which subtitles are refused, and the result of judging the others."""
+    """Describe the refused subtitles, and the result of judging the other subtitles."""
     others = f"{counted(seen.subtitles, 'other subtitle')} " \
         f"{'was' if seen.subtitles == 1 else 'were'} judged"
     sent = seen._replace(refused="")
@@ -316,13 +316,13 @@ def describe_valid_subtitles(seen: Facts) -> str:
 
 
 def describe_text_period(seen: Facts) -> str:
-    """Describe in which frames subtitles must have their text."""
+    """Describe the frames in which subtitles must have their text."""
     return f"within {counted(seen.within, 'frame')}" if seen.within else \
         "from the first frame to the last"
 
 
 def describe_faults(seen: Facts) -> str:
-    """Describe the worst fault with its first place, then count the other faults."""
+    """Describe the worst fault and its first place, and count the other faults."""
     if seen.refused:
         return describe_valid_subtitles(seen)
     words = describe_first_fault(seen)
@@ -334,13 +334,13 @@ def describe_faults(seen: Facts) -> str:
 
 
 def describe_delay(subtitles: int, delay: int) -> str:
-    """Describe by how many frames all subtitles are late or early."""
+    """Describe by how many frames all subtitles are late or early, if all have the same delay."""
     which = f"all {subtitles:,} subtitles" if subtitles > 1 else "the subtitle"
     return f"{which} appeared {counted(abs(delay), 'frame')} {LATE if delay > 0 else EARLY}"
 
 
 def describe_first_fault(seen: Facts) -> str:
-    """Describe the first fault with its place, and count the faults by fault number."""
+    """Describe the first fault and its place, and count the faults with this fault number."""
     fault = seen.first
     if fault is None and seen.named:
         return seen.named + f"; {seen.faults:,} faults in all" * (seen.faults > 1)
@@ -364,7 +364,7 @@ def describe_first_fault(seen: Facts) -> str:
 
 
 def describe_other_faults(seen: Facts) -> str:
-    """Count the faults that are neither content faults nor have the first fault's number."""
+    """Count the faults that are not content faults and differ in number from the first fault."""
     first = seen.first.number if seen.first else None
     others = [count for count in seen.counts
               if count.number not in WITH_CAUSE and count.number != first]
@@ -372,7 +372,7 @@ def describe_other_faults(seen: Facts) -> str:
 
 
 def describe_counts(several: Sequence[FaultCount]) -> str:
-    """Describe counts by fault number, worst first; only the first few if there are many."""
+    """Describe the number of faults by fault number, worst first, for the first few numbers."""
     rising = sorted(several, key=lambda count: (rank_number(count.number), count.number))
     words = [f"{count.number} {count.name}" +
              (f" ({count.fault_count:,})" if count.fault_count > 1 else "") for count in rising]
@@ -382,7 +382,7 @@ def describe_counts(several: Sequence[FaultCount]) -> str:
 
 
 def describe_causes(causes: Causes, option: str) -> str:
-    """Describe the worst cause with its first subtitle, and count the other causes."""
+    """Describe the worst cause and its first subtitle, and count the other causes."""
     every = causes.list_causes()
     worst = find_worst_cause(every)
     assert worst
@@ -399,7 +399,7 @@ def describe_causes(causes: Causes, option: str) -> str:
 
 
 def describe_single_cause(cause: Cause, causes: Causes, option: str) -> str:
-    """Describe the cause of one subtitle."""
+    """Describe a cause that applies to only one subtitle."""
     subtitle = causes.expected.subtitles[cause.subtitle_index]
     if cause.name == TEXT_IN_PAUSE:
         sent = format_page_text(cause.sent_page, BY_WORD[option].bits) if cause.sent_page else ""
@@ -418,7 +418,7 @@ def describe_single_cause(cause: Cause, causes: Causes, option: str) -> str:
 
 
 def describe_shared_cause(causes: Sequence[Cause], subtitles: Sequence[Subtitle]) -> str:
-    """Describe a cause that several subtitles share: how many subtitles, the first and the last."""
+    """Describe the cause of several subtitles: their number, the first and the last of them."""
     first, last = subtitles[causes[0].subtitle_index], subtitles[causes[-1].subtitle_index]
     name = causes[0].name
     if name == TEXT_IN_PAUSE:

@@ -1,4 +1,4 @@
-"""Decide the verdict, its exit status, and which faults count as errors; nothing else does."""
+"""Decide the verdict, its exit status, and which faults are errors. No other module does so."""
 from __future__ import annotations
 
 from typing import Collection, Iterable, NamedTuple, Sequence
@@ -9,22 +9,22 @@ from ..formats.listing import ENDS_READING, FAULT_NAMES, LOST_PACKETS, SILENT
 from ..request.lines import MAX_PROFILE_BYTES, decode_text
 
 
-# Severities
+# Severity of faults
 
 ERROR, WARNING = "error", "warning"
-OTHERS = "others"  # all numbers and names that the severity file does not list
-# The fault numbers of all commands: packets and files, texts, transmissions.
+OTHERS = "others"  # in a severity file: all numbers and names that the file does not list
+# Fault numbers that any command reports: of packets and files, of texts, of transmissions
 FAULT_NUMBERS = {3, 4, *range(10, 26), *range(30, 41), 44, LOST_PACKETS, *range(50, 58),
                  *range(60, 75), *range(76, 80), 82}
-CHECK_FAULTS = FAULT_NUMBERS - {3, 4, 82}  # the fault numbers that `check` reports
+CHECK_FAULTS = FAULT_NUMBERS - {3, 4, 82}  # fault numbers that `check` reports
 
 
 class Severity:
-    """Severity of each fault number or fault name: an error, unless the severity file at `path`
-    says otherwise.
+    """The severity of each fault number and fault name: an error, unless the severity file at
+    `path` makes it a warning.
 
-    `is_loss_allowed` (--allow-lost) makes lost packets a warning; `default` in the file never does.
-    If lost packets are a warning, so is a silence, unless the file names it.
+    `is_loss_allowed` (--allow-lost) makes lost packets a warning; `others` never does. If lost
+    packets are a warning, too long a time without PES packets (79) is a warning too by default.
     """
 
     def __init__(self, path: str | None, is_loss_allowed: bool = False) -> None:
@@ -37,8 +37,7 @@ class Severity:
                 self.read_line(path, at, line.partition("#")[0].split())
 
     def read_line(self, path: str, line_number: int, words: list[str]) -> None:
-        """Read the words of one line of the severity file; raise `Stop` if the line is malformed.
-        """
+        """Parse the words on one line of the severity file; raise `Stop` if the line is invalid."""
         if not words:
             return
         *names, severity = words
@@ -56,7 +55,7 @@ class Severity:
             raise Stop(f"{path}, line {line_number}: no refusal has the number {name}")
 
     def classify(self, number: int | str) -> str:
-        """Return whether a fault number or a fault name is an error or a warning."""
+        """Return whether faults with a number or name are errors or warnings."""
         if number in ENDS_READING:
             return ERROR
         if number == LOST_PACKETS:
@@ -65,20 +64,20 @@ class Severity:
         return self.by_fault.get(number, WARNING if is_loss else self.default)
 
     def is_error(self, number: int | str) -> bool:
-        """Return whether a fault number or name is an error."""
+        """Return whether faults with a number or name are errors."""
         return self.classify(number) == ERROR
 
 
-# Verdicts and exit statuses
+# Verdicts and their exit statuses
 
-ACCEPTED, WAIVED = "accepted", "waived"  # waived: all faults are warnings
-RELATIVE = "relative"  # would be accepted or waived, but no clock was given
+ACCEPTED, WAIVED = "accepted", "waived"  # a waived pair has only faults that are warnings
+RELATIVE = "relative"  # accepted or waived by an estimated clock, since no clock was given
 REFUSED = "refused"
-LOST = "lost"  # would be accepted or waived, but TS packets are lost
-WARNED = "warned"  # would be accepted or waived, but there are warnings and --strict
+LOST = "lost"  # no errors, but TS packets are lost
+WARNED = "warned"  # no errors, but --strict makes the warnings errors
 NOT_JUDGED = "not judged"
 STATUSES = {ACCEPTED: 0, WAIVED: 0, REFUSED: 1, LOST: 1, WARNED: 1, NOT_JUDGED: 2, RELATIVE: 3}
-POSSIBLE_RESULTS = [*STATUSES.items(), (RELATIVE, 0)]  # the last pair with --relative
+POSSIBLE_RESULTS = [*STATUSES.items(), (RELATIVE, 0)]  # the last entry is for --relative
 WORST_FIRST = (2, 1, 3, 0)
 
 NOT_ANSWERED = "check gave no verdict"
@@ -86,12 +85,12 @@ NOTHING_READ = "nothing of the recording was read, and --severity makes all faul
 
 
 class CheckSummary(NamedTuple):
-    """Result of `check` for one part.
+    """The result of `check` for one part.
 
-    `exit_status` is the exit status: negative if a signal ended `check`, `None` if `check` is still
-    running. `is_accepted`: the last line accepts the part. `fault_count` is the number of reported
-    faults, `fault_numbers` are their fault numbers, and `printed_total` is the total on the last
-    line. `is_read`: `check` read some of the recording, or there is no recording.
+    `exit_status` is negative if a signal ended `check`, and `None` while `check` is running.
+    `is_accepted` says whether the last line accepts the part. `fault_count` is the number of
+    reported faults, `fault_numbers` has their fault numbers, and `printed_total` is the total on
+    the last line. `is_read` is set if `check` read any PES packet, or if there is no recording.
     """
 
     exit_status: int | None
@@ -103,15 +102,15 @@ class CheckSummary(NamedTuple):
 
 
 class Grounds(NamedTuple):
-    """Everything that decides a verdict.
+    """All values that decide a verdict.
 
     `judged_losses` has an entry for each place where only the PCR shows that TS packets are lost:
     whether the verdict covers frames there. `check` reports all other losses as fault 45, with the
-    same effect. `warnings` are the kinds of anomalies that break no rule. `reasons` say why the
-    pair was not judged. `failed_outputs` names outputs that could not be written, or that would
-    describe other files. `named_faults` are the faults without a number. `has_clock`: the clock of
-    the recording was given, or there is no recording. Without a given clock a delay that all
-    subtitles share cannot be seen, so the best verdict is `relative`.
+    same effect. `warnings` are the kinds of anomalies that violate no rule. `reasons` say why the
+    pair was not judged. `failed_outputs` names the outputs that could not be written, or that would
+    describe other files. `named_faults` are the faults without a number. `has_clock` is set if the
+    clock was given, or if there is no recording. Without a clock, a delay that all subtitles share
+    can't be detected, so the best verdict is `relative`.
     """
 
     parts: Sequence[CheckSummary]
@@ -123,11 +122,11 @@ class Grounds(NamedTuple):
     failed_outputs: Sequence[str] = ()
     named_faults: Sequence[str] = ()
     has_clock: bool = False
-    is_relative_allowed: bool = False  # --relative
+    is_relative_allowed: bool = False  # value of --relative
 
 
 class Decision(NamedTuple):
-    """A verdict in one word; `reason` says why it is not judged, if `Grounds` has no reason."""
+    """A verdict in one word, and the reason why the pair is not judged if `Grounds` has none."""
 
     word: str
     reason: str | None = None
@@ -135,12 +134,12 @@ class Decision(NamedTuple):
 
     @property
     def status(self) -> int:
-        """Return the exit status."""
+        """Return the exit status of the verdict."""
         return 0 if self.word == RELATIVE and self.is_relative_allowed else STATUSES[self.word]
 
 
 def decide_part(summary: CheckSummary) -> str:
-    """Return the verdict on one part; its last line, faults and exit status must all agree."""
+    """Return the verdict on one part. Last line, faults and exit status of `check` must agree."""
     if summary.exit_status == 0 and summary.is_accepted and not summary.fault_count and \
             not summary.fault_numbers:
         return ACCEPTED
@@ -154,9 +153,9 @@ def decide_part(summary: CheckSummary) -> str:
 def decide(grounds: Grounds) -> Decision:
     """Return the verdict on all parts of a pair.
 
-    Anything missing, unread or unwritten makes the pair not judged. After that an error counts
+    If anything is missing, unread or unwritten, the pair is not judged. Otherwise an error counts
     before a loss, a loss before a warning, and a warning before a missing clock. A fault without a
-    number, such as a page that is never sent, counts even if there are no parts.
+    number, for example a page that is never sent, counts even if there are no parts.
     """
     words = [decide_part(part) for part in grounds.parts]
     if grounds.reasons or grounds.failed_outputs:
@@ -178,14 +177,14 @@ def decide(grounds: Grounds) -> Decision:
 
 
 def matches_exit_status(word: str, status: int, exit_status: int) -> bool:
-    """Return whether a call ended with the status of its JSON result, and that status can belong to
-    the verdict."""
+    """Return whether a run of qc ended with the exit status in its JSON result, and the status is
+    possible for its verdict."""
     return status == exit_status and (word, status) in POSSIBLE_RESULTS
 
 
 def combine_statuses(statuses: Iterable[int], is_stopped: bool = False) -> int:
-    """Return the exit status of several verdicts: the worst status, or 2 if there is no verdict or
-    some pairs are missing."""
+    """Return the exit status for several verdicts: the worst of their statuses, or 2 if there is no
+    verdict or if some pairs are missing."""
     found = {*statuses}
     if is_stopped or not found or not found <= {*WORST_FIRST}:
         return 2

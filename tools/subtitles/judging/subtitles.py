@@ -1,5 +1,5 @@
-"""Refused subtitles of a file: advice on midnight and characters, and which of the others are
-judged."""
+"""Refused subtitles of a file: advice on midnight and on characters, and which of the other
+subtitles are judged."""
 from __future__ import annotations
 
 import functools
@@ -25,13 +25,13 @@ from .transmissions import ExpectedPages
 # Subtitle files that continue after midnight, or begin with a title at 00:00:00:00
 
 HOUR = 3600 * FRAMES_A_SECOND
-TCI, TCO = slice(5, 9), slice(9, 13)  # of a TTI block
+TCI, TCO = slice(5, 9), slice(9, 13)  # bytes of TCI and TCO in a TTI block
 AT_MIDNIGHT = "the file runs past midnight: split it there"
 
 
 def advise_on_midnight(fault: FaultLine, subtitles: SubtitleFile) -> str:
-    """Advise to cut a file with a fault where times fall from over 23:00 to under 01:00; return an
-    empty text for other faults."""
+    """Advise the operator to cut a file whose times fall from over 23:00 to under 01:00 at a fault;
+    return an empty text for other faults."""
     if fault.block is None or fault.number not in (EMPTY_TIME, OUT_OF_ORDER):
         return ""
     if fault.number == EMPTY_TIME:
@@ -45,8 +45,8 @@ def advise_on_midnight(fault: FaultLine, subtitles: SubtitleFile) -> str:
 
 
 def advise_on_title(subtitles: SubtitleFile) -> str:
-    """Describe how to skip a first subtitle at 00:00:00:00, an hour before all others; return an
-    empty text if there is none."""
+    """Describe how to skip a first subtitle at 00:00:00:00 that is an hour before all others;
+    return an empty text if there is none."""
     rest = min((frame for frame in subtitles.begins if frame), default=0)
     if not rest >= HOUR or subtitles.begins[0]:
         return ""
@@ -55,38 +55,38 @@ def advise_on_title(subtitles: SubtitleFile) -> str:
 
 
 def falls_at_midnight(earlier: bytes, later: bytes) -> bool:
-    """Return whether a time code is in the last hour of a day, and the next time code in the first
+    """Return whether one time code is in the last hour of a day and the next is in the first
     hour."""
     first, second = frame_of_code(earlier), frame_of_code(later)
     return first is not None and second is not None and \
         first >= FRAMES_OF_A_DAY - HOUR and second < HOUR
 
 
-# Characters that the national option lacks (50)
+# Characters that the national option lacks (fault 50)
 
 
 class OptionAdvice:
-    """Advice on characters of a subtitle file that the national option lacks."""
+    """Gives advice on characters in a subtitle file that the national option lacks."""
 
     def __init__(self, subtitles: SubtitleFile, option: str) -> None:
         self.subtitles, self.option = subtitles, option
 
     @functools.cached_property
     def complete_options(self) -> list[NationalOption]:
-        """Return the other national options that have every character of the file."""
+        """Return the other national options that have all characters in the file."""
         texts = {self.subtitles.text(block) for block in self.subtitles.list_last_blocks()}
         return [option for option in OPTIONS if option.word != self.option
                 and all(has_characters(text, option) for text in texts)]
 
     def advise(self, block: int, offset: int) -> str:
-        """Return advice on the byte at offset `offset` of the text that ends in a block."""
+        """Return advice on the byte at offset `offset` in the text that ends in a TTI block."""
         text = self.subtitles.text(block)
         return "" if offset >= len(text) else advise_on_character(
             character_bytes(text, offset), self.complete_options)
 
 
 def advise_on_character(letter: bytes, complete_options: list[NationalOption]) -> str:
-    """Return advice on a missing character; the options `complete_options` have every character of
+    """Return advice on a missing character. The options `complete_options` have all characters in
     the file."""
     if complete_options:
         verb = "has" if len(complete_options) == 1 else "have"
@@ -103,38 +103,37 @@ def advise_on_character(letter: bytes, complete_options: list[NationalOption]) -
 
 
 def format_options(options: list[NationalOption]) -> str:
-    """Return national options as an argument to type."""
+    """Format national options as arguments on a command line."""
     return "--option " + ", ".join(option.word for option in options)
 
 
-# The subtitles that are judged though others are refused
+# Subtitles that are judged although others are refused
 #
-# `check --all` judges the transmission from each subtitle without a fault to the next such one. No
-# fault line names such a subtitle, nor says that the next subtitle is out of order or overlaps.
+# `check --all` judges the transmission from each correct subtitle to the next one. A subtitle is
+# correct if no fault line names it or says that the next one is out of order or overlaps it.
 
-# Subtitles with these faults are not compared with others.
+# Subtitles with these faults are not compared with other subtitles.
 NOT_COMPARED = {16, *range(18, 22)}
-ORDER_FAULTS = {56, 57}  # faults of a comparison with the previous subtitle
-MAX_NAMED = 3  # refused subtitles in the sentence
-PAGE_FLAGS, ERASE_FLAGS = "heo", "heb"  # flags of a PES packet with a page, or a blank one
+ORDER_FAULTS = {56, 57}  # faults found by comparing a subtitle with the previous one
+MAX_NAMED = 3  # maximum number of refused subtitles in the sentence
+PAGE_FLAGS, ERASE_FLAGS = "heo", "heb"  # flags of a PES packet with a page, and with a blank page
 
 
 class SubtitleCounts(NamedTuple):
-    """The number of judged subtitles, and the number of subtitles that are refused or skipped with
-    them."""
+    """The number of judged subtitles, and the number of subtitles that are refused or are skipped
+    because of refused ones."""
 
     judged: int
     refused: int
 
     def describe(self) -> str:
-        """Return both numbers as a clause, or an empty text if no subtitle is refused."""
+        """Return both numbers as a clause; an empty text if no subtitle is refused."""
         return f"{counted(self.judged, 'subtitle')} judged, {self.refused:,} refused" \
             if self.refused else ""
 
 
 class RefusedSubtitle(NamedTuple):
-    """A refused subtitle, the first fault line that names the subtitle, the refused character, and
-    advice."""
+    """A refused subtitle, the first fault line about it, its refused character, and advice."""
 
     subtitle: NamedSubtitle
     fault: FaultLine
@@ -142,38 +141,38 @@ class RefusedSubtitle(NamedTuple):
     advice: str
 
     def describe_subtitle(self) -> str:
-        """Return the name of the subtitle, as all tools print it, and its time."""
+        """Return the name of the subtitle, as printed by all tools, and its time."""
         subtitle = self.subtitle
         return f"{subtitle_name(subtitle.position, subtitle.number)} at {subtitle.begin}"
 
     def describe_reason(self) -> str:
-        """Return the fault with its character or meaning, and the advice."""
+        """Return the fault, with the refused character or the meaning of the fault, and advice."""
         more = self.character or FAULT_CLAUSES.get(self.fault.number, "")
         do = f": {self.advice}" if self.advice else ""
         return f"{self.fault.number} {self.fault.name} ({more}){do}"
 
     def format_line(self) -> str:
-        """Return the line of output on the refused subtitle."""
+        """Return the output line about the refused subtitle."""
         return f"undecided: {self.describe_subtitle()}, up to {self.subtitle.end}, is refused " \
             f"by {self.describe_reason()}"
 
 
 class ValidSubtitles(NamedTuple):
-    """Subtitles that are judged although others of their file are refused; the refused subtitles;
-    and the positions of all skipped subtitles."""
+    """Subtitles that are judged although other subtitles in the file are refused; the refused
+    subtitles; and the positions of all subtitles that are skipped."""
 
     judged: list[Subtitle]
     refused: list[RefusedSubtitle]
     skipped_positions: frozenset[int]
 
     def format_lines(self) -> Iterator[str]:
-        """Yield a line for each refused subtitle, up to a limit."""
+        """Yield a line about each refused subtitle, up to a maximum number of lines."""
         yield from (refused.format_line() for refused in self.refused[:MAX_LIST_LINES])
         if len(self.refused) > MAX_LIST_LINES:
             yield f"undecided: {counted(len(self.refused) - MAX_LIST_LINES, 'more subtitle')}"
 
     def describe(self) -> str:
-        """Describe the first refused subtitles, and count the other ones."""
+        """Describe the first refused subtitles, and count the remaining ones."""
         if len(self.refused) == 1:
             return f"{self.refused[0].describe_subtitle()} is refused by " \
                 f"{self.refused[0].describe_reason()}"
@@ -186,14 +185,14 @@ class ValidSubtitles(NamedTuple):
 
 
 def has_valid_subtitles(numbers: set[int]) -> bool:
-    """Return whether the program judges other subtitles though it refused some: the program then
-    also reports that there was no PES packet."""
+    """Return whether the program judges some subtitles although others are refused: it then also
+    reports that there is no PES packet."""
     return EMPTY in numbers and bool(numbers & STL_FAULTS)
 
 
 def find_valid_subtitles(file: SubtitleFile, faults: Iterable[FaultLine],
                          option: str) -> ValidSubtitles:
-    """Return which subtitles of a file can be judged, by the faults of the file."""
+    """Return the subtitles in a file that can be judged, from the faults of the file."""
     by_position: dict[int, list[FaultLine]] = {}
     for fault in faults:
         subtitle = file.find_by_block(fault.block) if fault.block is not None else None
@@ -213,7 +212,7 @@ def find_valid_subtitles(file: SubtitleFile, faults: Iterable[FaultLine],
 
 
 def list_positions(file: SubtitleFile) -> Iterator[int]:
-    """Yield the positions of the subtitles between --from and --to."""
+    """Yield the positions of the subtitles that begin between --from and --to."""
     for place, block in enumerate(file.start_blocks, 1):
         begin = frame_of_code(file.block(block)[5:9])
         if begin is None or file.between.has(begin):
@@ -222,7 +221,7 @@ def list_positions(file: SubtitleFile) -> Iterator[int]:
 
 def make_refused_subtitle(file: SubtitleFile, fault: FaultLine, advice: OptionAdvice,
                           known: dict[int, Meaning]) -> RefusedSubtitle:
-    """Return a refused subtitle, by the first fault line that names the subtitle."""
+    """Return a refused subtitle, from the first fault line about it."""
     assert fault.block is not None
     subtitle = file.find_by_block(fault.block)
     assert subtitle
@@ -238,7 +237,7 @@ def make_refused_subtitle(file: SubtitleFile, fault: FaultLine, advice: OptionAd
 def draw_valid_pages(subtitles: Sequence[Subtitle], page: Page, option: str,
                      layout: Layout = PLAIN) \
         -> ExpectedPages:
-    """Draw the pages of the judged subtitles here, since `schedule` refuses their file."""
+    """Draw the pages of the judged subtitles, since `subttx schedule` refuses their file."""
     pages = [draw_page(one, option, layout) for one in subtitles]
     packets = Packets(PES)
     for place, (subtitle, rows) in enumerate(zip(subtitles, pages)):
@@ -250,14 +249,14 @@ def draw_valid_pages(subtitles: Sequence[Subtitle], page: Page, option: str,
 
 
 def draw_page(subtitle: Subtitle, option: str, layout: Layout) -> Rows:
-    """Draw the page of a subtitle."""
+    """Return the page with a subtitle."""
     lines = draw_text(subtitle.text, subtitle.row, subtitle.justify, layout, BY_WORD[option])
     assert not isinstance(lines, TextFault)
     return make_page_rows(lines)
 
 
 def add_transmission(packets: Packets, frame: int, rows: Rows, page: Page, option: str) -> None:
-    """Add a PES packet that sends a page at a frame."""
+    """Add a PES packet that sends a page in a frame."""
     number = packets.count
     header = (page[1] & 15, page[1] >> 4, 0, 8, 0, 8, 1, BY_WORD[option].bits << 1)
     packets.runs.append(PacketRun(number, 1, TICKS * frame, 0,

@@ -1,5 +1,5 @@
-"""Find the parts of a recording in time: their clocks, PES packets and pace, and drifting pictures.
-"""
+"""Find the parts of a recording: their clocks, PES packets and PES intervals, and picture
+drifts."""
 from __future__ import annotations
 
 import dataclasses
@@ -29,7 +29,7 @@ from ..stream.survey import Survey
 from .part import Part
 
 
-NO_CLOCK = Clock(0, RECORDING)  # before the clock is known
+NO_CLOCK = Clock(0, RECORDING)  # placeholder until the clock is known
 CLOCK_PREFIX = "clock: "
 
 
@@ -38,8 +38,8 @@ class PartSearch(NamedTuple):
 
     `full_range` has the first and the last frame of the subtitles, and the clock if a clock was
     given. `allowed_packets` are the PES packets that may be judged, `skipped_positions` the
-    positions of subtitles to skip. `is_continued`: a subtitle that is not judged adjoins the first
-    one and has the same text.
+    positions of subtitles to skip. `is_continued` is set if a subtitle that is not judged ends
+    where the first judged subtitle begins, and has the same text.
     """
 
     request: Request
@@ -50,7 +50,7 @@ class PartSearch(NamedTuple):
 
 
 class PartClocks(NamedTuple):
-    """The parts of a recording with their clocks, and notes on the delay of the first part."""
+    """The parts of a recording with their clocks, and notes on the delay in the first part."""
 
     search: PartSearch
     alignments: list[TimedPart]
@@ -58,8 +58,8 @@ class PartClocks(NamedTuple):
 
 
 def find_parts(search: PartSearch, recording: Recording, listener: Listener) -> PartClocks:
-    """Find the parts of a recording and their clocks. The first part has the given clock, or that
-    of the first picture."""
+    """Find the parts of a recording and their clocks. The first part has the given clock, or the
+    clock of the first picture."""
     request, whole = search.request, search.full_range
     given = get_given_clock(request) or find_start_clock(search, recording, listener)
     origin = report_estimated_origin(search, recording, given, listener)
@@ -75,15 +75,15 @@ def find_parts(search: PartSearch, recording: Recording, listener: Listener) -> 
     return PartClocks(search, alignments, delay)
 
 
-# The clock that was given
+# Clocks that were given by the user
 
 def get_given_clock(request: Request) -> Clock | None:
-    """Return the clock of --origin, or `None`."""
+    """Return the clock given by --origin, or `None`."""
     return None if request.origin is None else Clock(request.origin, GIVEN)
 
 
 def find_start_clock(search: PartSearch, recording: Recording, listener: Listener) -> Clock | None:
-    """Return the clock of the first picture, or `None` without --start."""
+    """Return the clock of the first picture from --start, or `None`."""
     request, whole = search.request, search.full_range
     if request.start is None:
         return None
@@ -100,12 +100,12 @@ def find_start_clock(search: PartSearch, recording: Recording, listener: Listene
     return begin.clock
 
 
-# The clock that is estimated
+# Clocks that are estimated
 
 def report_estimated_origin(search: PartSearch, recording: Recording, clock: Clock | None,
                             listener: Listener) -> OriginEstimate:
-    """Estimate the origin of a recording, compare the origin with a given clock, and report both.
-    """
+    """Estimate the origin of a recording, compare it with a clock that was given, and report
+    both."""
     request = search.request
     origin_search = OriginSearch(request.stl_path, recording.shown, request.page, request.option,
                                  clock and clock.origin, request.within, request.breaks,
@@ -122,7 +122,7 @@ def report_estimated_origin(search: PartSearch, recording: Recording, clock: Clo
 
 
 def list_timed_parts(origin: OriginEstimate, full_range: TimedPart) -> list[TimedPart]:
-    """Return the parts with their clocks, or no parts if the origin is not clear."""
+    """Return the parts with their clocks; no parts if the origin is unclear."""
     if origin.status:
         return []
     return [TimedPart(*(part.frames or (full_range.begin, full_range.end)),
@@ -137,7 +137,7 @@ def make_estimated_clock(part: PartOrigin) -> Clock:
 
 
 def add_delay(clock: Clock, origin: OriginEstimate) -> tuple[Clock, list[str]]:
-    """Return a given clock with the delay of the cues of the first part, and notes on the delay."""
+    """Return a given clock with the delay of the first part's cues, and notes on this delay."""
     if origin.ticks_late is None or origin.status:
         return clock, []
     frames, ticks = divmod(abs(origin.ticks_late), TICKS)
@@ -157,8 +157,8 @@ def add_delay(clock: Clock, origin: OriginEstimate) -> tuple[Clock, list[str]]:
 
 
 def refuse_wrong_clock(search: PartSearch, recording: Recording, part: TimedPart) -> None:
-    """Raise `Unclear` if the given clock is wrong: by this clock the recording has nothing at the
-    time of the subtitles, but the recording has the subtitles at another time."""
+    """Raise `Unclear` if the given clock is wrong: by this clock nothing was recorded at the time
+    of the subtitles, but the recording contains them at another time."""
     clock = part.clock
     if not clock.delay_frames or cut_packets(search, recording, part,
                                              search.request.within).range is not None:
@@ -167,7 +167,7 @@ def refuse_wrong_clock(search: PartSearch, recording: Recording, part: TimedPart
 
 
 def describe_wrong_clock(request: Request, clock: Clock, delay: int) -> str:
-    """Describe how far a given clock is from the subtitles, which are `delay` frames late."""
+    """Describe how far a given clock is off: the subtitles are `delay` frames late by it."""
     if clock.source == GIVEN:
         return f"with --origin {clock.origin} all subtitles are {duration_text(abs(delay))} " \
             f"{'late' if delay > 0 else 'early'}: none is in the recording at its time"
@@ -183,7 +183,7 @@ def describe_wrong_clock(request: Request, clock: Clock, delay: int) -> str:
 
 
 def make_unclear_origin(origin: OriginEstimate, again: Iterable[str]) -> Unclear:
-    """Return an error that says why the origin is not clear, with the commands `again`."""
+    """Return an exception that says why the origin is unclear and suggests commands."""
     is_printed = origin.airings or origin.breaks is not None
     reason = "\n".join(origin.lines) if is_printed else \
         f"the clock is not clear: {'; '.join(origin.lines)}"
@@ -191,7 +191,7 @@ def make_unclear_origin(origin: OriginEstimate, again: Iterable[str]) -> Unclear
 
 
 def suggest_options(recording: Recording, origin: OriginEstimate) -> Iterator[str]:
-    """Yield commands that the operator may type if the origin is not clear."""
+    """Yield the commands that the operator may type if the origin is unclear."""
     if origin.airings:
         yield recording.suggest_call("--pes", "I-J")
     elif origin.breaks is None:
@@ -199,18 +199,18 @@ def suggest_options(recording: Recording, origin: OriginEstimate) -> Iterator[st
         yield from recording.other_pages([recording.packets])
 
 
-# The PES packets of a part
+# PES packets of a part
 
 def cut_packets(search: PartSearch, recording: Recording, alignment: TimedPart,
                 within: int) -> PacketRange:
-    """Find the PES packets of the time of the subtitles, allowing some frames of delay."""
+    """Find the PES packets at the time of the subtitles, allowing some frames of delay."""
     return find_range(recording.packets, alignment.begin, alignment.end, alignment.origin,
                       search.request.every, within, alignment.packets or search.allowed_packets,
                       search.is_continued and alignment.begin == search.full_range.begin)
 
 
 def find_part_packets(search: PartSearch, part: Part, listener: Listener) -> Range:
-    """Find the range of the PES packets of a part, and report the range."""
+    """Find the range of PES packets in a part, and report it."""
     recording, alignment = part.judged_recording
     cut = cut_packets(search, recording, alignment, search.request.within)
     damage, line = recording.packets.damage, f"range: {cut.describe()}"
@@ -230,10 +230,10 @@ def find_part_packets(search: PartSearch, part: Part, listener: Listener) -> Ran
     return cut.range
 
 
-# The pace of PES packets if they are regular; else the losses that nothing shows
+# The maximum PES interval, if PES packets are regular; otherwise, losses that remain invisible
 
-NEXT_FRAME = 1  # distance in frames of two PES packets in consecutive frames
-UNCHECKED = "not checked for"  # prefix of a note
+NEXT_FRAME = 1  # maximum number of frames between PES packets in consecutive frames
+UNCHECKED = "not checked for"  # beginning of a note
 
 
 def measure_part_pace(part: Part, times: Sequence[tuple[int, int]], listener: Listener) -> Part:
@@ -253,7 +253,7 @@ def measure_part_pace(part: Part, times: Sequence[tuple[int, int]], listener: Li
         if pace.frames:
             listener.add_selection(make_pace_selection(pace, recording.is_stream, number))
             request = dataclasses.replace(request, pace_word=str(pace.frames))
-        elif note:  # reported with the verdict
+        elif note:  # printed with the verdict
             listener.add_selection(Selection(PACE_CHOICE, None, note, part=number),
                                    is_printed=False)
     listener.add_notes(*notes)
@@ -261,7 +261,7 @@ def measure_part_pace(part: Part, times: Sequence[tuple[int, int]], listener: Li
 
 
 def measure_pace(part: Part, times: Sequence[tuple[int, int]]) -> tuple[Pace, int | None]:
-    """Return the pace of a part, and from how many frames on the counter may not show a loss."""
+    """Return the pace of a part, and the shortest loss in frames that the counter may not show."""
     request, (recording, alignment), pes = part.request, part.judged_recording, part.pes or NO_RANGE
     size = None if recording.is_stream else os.path.getsize(recording.path)
     rows = frame_rows(recording.packets, pes, alignment.origin, request.within)
@@ -271,8 +271,8 @@ def measure_pace(part: Part, times: Sequence[tuple[int, int]]) -> tuple[Pace, in
 
 
 def find_late_jumps(part: Part, pace: Pace) -> tuple[list[PTSPair], int]:
-    """Return the announced jumps of the counter where the next PES packet comes late, and the
-    number of other jumps that could hide a PES packet."""
+    """Return the announced jumps of the continuity counter before a late PES packet, and the number
+    of other announced jumps, which could hide a loss of PES packets."""
     (recording, _), inside = part.judged_recording, part.pes or NO_RANGE
     if not recording.is_stream:
         return [], 0
@@ -282,21 +282,21 @@ def find_late_jumps(part: Part, pace: Pace) -> tuple[list[PTSPair], int]:
 
 
 def describe_jumps(count: int, recording: Recording) -> str:
-    """Describe at how many announced jumps of the counter losses are invisible; an empty text if at
-    none."""
+    """Describe at how many announced jumps of the continuity counter losses are invisible; return
+    an empty text for 0."""
     return f"{UNCHECKED} losses on {format_pid(recording.packets.pid)} at " \
         f"{counted(count, 'place')} where a jump of its counter is announced" if count else ""
 
 
 def make_pace_selection(pace: Pace, is_stream: bool, part: int) -> Selection:
-    """Return the pace as a choice of qc, with the number of places where the pace would show a
-    loss."""
+    """Return the maximum PES interval as a printed choice of qc, with the number of places where it
+    would show a loss."""
     return Selection(PACE_CHOICE, str(pace.frames), describe_pace(pace, is_stream),
                      pace.total - pace.hidden_places, pace.total, part)
 
 
 def describe_pace(pace: Pace, is_stream: bool) -> str:
-    """Describe how regular the PES packets are, and the pace chosen from that."""
+    """Describe how regular the PES packets are, and the maximum interval chosen from that."""
     more = ", and three may come in that time" if pace.is_dense else \
         f", at least {pace.loss_interval} after a loss of 16 TS packets" if is_stream else ""
     return f"pace: at most {counted(pace.interval, 'frame')} from one PES packet to the next" \
@@ -304,8 +304,7 @@ def describe_pace(pace: Pace, is_stream: bool) -> str:
 
 
 def describe_unchecked_losses(pace: Pace, unseen: int | None, recording: Recording) -> str:
-    """Describe which losses nothing shows; an empty text if --every or the pace shows all losses.
-    """
+    """Describe which losses remain invisible; empty if --every or the pace shows all losses."""
     if pace.kind == BY_EVERY or pace.kind == REGULAR and not pace.hidden_places:
         return ""
     if without := describe_missing_pcr(recording):
@@ -327,21 +326,21 @@ def describe_unchecked_losses(pace: Pace, unseen: int | None, recording: Recordi
 
 
 def describe_missing_pcr(recording: Recording) -> str:
-    """Describe that no PCR shows losses; an empty text if there is a PCR."""
+    """Describe that no PCR can show losses; return an empty text if there is a PCR."""
     if not recording.is_stream or recording.survey.clock_of(recording.packets.pid) is not None:
         return ""
     return f"the programme of {format_pid(recording.packets.pid)} has no PCR: a loss that its " \
         "counter does not show, as of 16 TS packets, is not noticed"
 
 
-# Pictures that drift from the subtitles: a fault for viewers that no PTS of Teletext shows
+# Pictures that drift from the subtitles: viewers see this fault, but no Teletext PTS shows it
 
 NOT_CHECKED = "not checked whether the video and the subtitles drift apart"
 
 
 class DesyncFindings(NamedTuple):
-    """Faults of drifting pictures, and notes on drifts that --within allows and on places not
-    checked."""
+    """The faults of drifting pictures, and notes on drifts that --within allows and on places that
+    were not checked."""
 
     faults: list[NamedFault]
     notes: list[str]
@@ -349,7 +348,7 @@ class DesyncFindings(NamedTuple):
 
 def find_desync(survey: Survey, pid: int, alignment: TimedPart, within: int, number: int
                 ) -> DesyncFindings:
-    """Find where pictures drift from the subtitles of part `number`, whose Teletext is on PID
+    """Find where pictures drift from the subtitles in part `number`, whose Teletext has the PID
     `pid`."""
     kinds = {pid for programme in survey.programmes_of(pid) for pid in programme.kinds}
     faults, notes = list[NamedFault](), list[str]()
@@ -365,8 +364,8 @@ def find_desync(survey: Survey, pid: int, alignment: TimedPart, within: int, num
 
 
 def find_departures(several: Sequence[Departure], alignment: TimedPart) -> list[Departure]:
-    """Return the drifts within a part, or from its first picture on if the clock is that of the
-    picture. A drift that may lie outside of the part is unclear."""
+    """Return the drifts within a part; if the clock comes from the first picture, also those since
+    this picture. A drift that may be outside the part has no ticks."""
     first = pts_of(alignment.begin, alignment.origin)
     length = TICKS * (alignment.end - alignment.begin)
     is_of_picture = alignment.clock.source in (START, TCP)
@@ -381,15 +380,15 @@ def find_departures(several: Sequence[Departure], alignment: TimedPart) -> list[
 
 
 class Desync(NamedTuple):
-    """Frames from `first` up to `end` in which subtitles are `ticks` early for viewers, or late if
-    negative."""
+    """The frames from `first` to before `end`, in which subtitles are `ticks` early for viewers, or
+    late if `ticks` is negative."""
 
     first: int
     end: int
     ticks: int
 
     def describe(self) -> str:
-        """Return the fault as a clause."""
+        """Describe the fault in a clause."""
         count = counted(abs(self.ticks) // TICKS, "frame") if self.ticks % TICKS == 0 else \
             f"{abs(self.ticks) / TICKS:.1f} frames"
         return f"from {time_of(self.first)} on subtitles are {count} " \
@@ -397,7 +396,7 @@ class Desync(NamedTuple):
 
 
 def find_desync_spans(several: Sequence[Departure], alignment: TimedPart) -> Iterator[Desync]:
-    """Yield the spans of frames in which subtitles are apart from the pictures, adding up all
+    """Yield the frames in which subtitles are early or late compared to the pictures, adding up all
     drifts."""
     first = pts_of(alignment.begin, alignment.origin)
     length, total = alignment.end - alignment.begin, 0
@@ -410,7 +409,7 @@ def find_desync_spans(several: Sequence[Departure], alignment: TimedPart) -> Ite
 
 
 def is_allowed_delay(ticks: int, within: int) -> bool:
-    """Return whether subtitles are late by no more than `within` frames; early subtitles are not
+    """Return whether subtitles are late by at most `within` frames. Early subtitles are never
     allowed."""
     return -TICKS * within <= ticks < 0
 
@@ -418,7 +417,7 @@ def is_allowed_delay(ticks: int, within: int) -> bool:
 def make_desync_faults(several: Sequence[Departure], alignment: TimedPart, within: int,
                        number: int) \
         -> list[NamedFault]:
-    """Return faults for subtitles that come early, or later than allowed."""
+    """Return faults for subtitles that are early, or later than allowed."""
     return [NamedFault(PICTURES_LEFT, away.describe(), time_of(away.first), time_of(away.end - 1),
                        part=number)
             for away in find_desync_spans(several, alignment)
@@ -426,15 +425,15 @@ def make_desync_faults(several: Sequence[Departure], alignment: TimedPart, withi
 
 
 def make_delay_notes(several: Sequence[Departure], alignment: TimedPart, within: int) -> list[str]:
-    """Return notes on subtitles that are late by no more than --within allows."""
+    """Return notes on subtitles that are late by at most the frames that --within allows."""
     return [f"{away.describe()}, as --within {within} allows"
             for away in find_desync_spans(several, alignment)
             if is_allowed_delay(away.ticks, within)]
 
 
 def make_unclear_notes(is_steady: bool, count: int) -> list[str]:
-    """Return notes on unchecked drifts: all of them unless `is_steady`, else those at `count`
-    places."""
+    """Return notes on drifts that were not checked: all drifts unless `is_steady`, otherwise those
+    at `count` places."""
     if not is_steady:
         return [f"{NOT_CHECKED}: the decoding times of the video have no usual step"]
     return [f"{NOT_CHECKED} at {counted(count, 'place')} where its decoding times jump: the "

@@ -1,4 +1,4 @@
-"""Page transmissions: their headers, the expected pages, and the subtitle of each."""
+"""Page transmissions with their headers, expected pages, and the subtitles they belong to."""
 from __future__ import annotations
 
 import bisect
@@ -23,18 +23,18 @@ from .check import CheckOutput
 from .pages import is_partial_page, join_page_text
 
 
-# Faults of the control bits of headers
+# Faults in the control bits of page headers
 
 ERASE_CLEAR = "C4 (erase page) is clear"
 REPEAT_WITHOUT_ERASE = f"{ERASE_CLEAR}: a repeat that does not erase"
-# The other control bits of a subtitle header, whether each must be set, and the fault if not.
+# The control bits of subtitle headers except C4, whether each must be set, and the fault if not
 CONTROL_BIT_FAULTS = (
     (SUBTITLE, True, "C6 (subtitle) is clear"),
     (SUPPRESS, True, "C7 (suppress header) is clear"),
     (NEWSFLASH, False, "C5 (newsflash) is set"),
     (INHIBIT, False, "C10 (inhibit display) is set"),
 )
-# What receivers that use such a bit do, worst first.
+# What receivers do that evaluate such a control bit, worst effect first
 RECEIVER_EFFECTS = (
     (INHIBIT, False, "is not shown"),
     (SUBTITLE, True, "hides the picture"),
@@ -46,8 +46,8 @@ OTHER_LETTERS = "has other characters"
 
 
 class PageHeader(NamedTuple):
-    """A header of the page, the page's previous header, and whether the page was open when the
-    header came."""
+    """A header of the page, the previous header, and whether the page was open when the header was
+    received."""
 
     header: bytes
     previous: bytes | None = None
@@ -55,8 +55,8 @@ class PageHeader(NamedTuple):
 
 
 def find_page_headers(run: PacketRun, state: ReceiverState) -> list[PageHeader]:
-    """Return the headers of the page in a PES packet; `state` is the decoder's state before this
-    packet."""
+    """Return the headers of the page in a PES packet. `state` is the state of the decoder before
+    this packet."""
     heard: list[PageHeader] = []
     before, is_open = state.header, state.is_open
     headers = iter(parse_headers(run.control))
@@ -71,13 +71,13 @@ def find_page_headers(run: PacketRun, state: ReceiverState) -> list[PageHeader]:
 
 
 def keeps_page(header: bytes) -> bool:
-    """Return whether a header leaves the page in memory, with C4 (erase page) clear."""
+    """Return whether a header does not erase the page: C4 (erase page) is clear."""
     return not has_bit(header, ERASE)
 
 
 def describe_missing_erase(page_header: PageHeader, request: Request) -> str:
-    """Describe why a header that should erase the page does not; return an empty text if the header
-    is right."""
+    """Describe why a header that should erase the page does not do so; return an empty text if the
+    header is correct."""
     if not keeps_page(page_header.header):
         return ""
     if not request.may_keep:
@@ -92,8 +92,8 @@ def describe_missing_erase(page_header: PageHeader, request: Request) -> str:
 
 
 def describe_control_bits(header: bytes, option: str, erase_fault: str = "") -> list[str]:
-    """Return the faults of the control bits of a header, beginning with `erase_fault`, the fault of
-    C4."""
+    """Return the faults in the control bits of a header. The fault of C4 is passed as `erase_fault`
+    and comes first."""
     faults = [erase_fault] if erase_fault else []
     faults += [words for bit, is_set, words in CONTROL_BIT_FAULTS if has_bit(header, bit) != is_set]
     bits = national_option(header)
@@ -105,7 +105,7 @@ def describe_control_bits(header: bytes, option: str, erase_fault: str = "") -> 
 
 
 def describe_effect(headers: Sequence[PageHeader], request: Request) -> str:
-    """Describe what some receivers do with the page because of the first faulty header."""
+    """Describe how the first faulty header affects some receivers."""
     numbers = next((header.header for header in headers if describe_control_bits(
         header.header, request.option, describe_missing_erase(header, request))), b"")
     wrong = (words for bit, is_set,
@@ -115,31 +115,31 @@ def describe_effect(headers: Sequence[PageHeader], request: Request) -> str:
 
 
 def describe_header_faults(headers: Sequence[PageHeader], request: Request) -> str:
-    """Describe the faults of the first faulty header."""
+    """Describe the faults in the first faulty header."""
     wrong = (describe_control_bits(header.header, request.option,
                                    describe_missing_erase(header, request))
              for header in headers)
     return "; ".join(next(filter(None, wrong), []))
 
 
-# Headers that keep the page (C4 clear). A receiver then still has the earlier rows, so the decoded
-# page may be right though `check` reports 72: a row did not come after the last header.
+# Headers with C4 clear keep the page: a receiver still has the earlier rows. The decoded page may
+# then be correct although `check` reports 72 for a row missing after the last header.
 
 
 class KeepingHeaders(NamedTuple):
-    """The number of headers of the page, and how many of them leave the page in memory."""
+    """The number of page headers, and the number of headers that do not erase the page."""
 
     headers: int
     keeping: int
 
     def describe(self) -> str:
-        """Return both numbers as a clause."""
+        """Describe both numbers in a clause."""
         return f"{ERASE_CLEAR} in {self.keeping} of {counted(self.headers, 'header')}"
 
 
 def count_keeping_headers(headers: Mapping[bytes, int], option: str) -> KeepingHeaders | None:
-    """Count the headers that leave the page in memory; return `None` if there are none, or if some
-    header has another fault too."""
+    """Count the headers that do not erase the page. Return `None` if there are none, or if any
+    header has another fault."""
     keeping = sum(count for one, count in headers.items() if keeps_page(one))
     if not keeping or any(describe_control_bits(one, option) for one in headers):
         return None
@@ -148,11 +148,11 @@ def count_keeping_headers(headers: Mapping[bytes, int], option: str) -> KeepingH
 
 def find_omitted_rows(timeline: Timeline, expected: Rows, frame: int,
                       output: CheckOutput | None) -> str:
-    """Describe which rows the last header up to a frame left out; return an empty text if all rows
-    came.
+    """Describe which rows are missing after the last header before a frame; return an empty text if
+    no row is missing.
 
-    The rows came if that header erases the page, if the decoded page is not the expected page, or
-    if a row changed after the page was last erased.
+    No row is missing if this header erases the page, if the decoded page is not the expected page,
+    or if a row changed after the page was last erased.
     """
     header = timeline.state_at(frame).header
     at = bisect.bisect_right(timeline.header_frames, frame) - 1
@@ -174,7 +174,7 @@ def find_omitted_rows(timeline: Timeline, expected: Rows, frame: int,
 
 def describe_omitted_rows(rows: Sequence[int], row: int | None, received: int) -> str:
     """Describe which rows are missing if only `received` packets followed the header: all rows, or
-    `row`, at which `check` reports the fault, and at least how many more."""
+    row `row`, at which `check` reports the fault, and at least how many others."""
     if not rows:
         return ""
     if received <= 0:
@@ -185,15 +185,15 @@ def describe_omitted_rows(rows: Sequence[int], row: int | None, received: int) -
     return f"{first} and {more} more" if more > 0 else first
 
 
-# The expected pages of subtitles, for causes, delays, faults and reports
+# The expected pages of subtitles, used for causes, delays, faults and reports
 
-NO_SUBTITLE_FAULT = 82  # the fault number of a file without subtitles
-LONGEST_INTERVAL = "1500"  # frames: the fewest repeats
+NO_SUBTITLE_FAULT = 82  # fault number for a file without subtitles
+LONGEST_INTERVAL = "1500"  # frames between repeats; the longest interval needs the fewest repeats
 
 
 class ExpectedPages(SubtitleList):
     """The subtitles of a programme with their expected pages. `timeline` has the pages that a
-    receiver decodes; it is `None` if there are no subtitles."""
+    receiver should decode; it is `None` without subtitles."""
 
     def __init__(self, subtitles: list[Subtitle], pages: list[Rows],
                  timeline: Timeline | None = None) -> None:
@@ -202,7 +202,7 @@ class ExpectedPages(SubtitleList):
 
     @functools.cached_property
     def by_page(self) -> dict[Rows, list[int]]:
-        """Return the positions of the subtitles by page."""
+        """Return the positions of subtitles by their pages."""
         by_page: dict[Rows, list[int]] = {}
         for place, page in enumerate(self.pages):
             by_page.setdefault(page, []).append(place)
@@ -210,27 +210,27 @@ class ExpectedPages(SubtitleList):
 
     @functools.cached_property
     def by_text(self) -> dict[str, list[int]]:
-        """Return the positions of the subtitles by text."""
+        """Return the positions of subtitles by their texts."""
         by_words: dict[str, list[int]] = {}
         for place, page in enumerate(self.pages):
             by_words.setdefault(join_page_text(page), []).append(place)
         return by_words
 
     def find_subtitle(self, page: Rows, frame: int) -> int | None:
-        """Return the subtitle that has a page and begins nearest to a frame; `None` for a blank
-        page."""
+        """Return the position of the subtitle that has a page and begins nearest to a frame; `None`
+        for a blank page."""
         places = self.by_page.get(page)
         return self.find_nearest(places, frame) if places and page != BLANK_PAGE else None
 
     def page_at(self, frame: int) -> Rows:
-        """Return the expected page at a frame."""
+        """Return the page that is expected in a frame."""
         count, is_due = self.count_begun(frame)
         blank: Rows = BLANK_PAGE
         return self.pages[count - 1] if is_due else blank
 
 
 def run_program(program: str, *arguments: str) -> list[str]:
-    """Run the program and return its output lines. Raise `IncompleteAnswer` if it fails."""
+    """Run the program and return its output lines; raise `IncompleteAnswer` if it fails."""
     done = subprocess.run([program, *arguments], stdin=subprocess.DEVNULL, check=False,
                           stdout=subprocess.PIPE, encoding="utf-8", errors="replace")
     lines = done.stdout.splitlines()
@@ -243,8 +243,8 @@ def read_subtitles(program: str, stl: str, between: Between = ALL_DAY,
                    is_open: bool = False) -> list[Subtitle]:
     """Return the subtitles of a file that begin in some frames, as `subttx show` prints them.
 
-    `subttx show` rejects a file with any refused or open subtitle; then the subtitles are parsed
-    here.
+    If `subttx show` rejects the file because of refused or open subtitles, the file is parsed in
+    Python instead.
     """
     try:
         subtitles = decode_subtitles(read_stl(stl)) if is_open else \
@@ -259,8 +259,8 @@ def read_subtitles(program: str, stl: str, between: Between = ALL_DAY,
 def schedule_pages(program: str, stl: str, subtitles: list[Subtitle], page: Page, option: str,
                    between: Between = ALL_DAY,
                    layout_arguments: Sequence[str] = ()) -> ExpectedPages:
-    """Return the expected pages of the subtitles of a file, decoded from what `subttx schedule`
-    transmits; `layout_arguments` are options for drawing pages."""
+    """Return the expected pages of a file's subtitles, decoded from the output of `subttx
+    schedule`. `layout_arguments` are options for drawing pages."""
     if not subtitles:
         return ExpectedPages([], [])
     with make_temporary_folder("subttx-qc-") as folder:
@@ -275,26 +275,26 @@ def schedule_pages(program: str, stl: str, subtitles: list[Subtitle], page: Page
                          timeline)
 
 
-# A page transmission belongs to the nearest subtitle with this page. The search begins at the
-# previous subtitle's TCO and ends at the next one's TCI, but at least 250 frames around the TCI.
+# A page transmission belongs to the nearest subtitle with its page. Search for it between the
+# previous TCO and the next TCI, but at least 250 frames before and after the TCI.
 
 
 class PageTransmissions:
-    """The page transmissions of subtitles among the decoded pages."""
+    """Finds the page transmissions of subtitles among the decoded pages."""
 
     def __init__(self, expected: ExpectedPages, timeline: Timeline) -> None:
         self.expected, self.timeline = expected, timeline
         self.subtitles, self.pages = expected.subtitles, expected.pages
 
-    # The subtitle of a fault
+    # The subtitle that a fault belongs to
 
     def is_expected_page(self, frame: int) -> bool:
-        """Return whether the decoded page at a frame is the expected page."""
+        """Return whether the page decoded in a frame is the expected page."""
         return self.timeline.page_at(frame) == self.expected.page_at(frame)
 
     def split_frames(self, first: int, last: int) -> list[Span]:
-        """Split frames with a fault into spans in which neither the expected nor the decoded page
-        changes."""
+        """Split the frames of a fault into spans in which neither the expected page nor the decoded
+        page changes."""
         begins = {first, *self.expected.list_cues(first, last)}
         begins.update(self.timeline.frames[number]
                       for number in self.timeline.page_numbers(first, last + 1)
@@ -303,8 +303,8 @@ class PageTransmissions:
         return [Span(begin, end - 1) for begin, end in zip(rising, [*rising[1:], last + 1])]
 
     def find_owner(self, frame: int) -> int:
-        """Return the subtitle that a wrong page at a frame belongs to: the latest expected
-        subtitle, or the subtitle whose page was sent at another time."""
+        """Return the position of the subtitle that a wrong page in a frame belongs to: the last
+        subtitle expected, or the subtitle whose page was sent at the wrong time."""
         place = self.expected.find_place(frame)
         number = self.timeline.number_at(frame)
         if place < 0 or number < 0:
@@ -324,15 +324,15 @@ class PageTransmissions:
         return sent
 
     def was_sent_by_cue(self, place: int) -> bool:
-        """Return whether the page of a subtitle came early or in time."""
+        """Return whether the page of a subtitle came by its TCI or within the allowed delay."""
         came = self.find_transmission(place)
         begin = self.subtitles[place].begin
         return came is not None and came <= begin + self.timeline.within or \
             self.timeline.page_at(begin) == self.pages[place]
 
     def is_delayed_page(self, number: int, place: int, frame: int) -> bool:
-        """Return whether a page stays for an allowed delay, until the page of the next subtitle:
-        the fault of such a page belongs to the previous subtitle."""
+        """Return whether a page remains until the next subtitle's page comes within the allowed
+        delay. A fault of the page then belongs to the previous subtitle."""
         begin, following = self.subtitles[place].begin, number + 1
         limit = begin + self.timeline.within
         return self.timeline.frames[number] < begin <= frame < limit and \
@@ -340,8 +340,8 @@ class PageTransmissions:
             not self.is_expected_page(begin - 1)
 
     def is_sent_for_next(self, number: int, place: int) -> bool:
-        """Return whether a page of no subtitle is meant for the next subtitle: the page came after
-        the subtitle's own page, and lasts longer in the time of the next subtitle."""
+        """Return whether a page of no subtitle was sent for the next subtitle: it came after the
+        page of the current subtitle, and lasts longer during the next subtitle."""
         if place + 1 >= len(self.subtitles) or not self.is_unknown_page(number, place):
             return False
         one, following = self.subtitles[place], self.subtitles[place + 1]
@@ -350,19 +350,19 @@ class PageTransmissions:
             self.count_frames(number, following.begin, following.end) > \
             self.count_frames(number, one.begin, one.end)
 
-    # Transmissions
+    # Finding transmissions
 
     def search_window(self, place: int) -> Span:
-        """Return the frames to search for the page transmission of a subtitle."""
+        """Return the frames in which to search for the page transmission of a subtitle."""
         begin = self.subtitles[place].begin
         return Span(min(self.expected.before(place), begin - LEAST),
                     max(self.expected.after(place), begin + LEAST))
 
     def find_transmission(self, place: int) -> int | None:
-        """Return the frame nearest to the TCI at which the page of a subtitle came, or `None`.
+        """Return the frame nearest to the TCI in which the page of a subtitle came, or `None`.
 
-        A page at the TCI of another subtitle replaces the page of that subtitle, unless both
-        subtitles are moved by as many frames.
+        A page that came at the TCI of another subtitle was sent instead of that subtitle's page,
+        unless both subtitles are equally early or late.
         """
         numbers = [frame for frame in self.find_transmissions(place)
                    if self.find_subtitle_at_cue(frame)
@@ -370,7 +370,7 @@ class PageTransmissions:
         return find_nearest(numbers, self.subtitles[place].begin)
 
     def find_transmissions(self, place: int) -> list[int]:
-        """Return all frames in the search window at which the page of a subtitle came for this
+        """Return all frames in the search window in which the page of a subtitle came for this
         subtitle."""
         page, window = self.pages[place], self.search_window(place)
         frames = self.timeline.page_frames.get(page)
@@ -382,15 +382,14 @@ class PageTransmissions:
                 if self.expected.find_subtitle(page, frame) == place]
 
     def find_subtitle_at_cue(self, frame: int) -> int | None:
-        """Return the subtitle that begins at a frame, or up to the allowed delay before the frame.
-        """
+        """Return the subtitle that begins in a frame, or before it by up to the allowed delay."""
         place = self.expected.find_place(frame)
         is_in_time = place >= 0 and frame <= self.subtitles[place].begin + self.timeline.within
         return place if is_in_time else None
 
     def are_moved_together(self, place: int, frame: int) -> bool:
-        """Return whether the subtitle expected at a frame is moved as far as the subtitle whose
-        page came then, allowing for delays."""
+        """Return whether the subtitle expected in a frame is sent as early or late as the subtitle
+        whose page came in this frame, allowing for delays."""
         other = self.expected.find_place(frame)
         begin = self.subtitles[other].begin
         came = find_nearest(self.find_transmissions(other), begin)
@@ -398,9 +397,8 @@ class PageTransmissions:
         return came is not None and abs(came - begin - moved) <= self.timeline.within
 
     def find_unknown_page(self, place: int, came: int | None) -> int | None:
-        """Return the number of the page of no subtitle that lasts longest in the time of a
-        subtitle, before the subtitle's own page came, or `None`. Pages from before that time don't
-        count."""
+        """Return the number of the page that belongs to no subtitle and lasts longest during a
+        subtitle before its own page came, or `None`. Pages from before the subtitle are ignored."""
         subtitle = self.subtitles[place]
         end = subtitle.end if came is None or came <= subtitle.begin else min(came, subtitle.end)
         least = subtitle.begin if place == 0 and came is not None else 0
@@ -412,27 +410,27 @@ class PageTransmissions:
         return numbers[lengths.index(max(lengths))] if numbers else None
 
     def belongs_to_subtitle(self, number: int, place: int) -> bool:
-        """Return whether a page came after the TCO of the previous subtitle, or was meant for this
+        """Return whether a page came after the TCO of the previous subtitle, or was sent for this
         subtitle."""
         begin = min(self.expected.before(place), self.subtitles[place].begin)
         return self.timeline.frames[number] >= begin or \
             place > 0 and self.is_sent_for_next(number, place - 1)
 
     def is_unknown_page(self, number: int, place: int) -> bool:
-        """Return whether a page belongs to no subtitle, and is neither blank nor a part of a
-        subtitle's page."""
+        """Return whether a page belongs to no subtitle, and is neither blank nor an incomplete page
+        of a subtitle."""
         page = self.timeline.pages[number]
         return page != BLANK_PAGE and page not in self.expected.by_page and \
             not is_partial_page(page, self.pages[place])
 
     def count_frames(self, number: int, begin: int, end: int) -> int:
-        """Count the frames between two frames in which a page is decoded."""
+        """Return how many of the frames from `begin` to `end` have a decoded page."""
         stretch = self.timeline.page_span(number)
         return min(stretch.last + 1, end) - max(stretch.first, begin)
 
     def find_other_at_cue(self, place: int) -> int | None:
-        """Return another subtitle whose page came at the TCI of a subtitle, or within the allowed
-        delay, unless both subtitles are moved by as many frames."""
+        """Return another subtitle whose page came at a subtitle's TCI or within the allowed delay,
+        unless both subtitles are sent equally early or late."""
         subtitle = self.subtitles[place]
         limit = min(subtitle.begin + self.timeline.within + 1, subtitle.end)
         for number in self.timeline.page_numbers(subtitle.begin, limit):
@@ -444,8 +442,8 @@ class PageTransmissions:
         return None
 
     def find_other_during(self, place: int) -> int | None:
-        """Return another subtitle whose page came in the time of a subtitle, but not at its own
-        time."""
+        """Return another subtitle whose page came during a subtitle, but not at the time of the
+        other subtitle."""
         subtitle = self.subtitles[place]
         for number in self.timeline.page_numbers(subtitle.begin, subtitle.end):
             frame = self.timeline.frames[number]
@@ -457,5 +455,5 @@ class PageTransmissions:
 
 
 def find_nearest(frames: list[int], wanted: int) -> int | None:
-    """Return the frame nearest to `wanted`, or `None`."""
+    """Return the frame nearest to `wanted`, or `None` if there are no frames."""
     return min(frames, key=lambda frame: abs(frame - wanted)) if frames else None

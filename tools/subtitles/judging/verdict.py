@@ -1,4 +1,4 @@
-"""The verdict on a pair: its parts, gaps, warnings, texts, and the delays of its subtitles."""
+"""The verdict on a pair: its parts, gaps, warnings and texts, and the delays of its subtitles."""
 from __future__ import annotations
 
 import collections
@@ -24,15 +24,15 @@ from .status import (
 from .subtitles import SubtitleCounts, ValidSubtitles
 
 
-# Delays until subtitles are complete: a broadcaster chooses --within N from these
+# Delays until subtitles are complete, from which a broadcaster can choose --within
 
 # With --within 0 and none of these faults, each page is complete in the frame of its TCI.
 DELAYING_FAULTS = {*range(30, 33), 44, 45, 60, 62, 63, 71, 72, 74, 77}
 
 
 class DelaySpread(NamedTuple):
-    """Minimum, median and maximum of delays in frames; `never_complete` counts subtitles never
-    complete."""
+    """The minimum, median and maximum delay in frames. `never_complete` counts the subtitles that
+    were never complete."""
 
     minimum: int
     median: int
@@ -40,7 +40,7 @@ class DelaySpread(NamedTuple):
     never_complete: int
 
     def describe(self) -> str:
-        """Return the delays as one clause."""
+        """Describe the delays in one clause."""
         middle = "" if self.minimum == self.maximum else f" (median {self.median})"
         never = f"; {self.never_complete} never seen complete" if self.never_complete else ""
         return f"subtitles are complete after {format_frame_range(self.minimum, self.maximum)}" \
@@ -48,8 +48,8 @@ class DelaySpread(NamedTuple):
 
 
 def summarize_delays(several: Iterable[int | None]) -> DelaySpread | None:
-    """Return minimum, median and maximum of delays; `None` is a subtitle that was never complete.
-    """
+    """Return minimum, median and maximum delay. A delay of `None` means that a subtitle was never
+    complete."""
     all_of = list(several)
     known = sorted(frames for frames in all_of if frames is not None)
     if not known:
@@ -59,10 +59,10 @@ def summarize_delays(several: Iterable[int | None]) -> DelaySpread | None:
 
 def measure_delay(subtitle: Subtitle, page: Rows, timeline: Timeline,
                   is_complete: bool) -> int | None:
-    """Return after how many frames the page of a subtitle is complete, and with `is_complete` also
-    closed.
+    """Return the number of frames from the TCI until the page of a subtitle is complete; with
+    `is_complete`, until it is also closed.
 
-    Return `None` if that never happens, or if nothing was received before the TCI.
+    Return `None` if the page is never complete, or if nothing was received before the TCI.
     """
     if timeline.first > subtitle.begin:
         return None
@@ -79,7 +79,7 @@ def measure_delay(subtitle: Subtitle, page: Rows, timeline: Timeline,
 
 def find_worst_part(parts: Sequence[Part],
                     find_worst: Callable[[Part], WorstFault | None]) -> Part | None:
-    """Return the first part whose `find_worst` is the most severe fault."""
+    """Return the first part in which `find_worst` returns the most severe fault."""
     def rank(part: Part) -> Rank:
         worst = find_worst(part)
         return worst.rank if worst else Rank.LATER
@@ -88,12 +88,12 @@ def find_worst_part(parts: Sequence[Part],
 
 
 def add_worst_fault(facts: Facts, worst: WorstFault | None) -> Facts:
-    """Return the facts of a sentence with the fault to report first."""
+    """Return the facts for a sentence with the fault to report first added."""
     return facts._replace(first=worst.fault, is_caused=worst.is_caused) if worst else facts
 
 
 def count_fault_numbers(parts: Sequence[Part], left_out: Collection[int] = ()) -> list[FaultCount]:
-    """Count the faults of all parts by fault number, except numbers in `left_out`."""
+    """Count the faults in all parts by fault number, ignoring the numbers in `left_out`."""
     counts: collections.Counter[int] = collections.Counter()
     names: dict[int, str] = {}
     for part in parts:
@@ -103,17 +103,17 @@ def count_fault_numbers(parts: Sequence[Part], left_out: Collection[int] = ()) -
             if number not in left_out]
 
 
-# The verdict
+# The verdict and its texts
 
-ESTIMATED = "estimated"  # a kind of warning: the clock after a break was estimated
+ESTIMATED = "estimated"  # kind of a warning: the clock after a break was estimated
 
 
 @dataclasses.dataclass
 class Gap:
     """A place where packets are missing: the times before and after the place, and a description.
 
-    `is_judged`: the verdict covers frames between these times. `check` has already reported a gap
-    marker among the judged PES packets, as fault 45.
+    `is_judged` is set if the verdict covers frames between these times. `check` reports any gap
+    marker among the judged PES packets as fault 45.
     """
 
     after: str | None
@@ -123,16 +123,16 @@ class Gap:
     is_judged: bool
 
     def format_line(self) -> str:
-        """Return a line with the times around the gap and a description of the loss."""
+        """Return an output line with the times around the gap, and a description of the loss."""
         return f"between {self.after or 'the beginning'} and {self.before or 'the end'}: " \
             f"{self.description}"
 
 
 class Unjudged(NamedTuple):
-    """Why a pair is not judged, in lines, and commands that the operator may type then.
+    """The reason why a pair is not judged, line by line, and commands to suggest to the operator.
 
-    `is_temporary`: the cause is a failure of the machine, so another run may judge the pair.
-    `is_stopped`: a signal stopped the run.
+    `is_temporary` is set for a system error, after which another run may judge the pair;
+    `is_stopped` is set if a signal stopped the run.
     """
 
     reason: str
@@ -145,9 +145,9 @@ class Unjudged(NamedTuple):
 class Verdict:
     """The result of judging a pair.
 
-    `notes` are other observations, one line each; `hints` explain the first character and the first
-    header that are refused. `files_at_start` describes the files when judging began; `seconds` is
-    the duration of judging.
+    `notes` are other observations, one line each; `hints` explain the first faults with certain
+    numbers. `files_at_start` describes the files when judging began; `seconds` is the duration of
+    judging.
 
     The texts of a verdict appear here:
 
@@ -174,36 +174,36 @@ class Verdict:
     selections: list[Selection] = dataclasses.field(default_factory=list)
     stl: SummedFile | None = None
     recording: SummedFile | None = None
-    is_kept: bool = False  # the judged files stay in the folder
-    unjudged: Unjudged | None = None  # if the pair is not judged
-    # Outputs that could not be written, or would describe other files than were judged.
+    is_kept: bool = False  # whether the judged files are kept
+    unjudged: Unjudged | None = None  # set if the pair is not judged
+    # Outputs that could not be written, or that would describe other files than those judged
     failed_outputs: list[str] = dataclasses.field(default_factory=list)
     files_at_start: dict[str, object] = dataclasses.field(default_factory=dict)
     seconds: float = 0.0
     subtitle_count: int = 0
-    # If some subtitles are refused, and others are judged.
+    # Set if some subtitles are refused and others are judged
     valid_subtitles: ValidSubtitles | None = None
-    # Faults without a number.
+    # Faults without a fault number
     named_faults: list[NamedFault] = dataclasses.field(default_factory=list)
 
     @property
     def is_lost(self) -> bool:
-        """Return whether TS packets are lost in frames that the verdict covers."""
+        """Return whether TS packets are lost in frames covered by the verdict."""
         return any(gap.is_judged for gap in self.gaps)
 
     def warn(self, notices: Iterable[Notice]) -> None:
-        """Add warnings that are not listed yet."""
+        """Add warnings, except those that were added before."""
         self.warnings += [notice for notice in dict.fromkeys(notices)
                           if notice not in self.warnings]
 
     def list_notes(self) -> list[str]:
-        """Return the notes for the report and the JSON result."""
+        """Return all notes for the report and the JSON result."""
         return [*self.notes, *([self.estimated_clock_note] if self.estimated_clock_note
                                and self.word != RELATIVE else [])]
 
     @property
     def estimated_clock_note(self) -> str | None:
-        """Return a note that the clock, or the clock after a break, was estimated; `None` if a
+        """Return a note that the clock, or the clock after a break, was estimated; `None` if the
         clock was given."""
         if not any(part.clock and part.clock.is_estimated for part in self.parts):
             return None
@@ -212,7 +212,7 @@ class Verdict:
 
     @property
     def has_picture(self) -> bool:
-        """Return whether the recording has a picture whose time code `--start` can give."""
+        """Return whether the recording has pictures, so that `--start` can be used."""
         recording = self.parts[0].recording if self.parts else None
         return recording is not None and recording.has_picture()
 
@@ -223,7 +223,7 @@ class Verdict:
         return self.request.has_clock and not (clocks and clocks[0].is_estimated)
 
     def collect_grounds(self) -> Grounds:
-        """Return everything that decides the verdict."""
+        """Return all values that decide the verdict."""
         is_later = bool(self.estimated_clock_note) and self.has_clock
         kinds = [*(warned.kind for warned in self.warnings), *[ESTIMATED] * is_later]
         return Grounds([part.summarize_check() for part in self.parts], self.severity,
@@ -238,19 +238,19 @@ class Verdict:
 
     @property
     def is_final(self) -> bool:
-        """Return whether another run would give the same verdict, since nothing failed or was
-        stopped."""
+        """Return whether another run would give the same verdict, since no system error occurred
+        and nothing was stopped."""
         known = self.unjudged
         return not (known and (known.is_temporary or known.is_stopped) or self.failed_outputs)
 
     @property
     def is_stopped(self) -> bool:
-        """Return whether a signal stopped the run."""
+        """Return whether a signal stopped the run of qc."""
         return bool(self.unjudged and self.unjudged.is_stopped)
 
     @property
     def suggestions(self) -> tuple[str, ...]:
-        """Return commands that the operator may type if the pair is not judged."""
+        """Return the commands that the operator may type if the pair is not judged."""
         return self.unjudged.suggestions if self.unjudged else ()
 
     @property
@@ -260,8 +260,7 @@ class Verdict:
 
     @property
     def unjudged_reason(self) -> str | None:
-        """Return the reason why the pair is not judged, in lines, or `None` if the pair is judged.
-        """
+        """Return the reason why the pair is not judged, line by line, or `None` if it is judged."""
         reasons = [*([self.unjudged.reason] if self.unjudged else []), *self.failed_outputs]
         return "\n".join(reasons) if reasons else self.decision.reason
 
@@ -291,15 +290,15 @@ class Verdict:
 
     @property
     def delay_of_all(self) -> int:
-        """Return by how many frames all subtitles are late by the given clock; 0 if subtitles have
-        different delays, or --within allows delays."""
+        """Return by how many frames all subtitles are late by the given clock; 0 if their delays
+        differ, or if --within allows delays."""
         clock = self.parts[0].clock if len(self.parts) == 1 else None
         is_measured = clock and clock.is_delay_of_all and not self.request.within
         return clock.delay_frames or 0 if clock and is_measured else 0
 
     def add_transmission_facts(self, said: Facts, beside: ValidSubtitles) -> Facts:
-        """Return the facts about the transmission of a file with refused subtitles, from the worst
-        part."""
+        """Return the facts about the transmission of a file with refused subtitles, from the part
+        with the worst fault."""
         answers = [part.check_output for part in self.parts]
         parts = [part for part in self.parts if part.worst_transmission_fault]
         part = find_worst_part(parts, lambda one: one.worst_transmission_fault)
@@ -311,7 +310,7 @@ class Verdict:
 
     @property
     def subtitle_counts(self) -> SubtitleCounts | None:
-        """Return how many subtitles were judged and how many are refused, or `None` if unknown."""
+        """Return the number of judged subtitles and of refused subtitles, or `None` if unknown."""
         if self.word == NOT_JUDGED or not self.parts:
             return None
         if self.valid_subtitles:
@@ -321,12 +320,12 @@ class Verdict:
         return None if is_refused else SubtitleCounts(self.subtitle_count, 0)
 
     def narrow_to_part(self, part: Part, gaps: list[Gap]) -> Verdict:
-        """Return the verdict on one part alone, with the gaps of that part."""
+        """Return the verdict on one part alone, with only the gaps in this part."""
         return dataclasses.replace(self, parts=[part], gaps=gaps)
 
     @property
     def delays(self) -> DelaySpread | None:
-        """Return the spread of the delays until subtitles are complete."""
+        """Return minimum, median and maximum delay until subtitles are complete."""
         return summarize_delays(frames for part in self.parts for frames in part.delays)
 
     @property
@@ -343,8 +342,8 @@ class Verdict:
     def line(self) -> str | None:
         """Return the last line on standard output.
 
-        The line has the first error as `check` prints it, or else the first waived fault. Without a
-        fault it is the last line of the only part, or sums over all parts.
+        The line has the first error as `check` prints it, or else the first waived fault. If there
+        is no fault, it is the last line of the only part, or it has sums over all parts.
         """
         faults: list[FaultLine | NamedFault] = [
             fault for part in self.parts for fault in part.check_output.first_faults.values()]
@@ -355,7 +354,7 @@ class Verdict:
 
     @property
     def worst_line(self) -> str | None:
-        """Return the first line of reports and batch tables: the last line of output, but with the
+        """Return the first line in reports and batch tables: the last output line, but with the
         worst error."""
         if self.worst_named_fault:
             return self.prefix_verdict(self.worst_named_fault.line)
@@ -363,7 +362,7 @@ class Verdict:
 
     @property
     def worst_named_fault(self) -> NamedFault | None:
-        """Return the worst fault without a number, if no other fault is worse."""
+        """Return the worst fault without a number, unless another fault is worse."""
         worst = self.worst_part.worst_fault if self.worst_part else None
         errors = [fault for fault in self.named_faults if self.severity.is_error(fault.name)]
         named = errors if errors or self.word == REFUSED else self.named_faults
@@ -371,7 +370,7 @@ class Verdict:
 
     @property
     def worst_part(self) -> Part | None:
-        """Return the part that has the worst fault."""
+        """Return the part with the worst fault."""
         refused = [part for part in self.parts if part.is_refused]
         errors = [part for part in refused
                   if any(map(self.severity.is_error, part.check_output.fault_numbers))]
@@ -379,8 +378,8 @@ class Verdict:
 
     @property
     def waived_numbers(self) -> set[int]:
-        """Return the fault numbers that are only warnings, if the pair is refused for other faults.
-        """
+        """Return the fault numbers that the severity file makes warnings, if the pair is refused
+        for other faults."""
         numbers = {number for part in self.parts for number in part.check_output.fault_numbers}
         left_out = STL_FAULTS | {UNDECIDED} if self.valid_subtitles else set[int]()
         return {number for number in numbers - left_out if not self.severity.is_error(number)} \
@@ -406,8 +405,8 @@ class Verdict:
         return line
 
     def format_good_line(self) -> str:
-        """Return the line of the only part, or sums over all parts; `relative` comes first if no
-        clock was given."""
+        """Return the last line for an accepted pair: the line of the only part, or sums over all
+        parts. It begins with `relative` if no clock was given."""
         answers = [part.check_output for part in self.parts]
         line = answers[0].line if len(answers) == 1 else (
             f"{ACCEPTED} {sum(answer.frames or 0 for answer in answers)} frames "
@@ -416,7 +415,7 @@ class Verdict:
         return line if self.has_clock else f"{RELATIVE}{line.removeprefix(ACCEPTED)}"
 
     def format_part_lines(self) -> list[str]:
-        """Return a line for each of several parts: the times of the part and its last line."""
+        """Return a line for each part if there are several: its times and its last output line."""
         return [f"part {part.number}, from {' to '.join(map(str, part.time_codes()))}: "
                 f"{part.check_output.line}" for part in self.parts] if len(self.parts) > 1 else []
 
@@ -425,13 +424,13 @@ class Verdict:
 
 
 def find_gaps(recording: Recording, parts: Sequence[Part]) -> list[Gap]:
-    """Return the gaps of a recording, including gaps that announced jumps of the counter hide."""
+    """Return the gaps in a recording, including gaps hidden by announced jumps of the counter."""
     return make_gaps(recording.places([jump for part in parts for jump in part.jumps]), parts)
 
 
 def make_gaps(places: Sequence[LossPlace], parts: Sequence[Part]) -> list[Gap]:
-    """Return gaps at these places, with times by the clock of the first part that contains the
-    place, or else of the first part."""
+    """Return the gaps at some places in the recording. Their times are by the clock of the first
+    part that contains the place, or else by the clock of the first part."""
     gaps = []
     for place in places:
         own = [part for part in parts if belongs_to_part(place, part)]

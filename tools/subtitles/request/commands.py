@@ -57,10 +57,10 @@ def shell_line(*words: str) -> str:
     return line.replace(" > ", " >")
 
 
-# Names of result files.
+# Names of result files
 #
 # The name of a result file depends only on its pair and part. Names are unique: if the name of a
-# subtitle file ends like the number of a part or a line, that ending is escaped.
+# subtitle file ends in something like a part number or line number, this suffix is escaped.
 #
 #     film.json       the pair of film.stl         film~2.json     the second film.stl of a list
 #     film.1.html     the first part of film.stl   line 7.json     line 7, if it is no pair
@@ -122,7 +122,7 @@ PART_FILE = re.compile(rf"(.*)\.[1-9][0-9]*\.({'|'.join(map(re.escape, PART_ENDI
 class PartFiles:
     """The result files of parts in a folder.
 
-    The folder is listed only once: listing it for each pair of a batch would take quadratic time.
+    The folder is listed only once, since listing it for each pair would take quadratic time.
     """
 
     def __init__(self, folder: str) -> None:

@@ -162,12 +162,12 @@ def resolve_setting_path(setting: Setting, folder: str) -> Setting:
 def read_options(parser: ToolParser, line: Sequence[str], defaults: Mapping[str, Any],
                  own_defaults: Mapping[str, Any], folder: str = "", is_typed: bool = False) \
         -> argparse.Namespace:
-    """Return the options of a line, with `defaults` for options that it does not have.
+    """Return the options of a line, with values from `defaults` for options that it lacks.
 
-    A profile in the line replaces that of the command line: its options override `own_defaults`,
-    the options of the command line without its profile. The returned options have `own_defaults`
-    too. Only a profile on the command line may be a pipe: a list could name a pipe without a
-    writer.
+    A profile in the line replaces the profile of the command line: its options override the
+    defaults `own_defaults`, which are the command line's options without its profile. The returned
+    options have `own_defaults` too. A profile in a line can't be a pipe, since a list could name a
+    pipe that nothing writes to.
     """
     typed = {word.partition("=")[0] for word in line}
     defaults = remove_replaced_clock(defaults, typed)

@@ -22,11 +22,11 @@ from ..formats.stl import read_stl
 from ..formats.teletext import OPTION_WORDS, option_for_language, page_name
 
 
-# The table of the options for a pair.
+# The options for a pair
 #
 # The parser and its help, the man page, the completion, the manual's table, the arguments of `qc`
-# and `check`, and the members of a JSON result that --resume compares are all made from it. To add
-# an option, add a row here and a field to `Request`.
+# and `check`, and the members of a JSON result that --resume compares are all made from this table.
+# To add an option, add a row here and a field to `Request`.
 
 
 class Mode(NamedTuple):
@@ -55,11 +55,11 @@ NOT_TAKEN = object()  # `check` does not take the option
 class Option(NamedTuple):
     """An option of the command line or of a line in a list.
 
-    `metavar` is the name of its value, `None` for a flag. `description` is in the imperative and
-    may have links of the manual. `field` is its field in `Request` or the parsed arguments. `read`
-    parses the value and may raise `ArgumentTypeError`, `write` formats it. A flag sets the field to
-    `flag_value`. `check_default` is the default in `check`. An option that `changes_pages` is
-    passed to `schedule` too. A profile may have it if `is_in_profile`. `shape`, `note` and
+    `metavar` is the name of its value, or `None` for a flag. `description` is in the imperative and
+    may have Markdown links. `field` is its field in `Request` or in the parsed arguments. `read`
+    parses the value and may raise `ArgumentTypeError`; `write` formats it. A flag sets the field to
+    `flag_value`. `check_default` is the default in `check`. `changes_pages` is set if the option is
+    passed to `schedule` too, `is_in_profile` if profiles may contain it. `shape`, `note` and
     `result_value` define its member in a JSON result.
     """
 

@@ -1,5 +1,5 @@
-"""Results as files: JSON, CSV and JUnit.
+"""Result files: JSON, CSV and JUnit.
 
 schema         tables of the members of JSON results, from which the schema is made
-files          writing JSON, CSV and JUnit; reading JSON results back
+files          writing JSON, CSV and JUnit files, and reading JSON results
 """

@@ -80,10 +80,10 @@ NO_CLOCK, LATER_CLOCK = "no clock was given", "the clock after a break was estim
 
 
 class Row(NamedTuple):
-    """A pair in a table.
+    """The row of a pair in a table.
 
-    `title` has its two files, `hint` is about its worst fault. `counts` says how many subtitles
-    were judged if some are refused, and `clock` why a delay was not checked.
+    `title` names its two files, and `hint` explains its worst fault. If some subtitles are refused,
+    `counts` says how many were judged; `clock` says why a delay was not checked.
     """
 
     name: str
@@ -398,10 +398,10 @@ def column_rows(result: dict[str, Any]) -> Iterator[Columns]:
 # JUnit files
 
 class TestCase(NamedTuple):
-    """A pair as a test case.
+    """A pair as a JUnit test case.
 
-    `line` is its worst fault or the reason, `lines` are the first lines of its list of faults.
-    `counts` says how many subtitles were judged if some are refused.
+    `line` is its worst fault, or the reason why it was not judged; `lines` are the first lines of
+    its fault list. If some subtitles are refused, `counts` says how many were judged.
     """
 
     name: str
