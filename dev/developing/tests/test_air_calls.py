@@ -1,4 +1,4 @@
-"""tools/air with real processes: a feed recorded and judged, from the pipe to the result."""
+"""Test tools/air with real processes that record and judge a feed."""
 from __future__ import annotations
 
 import datetime
@@ -21,13 +21,13 @@ from .streams import multiplex_frames
 from .programmes import BEGIN, LASTS, SECOND, repeat_last_page, make_programme, wait_until
 from .transmissions import packets, write_subtitle_file
 
-LEAD, TAIL = 4, 6  # seconds of the feed before and after the programme
+LEAD, TAIL = 4, 6  # length of the feed before and after the programme, in seconds
 ALL = LEAD + LASTS + TAIL
 
 
 class Trial(NamedTuple):
-    """The recorded seconds of the feed; whether two PES packets are missing; air time and margin;
-    the expected verdict, whether it is final, and the beginning of its reason."""
+    """A test case: recorded seconds of the feed, whether two PES packets are missing, air time and
+    margin, the expected verdict, whether it is final, and the beginning of its reason."""
 
     recorded: tuple[int, int]
     is_wrong: bool
@@ -57,10 +57,10 @@ TRIALS = {
 
 
 class Feeds(Air):
-    """A feed with one programme."""
+    """A test case with a feed that transmits one programme."""
 
     def feed(self, is_wrong: bool = False) -> list[bytes]:
-        """Return the frames of a feed, without two PES packets if it should be wrong."""
+        """Return the frames of the feed; if `is_wrong`, two PES packets are missing."""
         made = make_programme(self, "one", 1_000_000, "Alpha Beta Gamma Delta",
                               BEGIN + SECOND * LEAD)
         pes = packets(made + repeat_last_page(made, BEGIN + SECOND * (LEAD + LASTS), TAIL))
@@ -72,7 +72,7 @@ class Feeds(Air):
 class Checks(Feeds):
     def judged(self, frames: list[bytes], begin: int = 0, air: int = 0, margin: int = 60,
                program: str = "") -> Outcome:
-        """Judge frames that are recorded from a second on."""
+        """Judge frames of the feed, recorded from second `begin` on."""
         self.delete_all("segments", "out")
         self.put_segment(begin, begin + len(frames) / 25, b"".join(frames))
         self.write_schedule("2026-12-01T08:00:00Z one.stl")
@@ -135,23 +135,23 @@ class Checks(Feeds):
 
 class Calls(Feeds):
     def record(self, frames: list[bytes], *words: str) -> None:
-        """Record a feed as fast as possible."""
+        """Record the frames of a feed without pauses between them."""
         done = self.call([tool_path("air"), "record", self.path("segments"), "--free", "0", *words],
                          b"".join(frames))
         self.check("record", (done.status, done.told), (0, []))
 
     def put_on_air(self, begin: float, *options: str) -> None:
-        """Write a schedule with one programme."""
+        """Write a schedule with the programme at this time."""
         date = datetime.datetime.fromtimestamp(begin, datetime.timezone.utc)
         self.write_schedule(" ".join([f"{date:%Y-%m-%dT%H:%M:%SZ}", "one.stl", *options]))
 
     def judge_command(self, *words: str) -> list[str]:
-        """Return the command of a call of `judge`."""
+        """Return a command that runs `tools/air judge`."""
         return [tool_path("air"), "judge", self.path("schedule"), self.path("segments"), "-o",
                 self.path("out"), "-p", self.bench.program, *words]
 
     def spread(self, begin: float, end: float) -> None:
-        """Give the segments the modification times of a live feed."""
+        """Give the segments names from `begin` on, and the modification time `end`."""
         names = sorted(name for name in os.listdir(self.path("segments")) if name.endswith(".ts"))
         for number, name in enumerate(names):
             path = self.path(f"segments/{segment_name(begin + number)}")
@@ -203,7 +203,7 @@ class Calls(Feeds):
 
     @staticmethod
     def start(source: int, *words: str) -> subprocess.Popen[bytes]:
-        """Start a service."""
+        """Start tools/air in the background with the given standard input."""
         return subprocess.Popen([sys.executable, tool_path("air"), *words], stdin=source,
                                 stdout=subprocess.DEVNULL, stderr=subprocess.DEVNULL)
 

@@ -1,4 +1,4 @@
-"""The judge of tools/air: when it gives which verdict, and how it handles failures."""
+"""Test the judge of tools/air: its verdicts, their times, and its reaction to failures."""
 from __future__ import annotations
 
 import contextlib
@@ -17,14 +17,14 @@ from .air import Air, DAY, FakeChecker, MARGIN, Sent, outcome
 from .bench import example_bytes
 from .transmissions import write_subtitle_file
 
-NAME = "20261201T081000Z-one"  # on air from second 600 on, for 60 seconds
+NAME = "20261201T081000Z-one"  # scheduled from second 600 to 660
 BEGIN, END = 600, 660
 OTHER = NAME.replace("one", "two")
 
 
 class Trial(NamedTuple):
-    """The recorded seconds and the missing ones; the real transmission; the expected verdict, how
-    many seconds after the scheduled end it comes, and the reason."""
+    """A test case: recorded and missing seconds, the actual transmission, the expected verdict, its
+    time in seconds after the scheduled end, and its reason."""
 
     recorded: tuple[int, int]
     missing: tuple[tuple[int, int], ...]
@@ -84,7 +84,7 @@ class Judged(Air):
 
     def run_judge(self, checker: FakeChecker, end: int, begin: int = BEGIN, *more: str
                   ) -> judging.Judge:
-        """Look every five seconds up to a time, or until there is a result."""
+        """Run the judge every five seconds from `begin` to `end`, or until it writes a result."""
         judge = self.make_judge(checker, *more)
         for self.now in range(begin, end, 5):
             while judge.look(DAY + self.now):
@@ -94,7 +94,7 @@ class Judged(Air):
         return judge
 
     def recorded_so_far(self, folder: str, begin: float, end: float) -> list[Segment]:
-        """Return the segments as they are at this time."""
+        """Return the segments between two times, as far as they have been recorded by now."""
         now = DAY + self.now - self.lag
         found = segments_between(folder, begin, min(end, now))
         return [one._replace(end=min(one.end, now)) for one in found]
@@ -270,7 +270,7 @@ class Judged(Air):
             self.write(f"work/{NAME}.{ending}", b'{"verdict": "relative"}')
         found = outcome(NAME, "relative", "relative")
         assert found.result
-        found.result["request"] = {}  # it was judged, so there are files
+        found.result["request"] = {}  # the result of a judged programme
         checker.check = lambda *_: found  # type: ignore
 
         def write(path: str, is_stored: bool) -> contextlib.AbstractContextManager[BinaryIO]:
@@ -305,8 +305,6 @@ ALARMS: dict[str, tuple[dict[str, Any], list[str]]] = {
 
 
 class State(Air):
-    """The state for monitoring."""
-
     def test_raises_each_alarm(self) -> None:
         for name, (values, expected) in ALARMS.items():
             one = Monitor()

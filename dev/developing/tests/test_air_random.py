@@ -1,5 +1,4 @@
-"""Randomized days of tools/air, compared with a simple model of the recording and the transmission.
-"""
+"""Compare tools/air with a simple model of the recording and the transmission on random days."""
 from __future__ import annotations
 
 import os
@@ -12,17 +11,16 @@ from subtitles.air.segments import segment_name
 from .air import Air, DAY, FakeChecker, LENGTH, MARGIN, Sent
 from .transmissions import write_subtitle_file
 
-SECONDS = 60  # length of a programme
+SECONDS = 60  # length of a programme in seconds
 GAP = re.compile(r"(\S+Z) to (\S+Z)")
 Lost = Sequence["tuple[int, int]"]
 
 
 class Day(NamedTuple):
-    """A day, in seconds: the lines of the schedule, the air time of each programme, its real
-    transmission, the lost parts of the feed, how long segments are kept, and when the judge is
-    down.
+    """A random day: lines of the schedule, the scheduled and actual times of each programme, lost
+    parts of the feed, the seconds for which segments are kept, and a time without a judge.
 
-    A loss of length 0 is a restart of the recorder.
+    A loss of length 0 stands for a restart of the recorder. All times are in seconds.
     """
 
     lines: list[str]
@@ -35,7 +33,7 @@ class Day(NamedTuple):
 
 
 def date(second: int) -> str:
-    """Format a second of the day."""
+    """Format a number of seconds after `DAY` as a date and time."""
     return time.strftime("%Y-%m-%dT%H:%M:%SZ", time.gmtime(DAY + second))
 
 
@@ -60,13 +58,13 @@ def random_day(chance: random.Random) -> Day:
 
 
 def possible(sent: Sent, time: int, lost: Lost, is_deleted: bool) -> set[str]:
-    """Return the acceptable verdicts of a programme."""
+    """Return the verdicts that are correct for a programme."""
     is_cut = any(first < sent.end and last > sent.begin for first, last in lost)
     if abs(sent.begin - time) > MARGIN or is_cut:
         return {"not judged"}
-    # A loss just before or after a programme may hide where a fault comes from.
+    # A loss just before or after a programme may hide the cause of a fault.
     is_near = any(first <= sent.end and last >= sent.begin for first, last in lost)
-    # A programme that ends with its window is known to have ended only if nothing is lost there.
+    # If the programme ends at the end of its margin, its end is known only without losses.
     is_last = sent.begin == time + MARGIN and bool(lost)
     deserved = "relative" if sent.is_right else "refused"
     is_open = is_deleted or (is_near or is_last) and not sent.is_right
@@ -84,7 +82,7 @@ class Days(Air):
             self.judge_day(random.Random(seed), seed)
 
     def judge_day(self, chance: random.Random, seed: int) -> None:
-        """Record and judge one day."""
+        """Record and judge a random day, and check the verdicts."""
         day, first_seen = random_day(chance), dict[str, str]()
         checker = FakeChecker(day.sent, lambda: chance.random() < .1)
         judge = self.make_judge(checker)
@@ -95,8 +93,8 @@ class Days(Air):
                 self.put_segment(now, now + LENGTH, is_new=now in starts)
                 self.delete_segment(now - day.kept)
             if chance.random() < .05:
-                judge = self.make_judge(checker)  # killed and restarted
-            if is_half := chance.random() < .05 and now < day.end:  # the schedule is being edited
+                judge = self.make_judge(checker)  # restart the judge
+            if is_half := chance.random() < .05 and now < day.end:  # incomplete schedule
                 self.write("schedule", "\n".join(chance.sample(day.lines, 3)).encode())
             elif was_half:
                 self.write_schedule(*day.lines)
@@ -123,7 +121,7 @@ class Days(Air):
                     first <= begin and end <= last for first, last in gaps), gaps)
 
     def delete_segment(self, begin: int) -> None:
-        """Delete the segment of a second, if there is one."""
+        """Delete the segment that begins at a second, if it exists."""
         for is_new in (False, True):
             path = self.path(f"segments/{segment_name(DAY + begin, is_new)}")
             if os.path.exists(path):
@@ -131,7 +129,7 @@ class Days(Air):
 
 
 def merge(lost: Lost) -> list[tuple[int, int]]:
-    """Merge losses that overlap or touch, as one recorder sees them."""
+    """Merge losses that overlap or adjoin."""
     found = list[tuple[int, int]]()
     for first, last in sorted(lost):
         if found and first <= found[-1][1]:

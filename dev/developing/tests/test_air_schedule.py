@@ -1,4 +1,4 @@
-"""The schedule of tools/air: its lines, times and names, and the length of a programme."""
+"""Test the schedule of tools/air: its lines, times and names, and lengths of programmes."""
 from __future__ import annotations
 
 import os
@@ -10,7 +10,7 @@ from .air import Air, DAY
 NO_TIME = "is not a time of air: begin the line with a date and a time that ends in Z or an " \
     "offset, as `2026-11-29T20:15:00Z news.stl`"
 
-# A line, and the name and times of its result, or the error message.
+# Lines of a schedule, each with the name and times of its programme, or with an error message.
 LINES = {
     "in UTC": ("2026-12-01T08:00:00Z news.stl", "20261201T080000Z-news 0 None"),
     "half a second": ("2026-12-01T08:00:00.5Z news.stl", "20261201T080000Z-news 0.5 None"),
@@ -39,12 +39,12 @@ LINES = {
                                "segments, which is not known: remove them"),
     "a quote": ("2026-12-01T08:00:00Z 'news.stl", "line 1: a quote is not closed"),
 }
-# Both nights on which clocks in Berlin change: the same local time an hour apart.
+# Times in the nights in which the clocks in Berlin change, and the names of their results.
 NIGHTS = {"2026-10-25T02:30:00+02:00": "20261025T003000Z-a",
           "2026-10-25T02:30:00+01:00": "20261025T013000Z-a",
           "2027-03-28T01:59:59+01:00": "20270328T005959Z-a",
           "2027-03-28T03:00:00+02:00": "20270328T010000Z-a"}
-HOUR = 90_000  # frames
+HOUR = 90_000  # frames in an hour
 LENGTHS = {
     "one subtitle": ([(0, 250)], "", 10.0),
     "two": ([(0, 250), (500, 1000)], "", 40.0),
@@ -55,13 +55,13 @@ LENGTHS = {
 
 
 def shown(time: float | None) -> str:
-    """Format a time in seconds of the day."""
+    """Format a time as seconds after `DAY`."""
     return "None" if time is None else f"{time - DAY:g}"
 
 
 class Lines(Air):
     def read_lines(self, text: str) -> list[str]:
-        """Return the programmes of a schedule, then its faults."""
+        """Parse a schedule; return a line for each programme, and then the faults."""
         schedule = read_schedule(self.write("schedule", text.encode()), self.args())
         printed = [f"{one.name} {shown(one.begin)} {shown(one.end)}" for one in schedule.programmes]
         return printed + [*schedule.faults]

@@ -1,4 +1,4 @@
-"""Segments of tools/air: their names and times, gaps between them, the recorder and its limits."""
+"""Test segments of tools/air: their names and times, gaps between them, and the recorder."""
 from __future__ import annotations
 
 import errno
@@ -31,8 +31,8 @@ NAMES = {
     "٢٠٢٦1201T080000Z.ts": None,
 }
 
-# Segments as begin-end, with ! if the name says that something may be missing before it; the
-# longest allowed pause; the expected stretches.
+# Segments as begin-end, with ! if their names report a possible loss before them; the longest
+# allowed pause; the expected stretches without losses.
 STRETCHES = {
     "none": ("", 2, ""),
     "the clock was set back in one": ("10-5 12-20 20-30", 2, "10-30"),
@@ -44,8 +44,8 @@ STRETCHES = {
     "new ones": ("!0-10 10-20 !20-30 30-40", 2, "0-20 20-40"),
 }
 
-# Two segments of one feed: the TS packet before which the first ends, and that at which the second
-# begins; the seconds of all segments, as above; the expected stretches.
+# Two segments of one feed: the end of the first and the start of the second in TS packets; the
+# times of all segments, as above; the expected stretches.
 JOINTS = {
     "it goes on, without a PCR": (900.5, 900.5, "0-10 10-20", "0-20"),
     "the recorder stalled": (900.5, 900.5, "0-10 18-20", "0-20"),
@@ -62,7 +62,7 @@ JOINTS = {
     "the first is too short to tell": (3.5, 3.5, "0-10 18-20", "0-10 18-20"),
 }
 
-# A segment of 100 bytes from second 10 to 20: a time, and the number of its bytes up to it.
+# Times in seconds, and the expected offsets in a segment of 100 bytes from second 10 to 20.
 OFFSETS = {"before it": (5, 0), "its beginning": (10, 0), "a tenth": (11, 10), "half": (15, 50),
            "its end": (20, 100), "after it": (99, 100)}
 
@@ -98,7 +98,7 @@ class Segments(Air):
                 self.check(f"{name}, {size} bytes a packet", found, expected)
 
     def stretches_of(self, text: str, pause: float, *data: bytes) -> str:
-        """Return the stretches of segments, which may have content."""
+        """Write segments with these times and contents, and return the stretches found in them."""
         self.delete_all("segments")
         for number, word in enumerate(text.split()):
             begin, end = map(float, word.strip("!").split("-"))
@@ -169,12 +169,12 @@ class Recorded(Air):
         return Recorder(self.path("segments"), Limits(length, kept, free))
 
     def contents(self) -> list[tuple[float, bytes]]:
-        """Return the start and content of each segment."""
+        """Return the start time and the contents of each segment."""
         return [(round(begin - DAY, 3), self.read(f"segments/{name}"))
                 for begin, name in names_in(self.path("segments"))]
 
     def are_new(self) -> list[bool]:
-        """Return of each segment whether its name says that something may be missing before it."""
+        """Return for each segment whether its name reports a possible loss before it."""
         return ["-new" in name for _, name in names_in(self.path("segments"))]
 
     def test_writes_each_byte_into_the_segment_of_its_time(self) -> None:

@@ -1,4 +1,4 @@
-"""The manual's systemd units: the folders that they write, signals and restarts."""
+"""Test the systemd units in the manual: their folders, signals and restarts."""
 from __future__ import annotations
 
 import configparser
@@ -11,12 +11,12 @@ from .bench import Case, tool_path
 
 MANUAL = os.path.join(TOP, "docs", "manual")
 RECORD, JUDGE = "subttx-air-record.service", "subttx-air-judge.service"
-# the word before the folder that it writes
+# For each unit, the argument that precedes the folder to which its command writes.
 UNITS = {RECORD: "record", JUDGE: "-o", "subttx-watch.service": "-o"}
 
 
 def read_unit(name: str) -> configparser.ConfigParser:
-    """Return the sections of a unit."""
+    """Parse a systemd unit in the manual."""
     unit = configparser.ConfigParser(interpolation=None, strict=False)
     unit.optionxform = str  # type: ignore
     with open(os.path.join(MANUAL, name), encoding="utf-8") as file:
@@ -25,7 +25,7 @@ def read_unit(name: str) -> configparser.ConfigParser:
 
 
 def arguments_of(command: str) -> list[str]:
-    """Split a command, or the command line of its shell, into arguments."""
+    """Split a command into arguments; if it runs a shell, split the shell's command."""
     words = shlex.split(command)
     return shlex.split(words[2]) if words[:2] == ["/bin/sh", "-c"] else words
 

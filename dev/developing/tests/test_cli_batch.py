@@ -1,4 +1,4 @@
-"""Batches of tools/qc: pairs of a folder or a list, each judged in its own process."""
+"""Test batches of tools/qc: pairs in a folder or list, each judged in its own process."""
 from __future__ import annotations
 
 import argparse
@@ -134,14 +134,13 @@ class Lists(Case):
 
 
 class CompleteBatches(Case):
-    seen: Any = None  # the arguments of the last call of judge_all
+    seen: Any = None  # arguments of the last call to `judge_all`
 
     def batch(self, judged: str, *, is_stopped: bool = False, unwritten: dict[str, Any] = {},
               **more: Any) -> tuple[int, list[str], list[str]]:
-        """Judge a list whose pairs have these verdicts; return the status, the table and the
-        messages.
+        """Judge a list of pairs with these verdicts; return the status, the table and the messages.
 
-        `unwritten` has results that are stored in no file.
+        `unwritten` has results that could not be written to a file.
         """
         words = argparse.Namespace(**{**vars(default_options()),
                                       "batch": self.write("list", "".join(
@@ -220,8 +219,8 @@ class CompleteBatches(Case):
             self.must(f"{more}", self.seen is None)
 
 
-# Pairs in forked processes. A fake call writes the verdict that its subtitle file names and ends
-# with its status, or first runs the command in that file; it ends itself after 20 s.
+# A script in place of qc. It writes the verdict named in the subtitle file and returns its status,
+# or runs the command in the subtitle file first. It stops after 20 seconds of processor time.
 CALL = """#!/bin/sh
 words="$*" out= object=
 while [ $# -gt 0 ]; do
@@ -256,11 +255,11 @@ class ForkedPairs(Case):
             kept = ["-o", call.out] if call.out else ["--json", call.json or ""]
             words = [f"--name={call.name}", *["--claimed"] * call.is_claimed, *kept,
                      *["--keep"] * call.is_kept, "-p", call.program or "", *call_arguments(request)]
-            # inherited files keep the process visible to its parent
+            # The parent process detects the end of this process by an inherited file.
             for file in os.listdir("/proc/self/fd"):
                 with contextlib.suppress(OSError):
                     os.set_inheritable(int(file), True)
-            signal.signal(signal.SIGTERM, signal.SIG_DFL)  # an earlier signal arrives here
+            signal.signal(signal.SIGTERM, signal.SIG_DFL)  # deliver earlier signals
             os.execv(path, [path, *words])
 
         asking = mock.patch.object(batch, "judge_forked_pair", execute)
@@ -272,12 +271,12 @@ class ForkedPairs(Case):
         self.calls = PairRunner(self.command_paths, self.path("temporary"), self.path("out"), False)
 
     def item(self, kind: str, name: str = "one", *words: str) -> BatchItem:
-        """Return a pair whose call ends in a given way."""
+        """Return a pair whose subtitle file tells the script `CALL` how to end."""
         stl = self.write(f"{name}.stl", kind.encode())
         return BatchItem(name, request_for(stl, self.path("one.ts"), *words), None)
 
     def judge_one(self, calls: PairRunner, item: BatchItem) -> Row:
-        """Judge one pair; return its row."""
+        """Judge one pair, and return its row in the table."""
         return calls.start(item) or next(calls.finished_rows(SECONDS))
 
     def test_gives_each_call_its_files_and_options(self) -> None:
@@ -444,7 +443,7 @@ class ForkedPairs(Case):
         items, taken = [self.item("accepted", f"name{at}") for at in range(3)], list[Row]()
 
         def are_over() -> bool:
-            running = self.calls.running  # none, where all ended before the first look
+            running = self.calls.running  # empty if all ended before
             return all(os.path.exists(self.calls.result_path(item)) for item in items) and (
                 not running or len(wait_for_any(running, SECONDS)) == len(running))
 

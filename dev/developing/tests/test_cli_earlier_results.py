@@ -1,4 +1,4 @@
-"""Results of earlier calls of tools/qc: which are current, which are reused, which are refused."""
+"""Test which results of earlier runs of tools/qc are current, reused or refused."""
 from __future__ import annotations
 
 import argparse
@@ -31,7 +31,7 @@ from .parts import request_for, default_options
 from .results import FAULT, make_result, row
 
 PROGRAM = ProgramInfo("1", "ab" * 32, None)
-# For each option a value that differs from that of the earlier call.
+# A value for each option that differs from the value in the earlier run.
 OTHERS: dict[str, object] = {
     "page": (0, 0x87), "every": 25, "option": "german", "origin": 5, "is_complete": False,
     "pid": 257, "is_loss_allowed": True, "breaks": 1, "pes": (1, 2), "start": "10:00:00:00",
@@ -41,8 +41,8 @@ OTHERS: dict[str, object] = {
 
 class CurrentResults(Case):
     def accepted_pair(self) -> tuple[Any, dict[str, Any]]:
-        """Return the request of a pair with a severity file, and the result of a call that accepted
-        it."""
+        """Return the request for a pair with a severity file, and the result of an earlier run that
+        accepted this pair."""
         paths = [self.write(name, data) for name, data in (
             ("one.stl", example_bytes("story.stl")), ("one.pes", example_bytes("story.pes")),
             ("severity", b"72 warning\n"))]
@@ -67,7 +67,7 @@ class CurrentResults(Case):
         self.must("all words", names == {*OTHERS, "stl", "recording", "severity", "from_time",
                                              "to_time", "layout", "is_open", "may_keep",
                                              "pace_word", "kept_stl", "language"},
-                  names)  # test_request_options checks those that are missing here
+                  names)  # see test_request_options for the last members
 
     def test_removes_the_earlier_results_of_a_pair(self) -> None:
         rows: list[tuple[tuple[str, ...], int, list[str]]] = [
@@ -88,7 +88,7 @@ class CurrentResults(Case):
                   is_current(accepted_pair, request, PROGRAM._replace(proved="logic=proved")))
         self.must("none", not is_current(make_unjudged("one", "why"), request, PROGRAM))
         sums = set()
-        for data in (b"one", b"two"):  # same size and time
+        for data in (b"one", b"two"):  # contents of equal size
             os.utime(self.write("program", data), (0, 0))
             sums.add(describe_program(self.path("program")).sha256)
         self.must("written anew", len(sums) == 2)
@@ -230,7 +230,7 @@ class StoredResults(Case):
 
 class WatchedFolders(Case):
     def arguments(self, **more: Any) -> argparse.Namespace:
-        """Return the arguments of `--watch`."""
+        """Return the parsed arguments for `qc --watch`."""
         arguments = argparse.Namespace(**vars(default_options()))
         vars(arguments).update({"watch": self.path("in"), "out": self.path("out"), "settled": 0,
                             "is_kept": True, "jobs": 3, "limit": 7, "every": 99,
@@ -238,7 +238,7 @@ class WatchedFolders(Case):
         return arguments
 
     def write_pair(self) -> None:
-        """Make the watched folder with one pair."""
+        """Create the watched folder, and write a pair to it."""
         os.mkdir(self.path("in"))
         for name in ("in/a.stl", "in/a.ts"):
             self.write(name, b"1")
@@ -280,7 +280,7 @@ class WatchedFolders(Case):
         results.next_page = 0.0
         with contextlib.redirect_stdout(out), contextlib.redirect_stderr(io.StringIO()) as errors, \
                 mock.patch.object(collection, "open_result", side_effect=OSError(28, "full")):
-            # it continues if the page can't be written
+            # Pairs are still added if the index page cannot be written.
             results.add(row("c", "accepted", "accepted 5"))
         self.must("told", "full" in errors.getvalue() and "c  accepted" in out.getvalue())
         self.must("once more", "4 pairs: 2 accepted, 1 not judged, 1 refused" in self.read(
@@ -307,7 +307,7 @@ class WatchedFolders(Case):
 
     def run_watch(self, looks: int, judged: Callable[[PairRunner, BatchItem], Row],
                change: Callable[[int], None] = lambda look: None) -> list[str]:
-        """Return the lines of a call that looks at the folder a number of times."""
+        """Run `qc --watch` for `looks` searches of the folder, and return the printed lines."""
         count = 0
 
         def next_look(seconds: float) -> None:

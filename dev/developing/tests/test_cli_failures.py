@@ -1,4 +1,4 @@
-"""Calls of tools/qc that end early: status 2, one line, and a JSON result with the reason."""
+"""Test runs of qc that fail: they return 2, and print and store the reason."""
 from __future__ import annotations
 
 import csv
@@ -25,7 +25,7 @@ QC = tool_path("qc")
 HELLO = [example("hello.stl"), example("hello.pes")]
 ACCEPTED = "accepted 51 frames 2 transmissions"
 CONTROL = "refused 67 Control frame 10:00:00:00 packet 0"
-# A program with fixed answers: {alone} for the subtitle file, {said} for the recording.
+# A script in place of subttx. `check` runs {alone} for a subtitle file and {said} for a recording.
 PROGRAM = r"""#!/bin/sh
 case "$*" in
     show*) printf '%s\n' '00001 10:00:00:00 10:00:02:00 vp 22 jc 2 text 0d0b0b48690a0a' \
@@ -36,8 +36,8 @@ case "$*" in
 esac
 """
 EMPTY = ["refused 60 Empty", "1 faults"]
-# Answers to `check`, most of which the real program never gives, with the valid exit of each: for a
-# subtitle file alone, and for a recording.
+# Output of `check`, mostly invalid, with the only valid end of the script for a subtitle file alone
+# and for a recording, or `None`.
 ANSWERS: dict[str, tuple[list[str], str | None, str | None]] = {
     "accepted": ([ACCEPTED], None, "exit 0"), "no PES packet": (EMPTY, "exit 1", "exit 1"),
     "a fault of the subtitle file": (["refused 50 Character block 1 at 0", "1 faults"], "exit 1",
@@ -62,8 +62,7 @@ ENDS = ("exit 0", "exit 1", "exit 2", "kill -9 $$")
 
 
 class Ended(NamedTuple):
-    """The status of a call, its output, and its lines on standard error without the note on the
-    pace."""
+    """The exit status, output and error output of a run of qc, without the note on the pace."""
 
     status: int
     printed: list[str]
@@ -71,7 +70,7 @@ class Ended(NamedTuple):
 
 
 class CallCase(Case):
-    """Calls of qc in this process."""
+    """A test case that runs qc in this process."""
 
     def text(self, name: str) -> str:
         return self.read(name).decode()
@@ -81,8 +80,8 @@ class CallCase(Case):
 
     def fake_program(self, *lines: str, then: str = "exit 0", alone: Sequence[str] = EMPTY,
                then_alone: str = "exit 1") -> str:
-        """Write a program that answers with these lines for a recording, and others for a subtitle
-        file alone."""
+        """Write a script that replaces subttx and prints `lines` for a recording, and `alone` for a
+        subtitle file alone."""
         text = PROGRAM.replace("{program}", self.bench.program)
         for place, some, end in (("{said}", lines, then), ("{alone}", alone, then_alone)):
             quoted = " ".join(f"'{line}'" for line in some)
@@ -90,7 +89,7 @@ class CallCase(Case):
         return self.write_program("program", text)
 
     def qc(self, *words: str) -> Ended:
-        """Run qc; return its output."""
+        """Run qc in the test's folder; return its status and output."""
         before = os.getcwd()
         received = [(one, signal.getsignal(one)) for one in SIGNALS]
         os.chdir(self.folder)
@@ -109,11 +108,11 @@ class CallCase(Case):
             return Ended(status, lines, [line for line in output if not line.endswith(FEW)])
         finally:
             os.chdir(before)
-            for one, handler in received:  # a finished call ignores signals
+            for one, handler in received:  # qc ignores signals at its end
                 signal.signal(one, handler)
 
     def judge(self, program: str, *words: str) -> Ended:
-        """Judge the example."""
+        """Run qc on the example files `HELLO`."""
         return self.qc(*HELLO, "--origin", "0", "-p", program, *words)
 
 
@@ -132,7 +131,7 @@ class Programs(CallCase):
                 self.fake_program(*lines, then=end), "--json", "one.json"))
 
     def check_judged(self, name: str, status: int, done: Ended) -> None:
-        """Check the status of a call and its result."""
+        """Check the status of a run of qc and its JSON result."""
         known = self.object()
         with self.subTest(name):
             self.assertEqual((done.status, known["status"], known["line"] is None),
@@ -263,7 +262,7 @@ class UsageErrors(CallCase):
 
 class Bugs(CallCase):
     def check_failing(self, place: str, error: Exception) -> None:
-        """Check the result of a call in which a function fails."""
+        """Check a run of qc in which a function raises an error."""
         if os.path.exists(self.path("one.json")):
             os.unlink(self.path("one.json"))
         with mock.patch(f"subtitles.{place}", side_effect=error):

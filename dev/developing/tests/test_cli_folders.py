@@ -1,4 +1,4 @@
-"""Calls of tools/qc with hostile file names, unwritable folders and unusual transport streams."""
+"""Test tools/qc with hostile file names, unwritable folders and unusual transport streams."""
 from __future__ import annotations
 
 import csv
@@ -22,21 +22,21 @@ ESC = "\x1b[31m"
 NAMES = {"an escape": f"a{ESC}b", "a dash": "-story", "an equals sign": "=story", "a plus": "+s",
          "not UTF-8": "caf\udce9", "a new line": "two\nlines", "a quote": "it's \\ \u202e"}
 NOBODY = 65534
-FULL = "64k"  # size of the file system
+FULL = "64k"  # size of the file system that is filled
 
 
 def control_bytes(data: bytes) -> list[int]:
-    """Return the bytes that a terminal would interpret."""
+    """Return the control characters in a text, except new lines."""
     return [byte for byte in data if byte < 0x20 and byte != 0x0A or byte == 0x7F]
 
 
 def in_folder(case: Case, folder: str, *words: str) -> Done:
-    """Run qc in a folder."""
+    """Run qc in a folder of the test."""
     return case.call([tool_path("qc"), "-p", case.bench.program, *words], folder=folder)
 
 
 def check_outputs(case: Case, what: str, folder: str) -> None:
-    """Check that all output files can be read and contain no spreadsheet formula."""
+    """Check that all output files can be read, and that none contains a spreadsheet formula."""
     def read(name: str) -> bytes:
         return case.read(os.path.join(folder, name))
 
@@ -55,13 +55,13 @@ def check_outputs(case: Case, what: str, folder: str) -> None:
 
 
 def check_commands(case: Case, what: str, folder: str, lines: list[str]) -> None:
-    """Check that bash runs each printed command as the tool did."""
+    """Check that each command printed by qc can be run in bash."""
     commands = [line[2:] for line in lines if line.startswith("+ ")]
     for command in commands:
         done = subprocess.run(["bash", "-c", command], cwd=os.path.join(case.folder, folder),
                               stdin=subprocess.DEVNULL, stdout=subprocess.PIPE,
                               stderr=subprocess.PIPE, check=False)
-        # The program needs UTF-8, so it can't read this file.
+        # The program cannot open a file whose name is not UTF-8.
         case.must(f"{what}: {command}", done.returncode == 0 or what == "not UTF-8", done)
 
 
@@ -183,7 +183,7 @@ class Claims(Case):
         open_locked: list[str] = []
 
         def flock(handle: int, kind: int) -> None:
-            """Delete the file at the first call, and fail at the third."""
+            """Delete the lock file in the first call, and raise an error in the third."""
             open_locked.append(os.readlink(f"/proc/self/fd/{handle}"))
             if len(open_locked) == 1:
                 os.unlink(open_locked[0])

@@ -1,4 +1,4 @@
-"""Installed and packaged tools; batches that are killed or stopped, and watched folders."""
+"""Test installed and packaged tools, batches that are killed or stopped, and watched folders."""
 from __future__ import annotations
 
 import glob
@@ -33,7 +33,7 @@ printf '%s\\n' "${COMPREPLY[@]}"
 
 
 def check_installation(case: Case, prefix: str) -> None:
-    """Check that installed tools judge a recording."""
+    """Check that the tools installed in a folder can judge a recording."""
     def run(name: str, *words: str) -> Done:
         return case.call([os.path.join(prefix, "bin", name), *words], env=make_plain_environment())
 
@@ -57,7 +57,7 @@ def check_installation(case: Case, prefix: str) -> None:
 
 
 def proof_file(case: Case) -> str:
-    """Return the path of PROVED; skip the test if the gate has not proved the program."""
+    """Return the path of PROVED; skip the test if the program has not been proved here."""
     program, _ = find_program(TOP)
     proved = os.path.join(os.path.dirname(program), "PROVED")
     if not program or find_crates_without_line(parse_proved(read(proved))):
@@ -66,7 +66,7 @@ def proof_file(case: Case) -> str:
 
 
 def is_compiled(folder: str) -> bool:
-    """Return whether each module has a compiled file that Python uses without comparing times."""
+    """Return whether each module in a folder has a compiled file that is valid without its time."""
     for place, _, names in os.walk(folder):
         for name in names:
             if not name.endswith(".py"):
@@ -76,7 +76,7 @@ def is_compiled(folder: str) -> bool:
             if not os.path.exists(made):
                 return False
             with open(made, "rb") as file:
-                if file.read(8)[4:] != bytes([1, 0, 0, 0]):  # unchecked hash-based .pyc
+                if file.read(8)[4:] != bytes([1, 0, 0, 0]):  # not an unchecked hash-based .pyc
                     return False
     return True
 
@@ -114,7 +114,7 @@ class Installation(Case):
         os.makedirs(self.path("shared/share/man/man1"))
         self.write("shared/bin/subttx-own", b"of somebody else")
         self.tool("install", "-p", self.bench.program, "shared")
-        self.tool("install", "-p", self.bench.program, "shared")  # a second time over it
+        self.tool("install", "-p", self.bench.program, "shared")  # install again over it
         self.write("shared/share/man/other", b"")
         os.symlink("../lib/subttx/tools/older", self.path("shared/bin/subttx-older"))
         done = self.tool(*tool, "shared")
@@ -236,7 +236,7 @@ class Installation(Case):
             self.bench.over.append("the package by lintian, which is not there")
 
 
-SETTLED = 2  # seconds without a change after which a file is complete
+SETTLED = 2  # seconds without change after which a file is judged
 HOSTILE = [b"\xff\xfe", b"caf\xe9", "caf\u00e9".encode(), b"-o", b"--help", b"=1+2", b"\x1b[31mred",
            b"two\nlines", b"tab\there", b" leading", b"trailing ", b"a  b", b"$(date)", b"`date`",
            b"*", b"?", b"[a]", b"a;b", b"a|b&c", b"#one", b"100%", b"back\\slash", b"it's\"",
@@ -248,7 +248,7 @@ def qc(case: Case, *words: str) -> Done:
 
 
 def fill(case: Case, folder: str, count: int) -> None:
-    """Write pairs into a folder; the second is refused."""
+    """Write `count` pairs to a new folder; the second pair has faults."""
     os.mkdir(case.path(folder))
     for number in range(1, count + 1):
         is_broken = number == 2
@@ -258,10 +258,10 @@ def fill(case: Case, folder: str, count: int) -> None:
 
 
 def blocking_program(case: Case, count: int) -> str:
-    """Write a program that counts its checks, and waits before the check after `count` until a file
-    exists.
+    """Write a script that runs the program under test, but waits until a file exists before it
+    judges more than `count` pairs.
 
-    Checks with `--keeping` are not counted.
+    Runs with `--keeping` are not counted.
     """
     case.write("checked", b"")
     script = ("#!/bin/sh\n"
@@ -274,19 +274,19 @@ def blocking_program(case: Case, count: int) -> str:
 
 
 def count_judged(case: Case) -> int:
-    """Return the number of judged pairs."""
+    """Return the number of pairs for which the script of `blocking_program` has been called."""
     return len(case.read("checked").splitlines())
 
 
 def reaches_pair(case: Case, folder: str, count: int) -> bool:
-    """Wait for `count` results in a folder and the check of the next pair; return whether they
-    came."""
+    """Wait until a folder has `count` results and the check of the next pair has begun; return
+    whether this happened in time."""
     return wait_until(lambda: os.path.isdir(case.path(folder)) and count_judged(case) == count + 1
                  and len(results_in(case, folder)) == count)
 
 
 def results_in(case: Case, folder: str) -> dict[str, Any]:
-    """Return the JSON results in a folder."""
+    """Return the JSON results in a folder by their names."""
     found = {}
     for name in os.listdir(case.path(folder)):
         if name.endswith(".json") and not name.startswith("."):
@@ -295,8 +295,8 @@ def results_in(case: Case, folder: str) -> dict[str, Any]:
 
 
 def write_slowly(case: Case, name: str) -> float:
-    """Write a pair whose recording grows for longer than the settle time; return the longest pause
-    in seconds."""
+    """Write a recording slowly, for longer than the settle time; return the longest pause between
+    writes in seconds."""
     data, longest = example_bytes("recording.ts"), 0.0
     case.write(f"{name}.stl", example_bytes("story.stl"))
     last = time.monotonic()
@@ -310,12 +310,12 @@ def write_slowly(case: Case, name: str) -> float:
 
 
 def rename_example(case: Case, name: str, of: str) -> None:
-    """Create a file in one step with the content of an example."""
+    """Create a copy of an example under its final name in one step."""
     os.rename(case.write("whole", example_bytes(of)), case.path(name))
 
 
 def check_watch(case: Case, process: subprocess.Popen[bytes]) -> None:
-    """Check how a watching call judges slow files, complete files and changed files."""
+    """Check how a run with --watch judges slow files, complete files and changed files."""
     def lines() -> list[str]:
         reported = [line.partition("  ")[2] for line in case.read("log").decode().splitlines()
                 if line[:1].isdecimal()]
@@ -429,7 +429,7 @@ class StoppedCalls(Case):
             self.write(f"in/{name}", example_bytes(name.replace("one", "hello")))
         self.write("in/one.done", b"")
         slow = self.program_but("*check*", f"touch '{self.path('begun')}'; exec sleep {SECONDS}")
-        # After a pair's line is printed, a signal no longer stops it.
+        # A signal no longer stops a pair after its line has been printed.
         for program, wanted, words_in in ((slow, "begun", b""),
                                           (self.bench.program, "said", b"relative")):
             words = [tool_path("qc"), "--watch", "in", "-o", "out", "-p", program]

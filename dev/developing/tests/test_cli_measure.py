@@ -1,8 +1,7 @@
-"""The output of --measure: delays of cues, and profiles for recordings with several parts.
+"""Test the output of --measure: delays of cues, and profiles for recordings with several parts.
 
-The gate measures random programmes by their seeds. From dev/, `python3 -m
-developing.tests.test_cli_measure PROGRAM FIRST LAST` tries other seeds, and counts the profiles
-that accept their own recordings.
+From dev/, `python3 -m developing.tests.test_cli_measure PROGRAM FIRST LAST` measures random
+programmes with other seeds, and counts the profiles that accept their own recordings.
 """
 from __future__ import annotations
 
@@ -35,26 +34,26 @@ ENGLISH = BY_WORD["english"]
 GERMAN_HEADER = make_packet(0, 0, bytes([8, 8, 0, 8, 0, 8, 1, 8]), b" " * 32)
 GERMAN_KEEPING = make_packet(0, 0, bytes([8, 8, 0, 0, 0, 8, 1, 8]), b" " * 32)
 KINDS = {"missing": b"", "late": b"", "keeping": KEEPING_HEADER, "german": GERMAN_HEADER}
-# Subtitles (begin, end, text); the page from given frames on; the first and last frame received;
-# then the expected delays of begins and of ends, early cues, and subtitles never sent.
+# Subtitles (begin, end, text); changes of the page; first and last received frame; the expected
+# delays of in-cues and of out-cues; the expected early cues and missing subtitles.
 ONE, TWO = (100, 150, "a"), (200, 250, "b")
 Shown = tuple[int, int, str]
 ROWS: list[tuple[list[Shown], dict[int, str], tuple[int, int], list[int], list[int], list[str]]] = [
     ([ONE, TWO], {100: "a", 150: "", 200: "b", 250: ""}, (0, 999), [0, 0], [0, 0], []),
     ([ONE, TWO], {103: "a", 152: "", 201: "b", 250: ""}, (0, 999), [3, 1], [2, 0], []),
-    # A cue at the first or last received frame is unknown.
+    # Cues at the first or last received frame are ignored.
     ([ONE], {100: "a", 150: ""}, (100, 999), [], [0], []),
     ([ONE], {101: "a", 150: ""}, (100, 999), [1], [0], []),
     ([ONE], {100: "a"}, (0, 149), [0], [], []), ([ONE], {100: "a"}, (0, 151), [0], [], []),
     ([ONE], {100: "a", 151: ""}, (0, 151), [0], [1], []),
-    # One frame early counts, as long as the page is not repeated text from before.
+    # Cues that are a frame or more early are listed.
     ([ONE], {99: "a", 149: ""}, (0, 999), [], [], ["begins 1 frame", "ends 1 frame"]),
     ([ONE], {75: "a", 147: ""}, (0, 999), [], [], ["begins 25 frames", "ends 3 frames"]),
     ([ONE], {60: "a", 70: "", 100: "a", 150: ""}, (0, 999), [0], [0], []),
     ([ONE], {80: "a", 90: "", 100: "a", 150: ""}, (0, 999), [], [0], ["begins 20 frames"]),
     ([ONE], {70: "a", 76: "", 100: "a", 150: ""}, (0, 999), [], [0], ["begins 30 frames"]),
     ([ONE], {70: "a", 75: "", 100: "a", 150: ""}, (0, 999), [0], [0], []),
-    # The same text again is new only after more than a second; another text always is.
+    # If the same text is sent again, its cues are measured only after more than a second.
     ([ONE, (176, 220, "a")], {100: "a", 150: "", 178: "a", 220: ""}, (0, 999), [0, 2], [0, 0], []),
     ([ONE, (175, 220, "a")], {100: "a", 150: "", 178: "a", 220: ""}, (0, 999), [0], [0, 0], []),
     ([ONE, (160, 220, "b")], {100: "a", 150: "", 163: "b", 220: ""}, (0, 999), [0, 3], [0, 0], []),
@@ -62,14 +61,14 @@ ROWS: list[tuple[list[Shown], dict[int, str], tuple[int, int], list[int], list[i
     ([ONE, (150, 200, "b")], {100: "a", 152: "b", 200: ""}, (0, 999), [0, 2], [0], []),
     ([ONE, (151, 200, "b")], {100: "a", 150: "", 152: "b", 200: ""}, (0, 999), [0, 1], [0, 0], []),
     ([ONE, (150, 200, "a")], {100: "a", 201: ""}, (0, 999), [0], [1], []),
-    # A subtitle that is erased for a while ends at its last end, up to the limit or the next begin.
+    # If a subtitle is erased for a while, its last end counts, within a limit.
     ([ONE], {100: "a", 110: "", 120: "a", 150: ""}, (0, 999), [0], [0], []),
     ([ONE], {100: "a", 200: ""}, (0, 999), [0], [50], []),
     ([ONE], {100: "a", 150: "", 200: "a", 210: ""}, (0, 999), [0], [60], []),
     ([ONE], {100: "a", 150: "", 201: "a", 210: ""}, (0, 999), [0], [0], []),
     ([ONE, (180, 230, "b")], {100: "a", 150: "", 180: "a", 182: "b", 230: ""}, (0, 999),
      [0, 2], [0, 0], []),
-    # Subtitles that were never sent, or have no characters.
+    # Some subtitles were never sent, or have no characters.
     ([ONE, TWO], {100: "a", 150: ""}, (0, 999), [0], [0], ["2"]),
     ([ONE, TWO], {100: "a", 150: "", 250: "b"}, (0, 999), [0], [0], ["2"]),
     ([ONE, (170, 220, "a")], {100: "a", 150: ""}, (0, 999), [0], [0], ["2"]),
@@ -78,7 +77,7 @@ ROWS: list[tuple[list[Shown], dict[int, str], tuple[int, int], list[int], list[i
 
 
 def timeline_with(pages: dict[int, str], first: int, last: int) -> Timeline:
-    """Return a timeline with one character, or a blank page, from given frames on."""
+    """Return a timeline in which the page changes to one character or to blank at these frames."""
     decoded = Timeline(Packets(0), PAGE, 0)
     decoded.first, decoded.last = first, last
     decoded.note_page(first, BLANK_PAGE)
@@ -175,7 +174,7 @@ class Parts(Case):
         stl = write_programme(self, subtitle_times(24))
         sent = schedule_pages(self, stl)
         places = [next(at for at, (pts, _) in enumerate(sent) if pts == frame * TICKS)
-                  for frame in (425, 1225)]  # a repeat in each part
+                  for frame in (425, 1225)]  # frame of a repeat in each part
         typed = CommandPaths("tools/qc", self.bench.program)
         for number, (part, what) in enumerate(itertools.product((0, 1), KINDS)):
             begin, changed = places[part] - 1, [*sent]
@@ -202,14 +201,13 @@ class Parts(Case):
                       len(found.paces) == 2 and len(found.sendings) == 24, found)
 
 
-SEEDS = 20  # seeds that the gate tries
+SEEDS = 20  # number of seeds in the gate
 ACCEPTED = "# By this profile none of these recordings is refused."
 
 
 class Profiles(Case):
     def profile(self, *made: Programme) -> tuple[list[str], list[str]]:
-        """Return the lines of the profile of programmes, each with its clock, and their recordings.
-        """
+        """Measure programmes, and return the lines of the profile and the recordings' paths."""
         paths = [self.write(f"{one.number}.pes", pes_file(one.sent())) for one in made]
         lines = [f"{one.stl} {path} --origin 0" for one, path in zip(made, paths)]
         listed = self.write("list", "\n".join(lines).encode())
@@ -223,8 +221,8 @@ class Profiles(Case):
             self.measure(seed)
 
     def measure(self, seed: int) -> bool:
-        """Judge one or two programmes of an inserter by their own profile; return whether all are
-        accepted."""
+        """Measure one or two random programmes, judge them with their profile, and return whether
+        all are accepted."""
         chance = random.Random(seed)
         inserter = chance.choice(INSERTERS)
         made = [Programme(self, 10 * seed + number, inserter)
@@ -279,7 +277,7 @@ class Profiles(Case):
 
 
 def main(program: str, first: int, last: int) -> None:
-    """Measure programmes; print how many profiles accept all of their recordings."""
+    """Measure programmes with these seeds; print how many profiles accept their recordings."""
     BENCH.chosen = program
     case = Profiles("test_accepts_its_own_recordings_or_says_which_not")
     case.setUp()

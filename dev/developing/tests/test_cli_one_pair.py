@@ -1,4 +1,4 @@
-"""The end of a call of tools/qc for one pair: its last lines, its files and its page."""
+"""Test the last lines, output files and report that qc writes for one pair."""
 from __future__ import annotations
 
 import contextlib
@@ -41,7 +41,7 @@ REFUSED = ["refused 72 Content frame 00:00:01:00 row 1 column 2", "refused 68 Pa
 
 
 def gap(is_judged: bool, mark: int | None = None) -> Gap:
-    """Return a gap with lost packets."""
+    """Return a gap in which three TS packets are lost."""
     return Gap("00:00:01:00", "00:00:02:00", "3 TS packets lost",
                LossPlace(1, 2, 3, gap_marker=mark), is_judged)
 
@@ -56,7 +56,7 @@ class LastLines(Case):
         return made
 
     def said(self, verdict: Verdict) -> list[str]:
-        """Return the lines printed for a verdict."""
+        """Return the lines that qc prints for a verdict."""
         heard = LineRecorder()
         print_verdict(verdict, heard)
         return heard.lines
@@ -166,7 +166,7 @@ class OutputFilesOfPair(Case):
         return OutputFiles(known, verdict, CommandPaths("tools/qc", self.bench.program), names)
 
     def part(self, number: int = 1, lines: Sequence[str] = REFUSED) -> Part:
-        """Return a refused part with its fault list."""
+        """Return a refused part with these lines of `check --all`."""
         said = CheckOutput(self.path(f"list{number}"))
         for line in lines:
             said.read_line(line)
@@ -183,7 +183,7 @@ class OutputFilesOfPair(Case):
         return made
 
     def refusal(self, asked: Request, **words: Any) -> str:
-        """Return why the outputs of a call are refused."""
+        """Return the error message with which qc refuses output files."""
         known = PairOptions(None, **words)
         return refusal(lambda: refuse_outputs(known, asked, words.get("out"), "one"))
 
@@ -391,7 +391,7 @@ class OutputFilesOfPair(Case):
 
 class Pages(Case):
     def several(self) -> Verdict:
-        """Return a verdict on three parts."""
+        """Return a verdict on a recording with three parts."""
         verdict = Verdict(request_for(example("story.stl"), "one.pes"), Severity(None),
                           "2026-01-02T03:04:05Z")
         verdict.parts = [make_part(0, 9, 7), make_part(50, 99, 9, make_answer(REFUSED), 2),
@@ -423,7 +423,7 @@ class Pages(Case):
             self.must("outside", listed.count("3 TS packets lost, outside") == count, listed)
         scope = markup_text(report_page.scope_section(verdict))
         self.must("scope", "00:00:00:00 to 00:00:05:24, " in scope, scope)
-        verdict.request = request_for("piped.stl", "one.pes")  # a pipe is stored under another name
+        verdict.request = request_for("piped.stl", "one.pes")  # a pipe has a stored copy
         verdict.request.kept_stl = example("story.stl")
         self.must("a pipe", "Programme" in scope and "piped.stl" in
                   markup_text(report_page.scope_section(verdict)), scope)

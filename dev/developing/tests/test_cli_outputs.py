@@ -1,4 +1,4 @@
-"""Output files for several pairs: CSV rows, JUnit test cases, members of JSON results."""
+"""Test the output for several pairs: CSV rows, JUnit test cases and JSON results."""
 from __future__ import annotations
 
 import argparse
@@ -35,7 +35,7 @@ NO_CELL = {"code": "00", "character": ""}
 
 
 def fault(number: int, **more: Any) -> dict[str, Any]:
-    """Return a fault; members that are not given are null."""
+    """Return a fault of a JSON result; `more` replaces its members, most of which are null."""
     return {**FAULT, "number": number, "line": f"refused {number}", **more}
 
 
@@ -56,7 +56,7 @@ OBJECTS: list[dict[str, Any]] = [
 
 class Tables(unittest.TestCase):
     def rows(self, objects: list[dict[str, Any]]) -> list[dict[str, str]]:
-        """Return the CSV rows as dictionaries."""
+        """Return the CSV rows for some results as dictionaries."""
         text = b"".join(csv_of(objects)).decode()
         return list(csv.DictReader(io.StringIO(text)))
 
@@ -136,7 +136,7 @@ class Statuses(Case):
     ROW = Row("one", "one.stl", "accepted", 0, "accepted", 0, {}, [], 0.0, "")
 
     def end(self, outputs: dict[str, str], *more: Any) -> int:
-        """Return the status of a batch with some outputs."""
+        """Write the output of a batch to these files, and return the exit status."""
         self.write("one.json", b'{"format": 3, "verdict": "accepted", "status": 0, "line": "a"}')
         words = argparse.Namespace(csv=None, junit=None, json=None)
         vars(words).update(outputs)

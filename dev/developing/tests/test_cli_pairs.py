@@ -1,4 +1,4 @@
-"""Calls of tools/qc for one pair: files, pipes and signals."""
+"""Test runs of tools/qc on one pair with files, pipes and signals."""
 from __future__ import annotations
 
 import json
@@ -21,7 +21,7 @@ from .transmissions import write_pipe
 
 STORY, RECORDING = example("story.stl"), example("recording.ts")
 ACCEPTED, RELATIVE = (f"{word} 226 frames 5 transmissions" for word in ("accepted", "relative"))
-TS = 188  # bytes of a packet
+TS = 188  # size of a TS packet in bytes
 
 
 def qc(case: Case, *words: str, data: bytes | None = None) -> Done:
@@ -34,7 +34,7 @@ def lines_of(done: Done) -> list[str]:
 
 
 def stream(case: Case, name: str, pes: bytes, pid: str = "0x101", page: str = "888") -> bytes:
-    """Convert PES packets to a transport stream."""
+    """Convert PES packets to a transport stream with dev/pes2ts."""
     done = case.tool("pes2ts", case.write(name + ".in.pes", pes), pid, "--page", page)
     assert done.status == 0, done
     return done.out
@@ -214,7 +214,7 @@ class SubtitlePipes(Case):
             name = self.write("one.stl", data)
             of_file = self.qc(name, *words, "-o", self.path("out"))
             known = json.loads(self.read("x.json"))
-            pipe = self.path("pipe/one.stl")  # the pipe needs the same file name
+            pipe = self.path("pipe/one.stl")  # named like the file
             shutil.rmtree(os.path.dirname(pipe), ignore_errors=True)
             os.mkdir(os.path.dirname(pipe))
             write_pipe(self, data, pipe)

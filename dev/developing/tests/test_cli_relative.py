@@ -1,4 +1,4 @@
-"""No call accepts a pair without a clock: random pairs and options.
+"""Test with random pairs and options that qc accepts no pair without a clock.
 
 From dev/, `python3 -m developing.tests.test_cli_relative PROGRAM FIRST LAST` tries other seeds.
 """
@@ -26,8 +26,8 @@ from .bench import BENCH, example
 from .programmes import BEGIN, SECOND
 from .test_air_calls import ALL, LEAD, Feeds
 
-SEEDS = 12  # seeds that the gate tries
-# Subtitle files, recordings, and the origins of these.
+SEEDS = 12  # number of seeds in the gate
+# Subtitle files, recordings, and origins of the recordings.
 PAIRS = [("hello", "hello.pes", 0), ("story", "story.pes", 0), ("story", "recording.ts", 5 * 10**9),
          ("story", "five-faults.pes", 0), ("story", "late-rows.pes", 0),
          ("german", "german.pes", 0)]
@@ -37,13 +37,13 @@ GOOD = {"accepted", "waived"}
 
 
 class Given(NamedTuple):
-    """Whether a pair has a clock, and whether `relative` has status 0."""
+    """Options for a pair: whether it has a clock, and whether --relative allows status 0."""
 
     has_clock: bool
     is_allowed: bool
 
     def may_be(self, verdict: str, status: int) -> bool:
-        """Return whether a verdict and a status are allowed."""
+        """Return whether the options allow a verdict and a status."""
         return self.has_clock or verdict not in GOOD and (status != 0 or self.is_allowed)
 
 
@@ -53,7 +53,7 @@ class Clocks(Feeds):
             self.try_seed(seed)
 
     def try_seed(self, seed: int) -> None:
-        """Make one call of each kind on the pairs of a seed."""
+        """Run qc in two random modes on the random pairs of a seed."""
         chance = random.Random(seed)
         given = self.make_pairs(chance)
         kinds = {"single": self.single, "folder": self.folder_call, "list": self.list_call,
@@ -64,7 +64,7 @@ class Clocks(Feeds):
         self.air(f"{seed}, air", chance) if seed % 3 == 0 else None
 
     def make_pairs(self, chance: random.Random) -> dict[str, int]:
-        """Write pairs into a folder; return the origin of each by its name."""
+        """Write random pairs to the folder `in`; return their origins by their names."""
         shutil.rmtree(self.path("in"), ignore_errors=True)
         os.mkdir(self.path("in"))
         self.write("severity", b"others warning\n")
@@ -77,7 +77,7 @@ class Clocks(Feeds):
         return origins
 
     def options(self, chance: random.Random, origin: int | None) -> tuple[list[str], Given]:
-        """Return random options, some of them in a profile, and what they allow."""
+        """Return random options, some of them in a profile, and the verdicts that they allow."""
         given = Given(origin is not None and chance.random() < .3, chance.random() < .3)
         clock = ["--origin", f"{origin}"] * given.has_clock
         allowed = ["--relative"] * given.is_allowed
@@ -102,7 +102,7 @@ class Clocks(Feeds):
         return status, out.splitlines()
 
     def check_results(self, name: str, given: dict[str, Given], folder: str = "out") -> None:
-        """Check the JSON results of pairs, the collected ones, and the CSV rows."""
+        """Check the JSON results of pairs, and the status and CSV rows printed by --collect."""
         found = dict[str, tuple[str, int]]()
         for one in given:
             known = self.object(f"{folder}/{one}.json")
@@ -120,19 +120,19 @@ class Clocks(Feeds):
         self.must(f"{name}: status", status != 0 or is_zero_allowed, given)
 
     def check_lines(self, name: str, lines: list[str], given: dict[str, Given]) -> None:
-        """Check that no line says `accepted` or `waived` of a pair without a clock."""
+        """Check that no line calls a pair without a clock `accepted` or `waived`."""
         self.check(name, [line for line in lines for one, some in given.items()
                           if re.search(rf"\b{one}(  |,|\.(stl|pes|ts),)", line)
                           and re.search(r"\b(accepted|(?<!relative, )waived)\b", line)
                           and not some.has_clock], [])
 
     def object(self, path: str) -> dict[str, Any]:
-        """Return a JSON result."""
+        """Read a JSON file."""
         known: dict[str, Any] = json.loads(self.read(path))
         return known
 
     def single(self, name: str, chance: random.Random, origins: dict[str, int]) -> None:
-        """Judge one pair."""
+        """Judge one pair, and check its result."""
         one = chance.choice([*origins])
         words, given = self.options(chance, origins[one])
         status, lines = self.qc(*self.paths(one), *words, "-o", self.path("out"))
@@ -142,7 +142,7 @@ class Clocks(Feeds):
         self.check_results(name, {one: given})
 
     def folder_call(self, name: str, chance: random.Random, origins: dict[str, int]) -> None:
-        """Judge a folder, with the same options for all pairs."""
+        """Judge a folder with the same options for all pairs, and check the results."""
         words, given = self.options(chance, None)
         status, lines = self.qc("--batch", self.path("in"), "-o", self.path("out"), *words)
         several = dict.fromkeys(origins, given)
@@ -151,7 +151,7 @@ class Clocks(Feeds):
         self.check_results(name, several)
 
     def list_call(self, name: str, chance: random.Random, origins: dict[str, int]) -> None:
-        """Judge a list, with different options for each pair."""
+        """Judge a list with different options for each pair, and check the results."""
         lines, given = list[str](), dict[str, Given]()
         common = ["--relative"] * (chance.random() < .2)
         for one, origin in origins.items():
@@ -165,7 +165,7 @@ class Clocks(Feeds):
         self.check_results(name, given)
 
     def watch(self, name: str, chance: random.Random, origins: dict[str, int]) -> None:
-        """Watch a folder until its pairs are judged."""
+        """Watch a folder until its pairs are judged, and check the results."""
         words, given = self.options(chance, None)
         real, looks = time.sleep, list[float]()
 
@@ -183,7 +183,7 @@ class Clocks(Feeds):
         self.check_results(name, several)
 
     def air(self, name: str, chance: random.Random) -> None:
-        """Judge a programme on air."""
+        """Judge a programme with tools/air, and check its result."""
         frames = self.feed()
         self.delete_all("segments", "out")
         self.put_segment(0, ALL, b"".join(frames))
@@ -201,7 +201,7 @@ class Clocks(Feeds):
 
 
 def main(program: str, first: int, last: int) -> None:
-    """Try some seeds."""
+    """Test the pairs and options for some seeds."""
     BENCH.chosen = program
     case = Clocks("test_accepts_nothing_without_a_clock")
     case.setUp()

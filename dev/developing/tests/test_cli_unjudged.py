@@ -1,4 +1,4 @@
-"""Calls of tools/qc with pairs that can't be judged, outputs that can't be written, and signals."""
+"""Test runs of qc with pairs that can't be judged, outputs that can't be written, and signals."""
 from __future__ import annotations
 
 import argparse
@@ -80,7 +80,7 @@ class UnjudgedPairs(Case):
         item, calls = BatchItem("one", request_for(self.path("one.stl"), self.path("one.ts")),
                                 None), \
             self.runner()
-        for does in (signal.pause, time.tzset):  # a call that waits for a signal, and one that ends
+        for does in (signal.pause, time.tzset):  # wait for a signal, or return
             with mock.patch.object(batch, "judge_forked_pair", lambda *_: does() or 2):
                 self.must("begun", calls.start(item) is None)
             other = self.runner()

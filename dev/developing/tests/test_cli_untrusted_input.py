@@ -1,4 +1,4 @@
-"""Calls of tools/qc with untrusted lists and results, inputs in the place of outputs, missing
+"""Test runs of tools/qc with untrusted lists and results, inputs named as outputs, missing
 resources, and early signals."""
 from __future__ import annotations
 
@@ -26,7 +26,7 @@ TAGS = {"html", "head", "meta", "title", "style", "body", "h1", "p", "small", "t
         "input", "span", "b"}
 ATTRIBUTES = {"lang", "charset", "http-equiv", "content", "name", "class", "href", "scope", "type",
               "value", "checked"}
-# A page with other pages in frames; it lists their content.
+# An HTML page that loads other pages in frames, and then lists their contents.
 AROUND = """<!DOCTYPE html><html><body><script>
 addEventListener("load", () => setTimeout(() => {{
   document.getElementById("told").textContent = JSON.stringify(
@@ -35,7 +35,7 @@ addEventListener("load", () => setTimeout(() => {{
 }}, 500));
 </script>{frames}<pre id="told"></pre></body></html>
 """
-# Milliseconds before a signal is sent; with --speed all of ALL_STARTS.
+# Milliseconds from the start of qc to a signal; with --speed, ALL_STARTS for each signal.
 STARTS = {signal.SIGINT: range(0, 101, 10), signal.SIGTERM: range(0, 401, 80),
           signal.SIGHUP: range(40, 401, 80)}
 ALL_STARTS = range(0, 401, 5)
@@ -65,7 +65,7 @@ class Inputs(Case):
 
 class ListLines(Case):
     def judge(self, list_name: str) -> Done:
-        """Judge the pairs of a list."""
+        """Run `qc --batch` on a list of pairs."""
         return self.call([tool_path("qc"), "--batch", list_name, "-p", self.bench.program],
                          b"--page 888\n")
 
@@ -149,7 +149,7 @@ class UntrustedResults(Case):
               "javascript:1", "{}", "\x1b[31m", "\u202e", "</style><b>", "<!--", "]]>", "'", "\n"]
 
     def page(self, number: int) -> str:
-        """Write a page with random texts; return its path."""
+        """Write an index page with random texts; return its path."""
         chance = random.Random(number)
 
         def text() -> str:

@@ -1,6 +1,4 @@
-"""How cues agree with page changes:
-repeated pages, delays, drifts, repeated programmes, and PTS wraps.
-"""
+"""Test the alignment of cues with page changes: delays, drifts, repetitions and PTS wraps."""
 from __future__ import annotations
 
 import itertools
@@ -91,9 +89,8 @@ class RepeatedPages(Case):
             self.must("some", [*base.copy_between(cues, 100, 160).changes] == frames[1:-1])
 
 
-Inserter = Callable[[random.Random, bool], int]  # returns the delay of a begin or an end
-# Correct inserters, each with its tolerance: a frame for all rows or for each, none for an erasing
-# header.
+Inserter = Callable[[random.Random, bool], int]  # delay of an in-cue or out-cue
+# Correct inserters: the tolerance that accepts them, and a function that returns random delays.
 INSERTERS: dict[str, tuple[int, Inserter]] = {
     "on time": (1, lambda chance, is_begin: 0),
     "rows": (1, lambda chance, is_begin: int(is_begin)),
@@ -107,14 +104,14 @@ INSERTERS: dict[str, tuple[int, Inserter]] = {
 
 
 def measured_delays(inserter: Inserter) -> Lateness:
-    """Return the delays that were measured on another day with a known clock."""
+    """Return delays of an inserter, as if they had been measured with a known clock."""
     chance = random.Random(99)
     kinds = [[inserter(chance, is_begin) for _ in range(400)] for is_begin in (True, False)]
     return Lateness(*({by: kind.count(by) for by in sorted({*kind})} for kind in kinds))
 
 
 def do_all_agree(origin: OriginEstimate) -> bool:
-    """Return whether all cues agree that can."""
+    """Return whether all cues in the first part match."""
     return any(part.matches == part.total for part in origin.parts[:1])
 
 
@@ -131,8 +128,8 @@ class EstimatedClocks(unittest.TestCase):
 
     def clock_delay(self, delays: Sequence[int], within: int, shares: Lateness | None = None
               ) -> tuple[int, EarlyCues | None]:
-        """Return how many frames the clock is later than that of the earliest cue, for begins with
-        some delays."""
+        """Return by how many frames the chosen clock is later than the earliest in-cue, for in-cues
+        with these delays."""
         frames = [100 * at + at * at for at in range(1, len(delays) + 1)]
         cues = [ExpectedCue(frame, b"%d" % at, True) for at, frame in enumerate(frames)]
         base = find_time_bases([], packets_of([(TICKS * (frame + by), cue.letters) for frame, by,
@@ -187,7 +184,7 @@ class EstimatedClocks(unittest.TestCase):
     def test_reports_an_early_cue_of_a_known_inserter(self) -> None:
         for name, (within, inserter) in INSERTERS.items():
             if name in ("any of six", "seldom late"):
-                continue  # an early begin is as likely there
+                continue  # early in-cues are likely for these
             chance = random.Random(5)
             shown = [one._replace(letters=b"text %d" % at)
                      for at, one in enumerate(random_programme(chance, 30))]
@@ -202,7 +199,7 @@ class EstimatedClocks(unittest.TestCase):
 
 class Drifts(unittest.TestCase):
     def drift(self, delays: Sequence[int], texts: Sequence[bytes] = ()) -> Drift | None:
-        """Return the drift of texts every 100 frames with some delays."""
+        """Return the drift found in texts that are sent every 100 frames with these delays."""
         texts = texts or [b"%d" % at for at in range(len(delays))]
         return find_drift([ExpectedCue(100 * at, text, True) for at, text in enumerate(texts)], {
             100 * at + by: MatchedChange(0, b"%d" % at, 0) for at, by in enumerate(delays)})
@@ -239,7 +236,7 @@ class Drifts(unittest.TestCase):
                 chance = random.Random(seed)
                 delays = [inserter(chance, True) for _ in range(chance.choice((6, 8, 12, 40)))]
                 count += self.drift(delays) is not None
-        self.assertLess(count, 4)  # of 1,800
+        self.assertLess(count, 4)  # of 1800 programmes
 
 
 class RepeatedProgrammes(unittest.TestCase):
@@ -289,7 +286,7 @@ class JudgedPairs(Case):
             self.must(f"{count}: late", one.word == "accepted", one.said)
 
     def judge_drift(self, frames: int) -> JudgedPair:
-        """Judge twenty subtitles, the last of which is late by some frames."""
+        """Judge twenty subtitles with a drift, so that the last subtitle is `frames` late."""
         stl = write_programme(self, evenly_spaced(20))
         begin, end = evenly_spaced(20)[0][0], evenly_spaced(20)[-1][1]
         path = self.write("one.pes", pes_file([
@@ -330,7 +327,7 @@ class JudgedPairs(Case):
                                                   "times"), one.said)
 
 
-# The first PTS of a case: nothing, then values after which PTS wrap.
+# Ticks added to all PTS: none, or numbers after which PTS wrap.
 SHIFTS = (0, CLOCK - 150 * TICKS, CLOCK - 10 * TICKS, CLOCK - TICKS // 2, CLOCK - 1, 5 * TICKS)
 
 
@@ -348,8 +345,8 @@ class PtsAndFrames(unittest.TestCase):
 
 
 class LossesInParts(unittest.TestCase):
-    # The frames before and after a loss, extra ticks, and whether it affects the part from 100 to
-    # 200.
+    # Frames before and after a loss, extra ticks, and whether the loss affects a part from frame
+    # 100 to 200.
     PLACES = (
         (90, 99, 0, False), (90, 100, 0, False), (90, 101, 0, True), (99, 150, 0, True),
         (120, 130, 0, True), (199, 250, 0, True), (200, 210, 0, False), (201, 210, 0, False),

@@ -1,4 +1,4 @@
-"""Delays, breaks and repeated programmes of complete pairs, and the clock of the first picture."""
+"""Test delays, breaks and repeated programmes, and the clock derived from the first picture."""
 from __future__ import annotations
 
 import shutil
@@ -14,17 +14,16 @@ from .transmissions import (
     schedule_pages)
 from .test_cli_pairs import TS, lines_of, qc
 
-# frames: the first subtitle, from one to the next, length of one
+# First TCI, distance between TCIs, and subtitle duration, in frames.
 FIRST, EACH, LASTS = 900_000, 125, 60
 WORDS = ["--every", "25", "--no-complete"]
-STORY, BEGIN = example("story.stl"), 1_822_500  # the frame of its first TCI, 20:15:00:00
-EARLIER = 25  # frames by which the recordings begin before it
+STORY, BEGIN = example("story.stl"), 1_822_500  # first TCI: 20:15:00:00
+EARLIER = 25  # frames between the start of a recording and the first TCI
 FIRST_PTS, STARTED = (BEGIN - EARLIER) * TICKS, time_of(BEGIN - EARLIER)
 
 
 def evenly_spaced(count: int) -> list[tuple[int, int]]:
-    """Return subtitles every five seconds, so that a delay of ten puts cues on the cues of others.
-    """
+    """Return the first and end frames of subtitles at distances of five seconds."""
     return [(FIRST + EACH * at, FIRST + EACH * at + LASTS) for at in range(count)]
 
 
@@ -249,8 +248,8 @@ class FirstPictures(Case):
     def test_is_not_judged_if_first_pictures_are_lost(self) -> None:
         made = with_pictures(example_bytes("story.pes"), FIRST_PTS,
                              picture=mpeg_2_picture() + SLICES).packets
-        # After two tables, each picture has two TS packets: three pictures are skipped, 14 are a
-        # group.
+        # After two tables, each picture takes two TS packets; a group of 14 pictures follows three
+        # skipped pictures.
         for at, words in ((2 + 2 * 2 + 1, ""), (2 + 2 * 3 + 1, "lost"), (2 + 2 * 10 + 1, "lost"),
                           (2 + 2 * 16 + 1, "lost"), (2 + 2 * 18 + 1, "")):
             lost = b"".join(made[:at] + made[at + 1:])
@@ -280,8 +279,8 @@ class FirstPictures(Case):
                       found.result["parts"][0]["clock"]["source"] == "tcp")
 
 
-SECONDS = 8  # of the streams that ffmpeg makes
-PARTS = (0, 3, 20, 45)  # percentages of the stream at which it is cut
+SECONDS = 8  # duration of the streams made by ffmpeg
+PARTS = (0, 3, 20, 45)  # percentages of a stream that are cut from its start
 ENCODERS = {"mpeg2video": ["-bf", "2", "-g", "15"],
             "mpeg2video closed": ["-bf", "2", "-g", "15", "-flags", "+cgop", "-sc_threshold",
                                   "1000000000"],
@@ -293,8 +292,8 @@ ENCODERS = {"mpeg2video": ["-bf", "2", "-g", "15"],
 
 
 def compare_with_ffprobe(case: Case, name: str, stl: str, data: bytes, is_closed: bool) -> None:
-    """Compare the first picture of a stream with ffprobe:
-    the one with the flag, or the smallest PTS if its group is closed or `survey` can't tell.
+    """Compare the PTS of the first picture of a stream with the output of ffprobe: the PTS of the
+    first key frame, or the smallest PTS in its group if the group is closed or unknown.
     """
     path = case.write("cut.ts", data)
     done = qc(case, stl, path, "--start", "00:00:00:00")
@@ -317,7 +316,7 @@ def compare_with_ffprobe(case: Case, name: str, stl: str, data: bytes, is_closed
 
 
 def ffprobe_rows(case: Case, path: str, entries: str) -> list[list[str]]:
-    """Return the rows that ffprobe prints of the video."""
+    """Run ffprobe on the video, and return the values of these entries in rows."""
     done = subprocess.run(["ffprobe", "-v", "quiet", "-select_streams", "v", "-show_entries",
                            entries, "-of", "csv=p=0", path], stdout=subprocess.PIPE, check=False)
     rows = [line.split(",") for line in done.stdout.decode().split("\n")]

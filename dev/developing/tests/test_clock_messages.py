@@ -1,4 +1,4 @@
-"""The messages about an origin and the first picture, and pages of the next programme."""
+"""Test the messages about an origin and the first picture, and pages of the next programme."""
 from __future__ import annotations
 
 import itertools
@@ -29,13 +29,13 @@ ORIGIN = CLOCK - 5 * TICKS
 
 
 def part_at(frames: int, begin: int = 0, base: int = 0) -> Any:
-    """Return a part with an origin, a first frame and a time base."""
+    """Return a part with this first frame and time base, and an origin `frames` after `ORIGIN`."""
     return SimpleNamespace(origin=(ORIGIN + TICKS * frames) % CLOCK, begin=begin, base=base)
 
 
 class OriginLines(unittest.TestCase):
     def part(self, matches: int, total: int, letters: int, cues: int = 20, **more: Any) -> Any:
-        """Return a part of whose cues some agree with the best origin."""
+        """Return a part in which `matches` of `total` cues match at the best origin."""
         best: dict[str, Any] = {"matches": matches, "total": total,
                                 "content_matches": letters, "exact_matches": matches,
                                 "first_unmatched": None, "delays": [0], "origin": 9, "start": 0}
@@ -203,7 +203,7 @@ class OriginLines(unittest.TestCase):
         self.assertEqual(list(break_lines(parts[:1])), [])
 
     def shift_texts(self, *frames: int, bases: tuple[int, ...] = ()) -> list[str]:
-        """Return the lines about stretches with delays, a minute each."""
+        """Return the lines about consecutive minutes, each delayed by these frames."""
         parts = [part_at(one, 1500 * at, (*bases, *[0] * 99)[at]) for at, one in enumerate(frames)]
         cues = [SimpleNamespace(frame=1500 * at) for at in range(len(parts))]
         tracks: list[Any] = [SimpleNamespace(cues=cues, start=one, base=part.base)
@@ -234,12 +234,12 @@ class OriginLines(unittest.TestCase):
 
 
 TELETEXT, VIDEO = 0x101, 0x200
-# Order of transmission of I B B P B B P B B, by frames.
+# Display order of nine pictures that are sent in the order I B B P B B P B B.
 GROUP = [2, 0, 1, 5, 3, 4, 8, 6, 7]
 
 
 def programme_with(*streams: tuple[int, int]) -> list[str]:
-    """Return a PMT with Teletext and these streams."""
+    """Return lines of `survey` about a PMT with Teletext and these streams."""
     return [f"programme 1 {VIDEO}", f"stream {TELETEXT} 6",
             *(f"stream {pid} {kind}" for pid, kind in streams)]
 
@@ -253,7 +253,7 @@ def surveyed(lines: Sequence[str], is_whole: bool = True) -> Survey:
 
 
 def picture_lines(frames: Sequence[int | None], end: str = "0 0", passed: int = 3) -> list[str]:
-    """Return the lines about pictures at some frames from a PTS on, which wraps after it."""
+    """Return lines of `survey` about pictures at these frames, with PTS that wrap in between."""
     pts = ["-" if one is None else (CLOCK - 5 + TICKS * one) % CLOCK for one in frames]
     return [*programme_with((VIDEO, MPEG_2)), f"video {VIDEO} {passed}",
             *(f"picture {VIDEO} {one}" for one in pts), f"pictures {VIDEO} {end}"]
@@ -369,7 +369,7 @@ class FirstPictures(unittest.TestCase):
                 (picture_lines([0, 1], "1 1"), True, "is scrambled"),
                 (picture_lines([0, None]), True, "a picture of MPEG-2 of PID 0x200 has no PTS"),
                 (picture_lines([None]), True, "a picture of MPEG-2 of PID 0x200 has no PTS"),
-                # Two pictures in each PES packet: the first displayed one has no PTS.
+                # With two pictures in each PES packet, the first displayed picture has no PTS.
                 (picture_lines(GROUP[::2] + [9]), True,
                  "skip 3 frames: a PES packet has several")]
         for lines, is_whole, words in rows:
@@ -391,12 +391,12 @@ class FirstPictures(unittest.TestCase):
             self.assertEqual(count_skipped(pts, is_cut), count, (pts[:5], is_cut))
 
 
-BEGIN, EACH, LENGTH, COUNT = 900_000, 60, 40, 6  # frames, and subtitles of the first programme
+BEGIN, EACH, LENGTH, COUNT = 900_000, 60, 40, 6  # frames; number of subtitles
 OWN = [(BEGIN + EACH * at, BEGIN + EACH * at + LENGTH) for at in range(COUNT)]
-LAST = OWN[-1][1]  # its last TCO
+LAST = OWN[-1][1]  # last TCO of the programme
 OTHERS = [(LAST + EACH * at, LAST + EACH * at + LENGTH) for at in range(COUNT)]
 NEXT = "unknown: the page sent at the last TCO is the next programme's"
-OTHER = make_packet(0, 0, [9, 8, 0, 8, 0, 8, 1, 0], b" " * 32)  # a header of page 889
+OTHER = make_packet(0, 0, [9, 8, 0, 8, 0, 8, 1, 0], b" " * 32)  # header of page 889
 
 
 class LastPages(ProgrammeCase):
