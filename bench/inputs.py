@@ -52,8 +52,6 @@ EVERY = {"day": "1", "pages": "1", "many": "25", "fresh": "1", "service": "25", 
 BROKEN = ("cells", "passed", "swing")  # kinds derived from day
 
 
-# Subtitle files
-
 Shown = tuple[int, int, int, bytes]  # first frame, end frame, row, text
 
 
@@ -78,8 +76,6 @@ def subtitles_of(kind: str, count: int) -> Iterator[Shown]:
             yield frames * index, frames * index + frames, 22, text
 
 
-# Faults in `day`
-
 SENDING = 184  # bytes of a PES packet
 LETTERS = 19  # length of "One sending a frame", which starts in column 11
 FIRST_LETTER = DATA + UNIT + 4 + 2 + 11
@@ -99,8 +95,6 @@ def break_pes(kind: str, data: bytearray) -> bytearray:
         return bytearray().join(both) * (len(data) // SENDING // 2)
     return data
 
-
-# A service
 
 UNITS = 16  # data units in each frame
 ROUND, SHOWN = 100, 75  # number of frames in a round, and frames that show its subtitle
@@ -197,8 +191,6 @@ def write_service(file: BinaryIO, frames: int, texts: Texts, is_late: bool) -> N
         file.write(service.frame(frame, first, bool(later)))
 
 
-# Files
-
 def make(program: str, kind: str, count: int, stl: str, pes: str) -> None:
     """Write the subtitle file and the transmission of a kind."""
     if kind in ("service", "late"):
@@ -233,7 +225,7 @@ MIXED = 388  # TS packets for each PES packet; 5 have Teletext if it has 920 byt
 
 
 def record(pes: str, ts: str, size: int = 0) -> None:
-    """Convert a PES file to a transport stream by dev/pes2ts.
+    """Convert a PES file to a transport stream with dev/pes2ts.
 
     Each PES packet gets `size` TS packets. Those without Teletext have random bytes on another PID.
     Tables and PCRs come at most every fifth frame. With size 0, only TS packets with Teletext are

@@ -1,4 +1,4 @@
-"""Measure the peak memory of a command by GNU time."""
+"""Measure the peak memory of a command with GNU time."""
 from __future__ import annotations
 
 import os
@@ -14,7 +14,7 @@ def lines_of_log(command: list[str], words: list[str]) -> list[str]:
     with tempfile.TemporaryDirectory() as folder:
         log = os.path.join(folder, "log")
         done = subprocess.run([*command, "-o", log, *words], stdout=subprocess.DEVNULL, check=False)
-        if done.returncode not in (0, 1):  # 1: refused
+        if done.returncode not in (0, 1):  # status 1: the input is refused
             sys.exit(f"{' '.join(words)} ended with status {done.returncode}")
         with open(log, encoding="utf-8") as file:
             return file.read().splitlines()

@@ -39,7 +39,7 @@ import sys
 
 DEV = os.path.realpath(os.path.join(os.path.dirname(__file__), ".."))
 TOOLS = os.path.join(os.path.dirname(DEV), "tools")
-sys.path.insert(1, TOOLS)  # after the script's own folder
+sys.path.insert(1, TOOLS)  # searched after the script's own folder
 
 
 def read_counts(said: str, status: int) -> tuple[int, int] | None:

@@ -5,8 +5,8 @@ import ast
 from types import CodeType
 from typing import Any, Callable, Iterator, NamedTuple
 
-MODULE = "<module>"  # function name of code outside functions
-LONG_TABLE = 12  # longest table, in elements, whose numbers are changed
+MODULE = "<module>"  # name for the code outside functions
+LONG_TABLE = 12  # numbers in tables with more elements are not changed
 OPERATORS = ((ast.Lt, ast.LtE), (ast.Gt, ast.GtE), (ast.Eq, ast.NotEq), (ast.In, ast.NotIn),
              (ast.Is, ast.IsNot), (ast.And, ast.Or), (ast.Add, ast.Sub))
 OPPOSITE_OPERATORS: dict[type[ast.AST], type[Any]] = {

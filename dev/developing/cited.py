@@ -27,7 +27,7 @@ MAX_LINES = {"run_in_memory.headline": 450, "run_in_memory.acceptance": 800}
 IN_README = {"run_in_memory.headline": re.compile(r"\[(\d+)\s+lines\]")}
 NUMBERS = re.compile(r"^## The proof in numbers$.*?(?=^## )", re.M | re.S)
 NUMBER = re.compile(r"^\| (.*) \| ([\d,]+) \|$", re.M)  # a table row with a number
-PARTS = ("src", "specs", "must-fail", "release-edits")  # searched folders of a crate
+PARTS = ("src", "specs", "must-fail", "release-edits")  # crate folders to search
 WRITTEN_BY_GATE = ("out", ".git", "__pycache__")
 TOOLS = ("tools", "dev")
 MADE = ("out/", "dist/")  # folders of built files

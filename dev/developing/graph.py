@@ -20,7 +20,7 @@ CALL = re.compile(r"(\.|\b\w+::)?\b([a-z_]\w*)(?:::<[^()]*?>)?\(")
 METHOD = re.compile(r"\( ?&?(?:'\w+ )?(?:mut )?self\b")
 GOAL = re.compile(r"-clause-(\w+)$")
 LAW = re.compile(r"(?:law|laws|example|examples)_of_\w+$")
-PROOF_FILES = ("Answers", "Invariants", "Given", "Walk", "Proof")  # files in proofs/ of a function
+PROOF_FILES = ("Answers", "Invariants", "Given", "Walk", "Proof")  # proof files of each function
 
 
 class UseGraph:
@@ -85,7 +85,7 @@ class UseGraph:
             node.add(self.resolve(source, name) if source else self.resolve_in(node.file, name))
 
     def link_functions(self, file: Source, other_text: str) -> None:
-        """Link each function to its clauses and body, and each clause to what it uses."""
+        """Link each function to its clauses and body, and each clause to the names in it."""
         of_file = Node("body", file, file.module, 1, [])
         self.link(of_file, other_text)
         self.add_lemmas(of_file, other_text)
@@ -150,8 +150,6 @@ class UseGraph:
                      if other.kind == "clause" and other.name == clause]
             for user in users or [self.bodies[function]]:
                 user.add(node)
-
-    # Queries
 
     def find_unreached(self, crate: str = "") -> list[Node]:
         """Return the definitions and lemmas that no function uses directly or indirectly."""

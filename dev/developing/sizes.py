@@ -15,7 +15,7 @@ from .graph import UseGraph
 
 KINDS = ("code", "contracts", "specs", "proofs", "tests")
 TESTS = ("tests", "check_tests", "word_tests", "file_tests", "program_tests", "fixtures",
-         "answer_fixtures")  # crates for tests
+         "answer_fixtures")  # test crates
 IMPORT = re.compile(r"(ghost use|use|pub use|mod|pub mod)\b")
 CONTRACT = re.compile(r"(requires|ensures)\b")
 

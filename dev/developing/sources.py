@@ -16,7 +16,7 @@ FUNCTION = re.compile(r"^( *)(pub(?:\([^)]*\))? )?(?:(?:const|final|unsafe) )*fn
 CLAUSE = re.compile(r"\b(requires|ensures)\*? *(\w*) *\{")
 BLOCK = re.compile(r" *(?:pub )?(?:unsafe )?(?:impl|trait)\b(?:<.*?>)? ?(?:.* for )?"
                    r"(?:\w+::)*(\w+)")
-NO_TEXT = ("//", "use ", "pub use ", "ghost use ", "mod ", "#[")  # skipped lines of src/
+NO_TEXT = ("//", "use ", "pub use ", "ghost use ", "mod ", "#[")  # lines in src/ to skip
 QUOTED = re.compile(r"`([\w'-]+)`")
 MAIN = re.compile(r"[Mm]ain lemmas?: ([^.:]*)")
 
@@ -62,8 +62,6 @@ class Source(File):
         self.own: dict[str, Node] = {}
         self.functions: list[Node] = []
 
-
-# Definitions and lemmas
 
 def read_definitions(file: Source, kind: str) -> Iterator[Node]:
     """Yield the definitions in a file of specs/ or proofs/, also those inside `module _ .. where`.
@@ -120,8 +118,6 @@ def find_head_names(text: str) -> set[str]:
     listed_there = (re.split(r"[`,;\s]+", names) for names in MAIN.findall(head))
     return {*QUOTED.findall(head), *itertools.chain(*listed_there)} - {"", "and"}
 
-
-# Functions
 
 def read_functions(file: Source) -> list[str]:
     """Add the functions in a file of src/ to `file`. Return the lines outside functions."""

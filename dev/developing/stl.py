@@ -29,11 +29,11 @@ def make_gsi_block(title: bytes, blocks: int, subtitles: int, first: int = 0,
     put(3, b"STL25.01")  # DFC: 25 frames a second
     put(11, b"1")  # DSC: Teletext, level 1
     put(12, b"00")  # CCT: code table 00, Latin
-    put(14, language)  # LC
+    put(14, language)  # LC, language code
     put(16, title[:32])  # OPT, programme title
     put(224, b"261122261122")  # CD and RD, dates
-    put(236, b"00")  # RN, revision
-    put(238, b"%05d%05d001" % (blocks, subtitles))  # TNB, TNS, TNG
+    put(236, b"00")  # RN, revision number
+    put(238, b"%05d%05d001" % (blocks, subtitles))  # TNB, TNS, TNG: total numbers
     put(251, b"4023")  # MNC, MNR: columns and rows
     put(255, b"1")  # TCS: time codes are intended for use
     put(256, b"00000000%02d%02d%02d%02d" % tuple(encode_time_code(first)))  # TCP, TCF: starts

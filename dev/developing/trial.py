@@ -15,7 +15,7 @@ NO_MEMORY = re.compile(rb"fault (91 Memory|58 Memory block \d+)\n")
 ANOTHER_USER = 65534
 SECONDS = 2  # time limit of one run in seconds of processor time
 MAX_SECONDS = 600  # time limit of one run in seconds on a busy machine
-MAX_LOG_BYTES = 1 << 20  # bytes; a run with a larger strace log is considered endless
+MAX_LOG_BYTES = 1 << 20  # bytes of strace's log above which a run is considered endless
 END_FORMAT = "\\0ended\\0"  # printf format that marks the end of a run's output
 RUNS_PER_SHELL = 16  # number of runs per shell
 

@@ -71,7 +71,7 @@ def prepare(trial: Trial) -> None:
     gsi = (read(os.path.join(TOP, "examples", "hello.stl")) or b"")[:GSI]
     blocks = [make_subtitle(number) for number in range(1, SUBTITLES + 1)]
     trial.add_input("long.stl", gsi + b"".join(blocks))
-    blocks[-5] = blocks[-5][:4] + b"\1" + blocks[-5][5:]  # set the cumulative status
+    blocks[-5] = blocks[-5][:4] + b"\1" + blocks[-5][5:]  # mark the subtitle as cumulative
     trial.add_input("bad.stl", gsi + b"".join(blocks))
     for name, status, program_args in COMMANDS:
         command = trial.commands[name] = trial.make_command(name, program_args)

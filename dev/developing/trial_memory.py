@@ -20,11 +20,11 @@ from .trial import (
 from .trial_inputs import HEADER
 
 KIBIBYTES = [96 * 1024, 64 * 1024, 32 * 1024, 16 * 1024, *range(8192, 1024, -48)]
-START_MEMORY = 8192  # KiB in which the program must start
+START_MEMORY = 8192  # KiB of memory; enough to start the program
 STACK_SIZE = 64  # KiB; each command needs less than 48
 SURVEY_STACK_SIZE = 160  # KiB; `survey` needs between 144 and 152
 MAX_SUBTITLES = 99_999  # maximum number of subtitles in a file, with one block each
-MEMORY_BESIDE_TEXTS = 10_000_000  # bytes needed for MAX_SUBTITLES, except texts
+MEMORY_BESIDE_TEXTS = 10_000_000  # bytes; enough for MAX_SUBTITLES without their texts
 TOO_LITTLE_MEMORY = 1_000_000  # bytes; not enough for MAX_SUBTITLES subtitles
 # Commands whose memory requests are refused in turn, with files from examples/.
 REFUSED_REQUESTS = [line.split() for line in f"""

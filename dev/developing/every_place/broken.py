@@ -65,7 +65,7 @@ def change_pes_packet(way: str, rng: Random, packet: bytearray) -> None:
     elif way == "add" and len(teletext) < MAX_PACKETS:
         add_packet(rng, teletext)
         packet[:] = make_pes_packet(decode_pts(packet), teletext)
-    elif way == "enhancement" and len(teletext) < MAX_PACKETS:  # X/25 to X/28 as the second one
+    elif way == "enhancement" and len(teletext) < MAX_PACKETS:  # insert a packet X/25 to X/28
         teletext[1:1] = [teletext_packet(0, rng.randrange(25, 29), [], b" " * 40)]
         packet[:] = make_pes_packet(decode_pts(packet), teletext)
     elif way == "swap":  # swap two packets, for example a row and its header

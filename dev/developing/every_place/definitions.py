@@ -46,7 +46,7 @@ class Transmission:
         self.add_event(Event(format_refused(number, place), number, pes, frame))
 
     def add_event(self, event: Event) -> None:
-        """Add an event, after the end of the preceding unreadable items."""
+        """Add an event. First report the end of the preceding unreadable items."""
         self.end_skipped()
         self.event_log.events.append(event)
 

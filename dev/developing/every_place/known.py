@@ -26,7 +26,7 @@ def replace_bytes(data: bytes, changes: dict[int, int]) -> bytes:
 
 # One subtitle, sent at 10:00:00:00 and cleared at 10:00:02:00.
 HELLO, SENT = read_example("hello.stl"), read_example("hello.pes")
-SENT_25 = read_example("hello-25.pes")  # the same with a repeat at 10:00:01:00
+SENT_25 = read_example("hello-25.pes")  # also sent at 10:00:01:00
 BLANK = SENT_25[368:]  # the last PES packet: a page without rows
 EVEN_H = {117: 0x12}  # gives the H in the row even parity
 ROW = reverse_bits(SENT[96:138])  # row 22
@@ -88,8 +88,6 @@ EARLY_WRONG = ["refused 72 Content frame 09:59:59:24 row 22 column 16",
                "ended 72 Content frame 09:59:59:24"]
 
 
-# Subtitle files
-
 def make_stl_file(*texts: tuple[int, int, int, bytes]) -> bytes:
     """Return a subtitle file. Each subtitle has TCI and TCO after 10:00:00:00, row and text."""
     return HELLO[:GSI] + b"".join(
@@ -121,8 +119,6 @@ def add_blocks_after_eight(name: str, blocks: bytes, *last: str) -> KnownCall:
 TEXTS = [add_blocks_after_eight("no more", b""),
          add_blocks_after_eight("ten first blocks", OPEN_NINTH * 10, "refused 23 TooLong block 18")]
 
-
-# Transmissions
 
 def make_pes_at(*frames: tuple[int, list[bytes]]) -> bytes:
     """Return PES packets at frames counted from 10:00:00:00."""

@@ -31,8 +31,6 @@ def find_frame_start(time: int) -> int:
     return (time - EARLIEST) // TICKS * TICKS
 
 
-# Page transmissions
-
 def spread_page(rng: Random, part: Part, most: int) -> list[Part]:
     """Split a page into one to four PES packets, at most `most` frames late."""
     count = len(part.packets)
@@ -127,8 +125,6 @@ def misspell_row(rng: Random, parts: list[Part]) -> None:
     else:
         parts.insert(at + 1, other._replace(time=time + FIELD * rng.choice([1, 1, 2, 3])))
 
-
-# Complete transmissions
 
 def split_parts(data: bytes) -> list[Part]:
     packets = list(read_pes_packets(io.BytesIO(data)))

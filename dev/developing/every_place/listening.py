@@ -26,8 +26,6 @@ def find_end_fault(selection: Range, count: int, end_fault: int | None,
                        else format_refused(end_fault, f"pes {selection.first + count}"))
 
 
-# The command `packets`
-
 def list_unit_lines(piece: bytes) -> Iterator[str]:
     """Yield a line for each Teletext data unit in a PES packet."""
     units = (piece[at:at + 46] for at in range(46, len(piece), 46))
@@ -50,8 +48,6 @@ def list_packets_lines(data: bytes, options: Options, is_failing: bool) -> Itera
         yield from list_unit_lines(piece)
     yield find_end_fault(selection, len(pieces), end_fault, is_failing) or f"{len(pieces)} pes"
 
-
-# The command `listen`
 
 class ListenOptions(NamedTuple):
     """The options that only `listen` has."""

@@ -118,8 +118,6 @@ def decode(packets: Sequence[Packet], options: Options) -> Decoded:
                    {*read_rows(span, options.page)})
 
 
-# Rules for packets
-
 def is_exact(codes: bytes) -> bool:
     return all(byte in CODE_WORDS for byte in codes)
 

@@ -29,8 +29,6 @@ def expect_refused(fault: str) -> list[str]:
     return add_count_line(f"refused {fault}", *["refused 60 Empty"] * is_read)
 
 
-# Blocks
-
 def make_file() -> bytes:
     """Return a file with a comment, a subtitle of two blocks and user data, and another subtitle.
 
@@ -65,8 +63,6 @@ BLOCK_CASES: list[tuple[str, dict[int, int]]] = [
     ("20 Time block 2", {TWO + TCI + 3: 25, TWO + TCO + 2: 1}),
 ]
 
-
-# Texts
 
 class Line(NamedTuple):
     """Some cells of a row, starting at a column. All other cells are spaces."""

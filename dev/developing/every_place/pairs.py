@@ -49,8 +49,6 @@ class Subtitle(NamedTuple):
     text: bytes
 
 
-# Subtitle files
-
 def add_letters(rng: Random, text: bytes, option: str) -> bytes:
     """Replace letters with letters of a national option, rarely with invalid bytes."""
     if rng.random() < 0.1:
@@ -178,8 +176,6 @@ def corrupt_stl_file(rng: Random, whole: bytes) -> bytes:
             del data[rng.randrange(len(data)):]
     return bytes(data)
 
-
-# Pairs
 
 def make_random_options(rng: Random) -> dict[str, str]:
     """Return random values of the options that `schedule` and `check` share."""

@@ -52,8 +52,6 @@ class OutsideSubtitle(NamedTuple):
     block: int
 
 
-# Subtitle files
-
 def find_gsi_fault(data: bytes, accepts_open: bool) -> int | None:
     """Return the fault number for the GSI block, if any."""
     if len(data) < GSI:
@@ -147,8 +145,6 @@ def read_subtitles(data: bytes, accepts_open: bool = False, begin: int = 0,
     if group:
         yield StlFault(24, count)
 
-
-# PES packets
 
 def is_valid_pts(field: bytes) -> bool:
     """Return whether five bytes are a PTS: they begin with 0010, and all marker bits are set."""
@@ -253,8 +249,6 @@ def read_packet(piece: bytes, origin: int, within: int) -> ReadPacket | int:
     frame = find_frame(decode_pts(piece), origin) if within else frame_at(decode_pts(piece), origin)
     return 61 if frame is None else (frame, packets)
 
-
-# Teletext packets
 
 def decode_subcode(packet: bytes) -> tuple[int, ...]:
     """Return the subcode in a page header, S1 to S4."""

@@ -19,8 +19,6 @@ MAX_UNSEEN_PACKETS = 15  # number of packets after which the counter may wrap
 GAP_MARKER = b"\0\0\1\xbd\0\xb2" + b"\xff" * 178
 
 
-# Packets
-
 class Skipped(NamedTuple):
     """Skipped bytes between packets."""
 
@@ -73,8 +71,6 @@ def find_packets(data: bytes, size: int) -> Iterator[TransportPacket | Skipped]:
     if skipped:
         yield Skipped(skipped)
 
-
-# Intact packets of a PID
 
 class GoodPacket(NamedTuple):
     """An intact packet, and its relation to the previous intact packet.
@@ -135,8 +131,6 @@ def find_good_packets(data: bytes, pid: int, size: int) -> tuple[list[GoodPacket
     return found, is_wrong_last and bool(found)
 
 
-# Parts
-
 class Part:
     """Consecutive intact packets. A PES packet may begin in the first packet."""
 
@@ -163,8 +157,6 @@ def cut_parts(good_packets: list[GoodPacket]) -> list[Part]:
         parts[-1].append(one)
     return [Part(packets) for packets in parts]
 
-
-# Contents of a stream
 
 class StreamContent(NamedTuple):
     """The PES packets and gap markers in a stream. `marks` is true for gap markers.
@@ -211,8 +203,6 @@ def read_stream(data: bytes, pid: int, size: int) -> StreamContent:
     mark()
     return StreamContent(pieces, marks, b"", None)
 
-
-# Ranges of PES packets
 
 class Range(NamedTuple):
     """A range of PES packets and gap markers, and the index of its first item.

@@ -39,8 +39,6 @@ def make_random_bytes(rng: Random, count: int) -> bytes:
     return bytes(rng.choices([0, 1, 0x47, 0xBD, 0xFF, *range(256)], k=count))
 
 
-# Packets
-
 def make_adaptation_field(rng: Random, length: int, is_jump: bool) -> bytes:
     """Return an adaptation field of this length. To announce a jump, it needs at least one byte."""
     if length == 0:
@@ -76,8 +74,6 @@ def make_packet_of_other_pid(rng: Random, pid: int) -> bytes:
                   rng.randrange(256)])
     return head + rng.choice([b"\xb7\x80", b"\1\x80", b"\0\0"]) + make_random_bytes(rng, 182)
 
-
-# A multiplexer
 
 class Multiplexer:
     """A multiplexer that sends the PES packets of a PID. Its counter may jump if announced."""
@@ -155,8 +151,6 @@ def join_units(rng: Random, units: list[Unit], size: int) -> bytes:
     return data[:-behind] if behind and data and rng.random() < 0.3 else data
 
 
-# Losses
-
 def corrupt_unit(rng: Random, unit: Unit) -> Unit:
     """Return the unit with transport_error_indicator or scrambling bits set."""
     changed = bytearray(unit.packet)
@@ -193,8 +187,6 @@ def gone(number: int, kept: set[int]) -> bool:
     return number >= MAX_UNSEEN_PACKETS - 1 and kept.isdisjoint(range(number - MAX_UNSEEN_PACKETS +
                                                                       1, number + 1))
 
-
-# Other faults
 
 # Kinds of changes to units. Frequent kinds occur several times.
 CHANGES = ["leave out", "leave out", "leave out", "again", "again", "wrong", "wrong", "head",

@@ -86,7 +86,7 @@ class Counters:
         self.first: dict[int, int] = {}
         self.last: dict[int, tuple[int, int]] = {}  # counter and position by PID
         self.announced: set[int] = set()
-        self.breaks: list[tuple[int, int, int]] = []  # a PID, and the positions of two TS packets
+        self.breaks: list[tuple[int, int, int]] = []  # PID and positions of two TS packets
 
     def take(self, packet: Packet, place: int) -> None:
         pid = packet.pid

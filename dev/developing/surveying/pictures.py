@@ -52,7 +52,7 @@ class Video:
         self.stretch = Stretch(None)
         self.header: bytes | None = None  # header of a picture whose PTS and DTS are unknown
         self.is_flagged = False  # random_access_indicator is set for the next picture
-        self.is_next_flagged = False  # the same for the picture that begins now
+        self.is_next_flagged = False  # random_access_indicator of the picture that begins
         self.count = self.passed = 0
         self.decoding: int | None = None  # decoding time of the last picture with a time
         self.number = 0  # number of that picture

@@ -213,7 +213,7 @@ class Teletext:
         self.has_gap, self.lost, self.scrambled_there = False, 0, 0
 
     def time(self) -> int | None:
-        """Return the PTS of the PES packet that began last, if this header is now complete."""
+        """Return the PTS of the PES packet that began last, if its header is now complete."""
         header = self.header
         if header is None or not has_times(header):
             return None
