@@ -33,7 +33,7 @@ class Window(NamedTuple):
         return self.end + self.margin + self.more
 
     def may_hold(self, stretch: Unbroken) -> bool:
-        """Return whether a recorded part is long enough and begins early enough."""
+        """Return whether a recorded part is long enough for the programme, and not too late."""
         has_room = stretch.end - stretch.begin >= self.length - SLACK
         return has_room and stretch.begin < self.begin + self.margin
 

@@ -116,7 +116,7 @@ def cpu_seconds_of(process: str) -> float:
     does not exist."""
     try:
         with open(f"/proc/{process}/stat", encoding="utf-8", errors="replace") as file:
-            times = file.read().rpartition(")")[2].split()[11:15]  # the values after its name
+            times = file.read().rpartition(")")[2].split()[11:15]  # fields after the name
     except OSError:
         return 0.0
     return sum(map(int, times)) / os.sysconf("SC_CLK_TCK")
@@ -301,7 +301,7 @@ class PairRunner:
             call.stop()
         while self.running:
             call, begun = next(iter(self.running.items()))
-            if not self.finish(call).is_judged:  # not ended by itself
+            if not self.finish(call).is_judged:  # stopped before its end
                 with contextlib.suppress(OSError):
                     os.unlink(self.result_path(begun.item))
 

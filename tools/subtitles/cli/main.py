@@ -108,7 +108,7 @@ def refuse_options(parser: ToolParser, line: Sequence[str], mode: Mode) -> None:
 
 # The command line.
 def make_parser(text: str) -> ToolParser:
-    """Return the argument parser of tools/qc; `text` is the beginning of its help."""
+    """Return the argument parser of tools/qc; its help begins with `text`."""
     parser = ToolParser(text)
     parser.add_argument("stl", metavar="STL", nargs="?", help="the subtitle file")
     parser.add_argument("recording", metavar="RECORDING", nargs="?",

@@ -73,7 +73,7 @@ class CheckOutput:
         return set(self.counts_by_number)
 
     def read_fault(self, line: str, words: list[str]) -> None:
-        """Read a line `refused`, which is also split into words."""
+        """Read a line `refused`, given as text and as words."""
         number, place = int(words[1]), words[3:5]
         if number not in self.counts_by_number:
             fault = parse_fault_line(line)

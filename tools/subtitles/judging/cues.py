@@ -76,17 +76,17 @@ def find_decoded_times(cue: Cue, place: int, expected: ExpectedPages, timeline: 
     before, after = expected.subtitles[place - 1:place], expected.subtitles[place + 1:place + 2]
     begin: int | None = first
     if place and before[0].end == subtitle.begin and expected.pages[place - 1] == page:
-        begin = max(first, subtitle.begin)  # two subtitles may have the same page
+        begin = max(first, subtitle.begin)  # adjoining subtitles have the same page
     elif subtitle.begin < first == timeline.first and not (
             cue.cause and subtitle.begin + (cue.cause.frames or 0) == first):
-        begin = None  # received before the recording began
+        begin = None  # the page came before the recording began
     end: int | None = last + 1
     if after and after[0].begin == subtitle.end and expected.pages[place + 1] == page:
         end = min(last + 1, subtitle.end)
     elif number + 1 == len(timeline.pages) or \
             last + 1 != subtitle.end and not timeline.was_received(
             min(subtitle.end, last + 1), max(subtitle.end, last + 1)):
-        end = None  # the recording ended first, or packets are lost
+        end = None  # the recording ended before the page, or packets are lost
     return cue._replace(decoded=page, begin=begin, end=end)
 
 

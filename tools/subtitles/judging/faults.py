@@ -351,7 +351,7 @@ class PartFaults:
         return {"code": f"{code:02X}", "character": self.letters[code] if code >= 0x20 else None}
 
 
-# details that a fault without a number does not have
+# Details that faults without a number do not have
 KEYS_WITHOUT_NUMBER = ("number", "byte", "character", "text_offset", "pes", "pes_pts", "pes_time",
                        "packet", "row", "column", "expected", "decoded", "last_pes", "cause")
 

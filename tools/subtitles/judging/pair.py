@@ -315,7 +315,7 @@ class PairJudge:
         return LocatedRecording(recording, clocks, subtitles)
 
     def is_continued(self, first: Subtitle) -> bool:
-        """Return whether the subtitle before the first judged subtitle ends where this begins, and
+        """Return whether the subtitle before the first judged subtitle ends where it begins, and
         has the same text."""
         request, option = self.request, BY_WORD[self.request.option]
         if not request.between.begin and not self.skipped_positions:
@@ -421,7 +421,7 @@ class PairJudge:
         if not due.pages or not fault or \
                 part.decoded_pages.page_at(fault.frame or at) != due.pages[0]:
             return
-        # Without --from and --to, refused subtitles are skipped and are no error here.
+        # A range other than the default skips refused subtitles instead of raising `Unclear`.
         subtitles = read_subtitles(program, given, Between(0, FRAMES_OF_A_DAY + 1), request.is_open)
         raise Unclear(f"--to cuts the file at {time_of(at)}, where the next subtitle follows "
                       "directly: the page is right up to there, and is not erased",

@@ -58,7 +58,7 @@ class Part:
     expected_pages: Callable[[], ExpectedPages] = no_expected_pages
     timeline: Callable[[], Timeline | None] = lambda: None
     severity: Severity | None = None
-    causes: Causes | None = None  # of refused pages
+    causes: Causes | None = None  # why subtitles are refused
     delays: Sequence[int | None] = ()  # frames from each TCI until the subtitle was complete
     is_recording_read: bool = False  # also set if there is no recording
     hint: str = ""  # hint on the fault to report first
@@ -180,7 +180,7 @@ class Part:
 
     @functools.cached_property
     def trusted_frames(self) -> Spans:
-        """Return the clean frames, without frames that lost packets."""
+        """Return the clean frames, except frames with lost packets."""
         return self.check_output.trusted_frames.without(self.unmarked_losses)
 
     def list_pts(self, flags: str = "") -> array.array[int]:

@@ -232,7 +232,7 @@ def find_part_packets(search: PartSearch, part: Part, listener: Listener) -> Ran
 
 # The maximum PES interval, if PES packets are regular; otherwise, losses that remain invisible
 
-NEXT_FRAME = 1  # maximum number of frames between PES packets in consecutive frames
+NEXT_FRAME = 1  # PES interval in frames if each frame has a PES packet
 UNCHECKED = "not checked for"  # beginning of a note
 
 

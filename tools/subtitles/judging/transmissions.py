@@ -34,7 +34,7 @@ CONTROL_BIT_FAULTS = (
     (NEWSFLASH, False, "C5 (newsflash) is set"),
     (INHIBIT, False, "C10 (inhibit display) is set"),
 )
-# What receivers do that evaluate such a control bit, worst effect first
+# Effects of a faulty control bit on receivers that use it, worst first
 RECEIVER_EFFECTS = (
     (INHIBIT, False, "is not shown"),
     (SUBTITLE, True, "hides the picture"),
@@ -123,7 +123,7 @@ def describe_header_faults(headers: Sequence[PageHeader], request: Request) -> s
 
 
 # Headers with C4 clear keep the page: a receiver still has the earlier rows. The decoded page may
-# then be correct although `check` reports 72 for a row missing after the last header.
+# then be correct although `check` reports 72: a row is missing after the last header.
 
 
 class KeepingHeaders(NamedTuple):
@@ -424,7 +424,7 @@ class PageTransmissions:
             not is_partial_page(page, self.pages[place])
 
     def count_frames(self, number: int, begin: int, end: int) -> int:
-        """Return how many of the frames from `begin` to `end` have a decoded page."""
+        """Return in how many frames from `begin` to before `end` a page is decoded."""
         stretch = self.timeline.page_span(number)
         return min(stretch.last + 1, end) - max(stretch.first, begin)
 

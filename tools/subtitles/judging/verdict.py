@@ -88,7 +88,7 @@ def find_worst_part(parts: Sequence[Part],
 
 
 def add_worst_fault(facts: Facts, worst: WorstFault | None) -> Facts:
-    """Return the facts for a sentence with the fault to report first added."""
+    """Return the facts for a sentence, together with the fault to report first."""
     return facts._replace(first=worst.fault, is_caused=worst.is_caused) if worst else facts
 
 

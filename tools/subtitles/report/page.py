@@ -112,7 +112,7 @@ def describe_given_clock(clock: Clock) -> str:
 
 
 def make_folded_list(what: str, lines: Sequence[str]) -> Markup:
-    """Return a titled list of places, folded if it is long, or nothing if there are no places."""
+    """Return a titled list of places, folded if it is long; empty if there are no places."""
     if not lines:
         return NO_MARKUP
     listed = markup("<ul>{}</ul>", join_markup(markup("<li>{}</li>", one)

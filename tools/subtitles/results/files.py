@@ -28,7 +28,7 @@ from .schema import (
 
 # JSON results. Lists are written item by item, since they may have any number of faults.
 
-MAX_BYTES = 32 << 20  # maximum size of all lists in a result
+MAX_BYTES = 32 << 20  # maximum size of all lists in a result, in bytes
 
 
 class ListLimit:

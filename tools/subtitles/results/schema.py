@@ -238,9 +238,9 @@ CHOICE = Record(
     Member("option", OneOf(*CHOICES), "The option that sets this value, without dashes.",
            lambda choice: choice.option),
     Member("value", Maybe(Text()), "The chosen value; null if there is none."),
-    Member("matches", Maybe(COUNT), "How many agree with the value: for pid, PES packets with a header "
-           "of the page; for origin, cues; for pes, PES packets between the first and the last "
-           "subtitle; for pace, positions at which a loss would exceed the pace.",
+    Member("matches", Maybe(COUNT), "How many agree with the value: for pid, PES packets with a "
+           "header of the page; for origin, cues; for pes, PES packets between the first and the "
+           "last subtitle; for pace, positions at which a loss would exceed the pace.",
            lambda choice: choice.match_count),
     Member("total", Maybe(COUNT), "The number that could match.",
            lambda choice: choice.total_count),
@@ -378,8 +378,8 @@ VERDICT = Record(
     Member("status", STATUS, of=lambda known: known.verdict.status),
     Member("line", Maybe(Text()), "The last line on standard output.",
            lambda known: known.verdict.line),
-    Member("worst_fault", Maybe(Text()), "The last line, but with the worst fault that is not waived.",
-           lambda known: known.verdict.worst_line),
+    Member("worst_fault", Maybe(Text()), "The last line, but with the worst fault that is not "
+           "waived.", lambda known: known.verdict.worst_line),
     Member("sentence", Text(), "The verdict in one sentence.",
            lambda known: known.verdict.sentence),
     Member("reason", Maybe(Text()), "The reason why the pair was not judged.",
