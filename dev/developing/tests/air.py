@@ -116,7 +116,7 @@ class Air(Case):
         return {name: str(self.result(name)["verdict"]) for name in names if name != "state"}
 
     def result(self, name: str) -> dict[str, Any]:
-        """Return the JSON result with a name."""
+        """Return the JSON result `name` in the output folder."""
         found: dict[str, Any] = json.loads(self.read(f"out/{name}.json"))
         return found
 

@@ -27,7 +27,7 @@ FEW = "are too few to measure their interval"  # end of a note about the pace
 
 
 class LineRecorder(SilentPrinter):
-    """Records the printed lines, with `! ` before lines for standard error."""
+    """A printer that records all lines, with `! ` before lines for standard error."""
 
     def print_error(self, line: str) -> None:
         self.lines.append(f"! {line}")

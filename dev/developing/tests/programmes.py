@@ -25,7 +25,7 @@ def make_subtitles(case: Case, name: str, first: int, texts: Sequence[str]) -> s
 
 
 def make_programme(case: Case, name: str, first: int, words: str, pts: int) -> bytes:
-    """Write a subtitle file, and return its transmission, in which the first TCI has a PTS."""
+    """Write a subtitle file, and return its transmission; `pts` is the PTS of its first TCI."""
     stl = make_subtitles(case, name, first, words.split())
     origin = (pts - TICKS * first) % CLOCK
     case.schedule(stl, f"{name}.pes", "--origin", str(origin), "--every", "25")

@@ -148,7 +148,7 @@ def in_folder() -> Iterator[None]:
 
 
 def schema_violations(known: Any) -> list[str]:
-    """Return the schema violations that our own validator finds in a JSON result."""
+    """Return the schema violations in a JSON result that `results.violations` finds."""
     return [*violations(known, schema())]
 
 

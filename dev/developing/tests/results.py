@@ -148,8 +148,8 @@ def second_validator() -> Any:
 
 
 def all_violations(value: Any) -> list[str]:
-    """Return the schema violations that our validator and python3-jsonschema find in a result.
-    The latter is slow and reads only a sample of long lists."""
+    """Return the schema violations in a result, found by `violations` and by python3-jsonschema,
+    which is slow and reads only a sample of long lists."""
     reader = second_validator()
     others = [error.message for error in reader.iter_errors(sample_of(value))] if reader else []
     return [*violations(value, schema()), *others]

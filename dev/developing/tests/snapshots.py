@@ -113,8 +113,8 @@ def report_text(number: int) -> list[str]:
 
 
 def text_of(name: str) -> list[str]:
-    """Run qc as a name such as `call 17`, `named a list` or `report 3` tells, and return the lines
-    to store."""
+    """Run qc for a name such as `call 17`, `named a list` or `report 3`, and return the lines to
+    store."""
     kind, _, rest = name.partition(" ")
     if kind == "call":
         return call_text(random_calls.run_random_call(int(rest), BENCH.program))

@@ -74,7 +74,7 @@ def program_map(number: int, components: Iterable[Component], pcr_pid: int) -> b
 
 
 class Maker:
-    """Makes the TS packets of a transport stream with one programme."""
+    """A builder for the TS packets of a transport stream with one programme."""
 
     def __init__(self, components: list[Component], pcr_pid: int = VIDEO_PID) -> None:
         self.packets: list[bytes] = []
@@ -95,7 +95,7 @@ class Maker:
         return made
 
     def taken_of(self, pid: int) -> list[Packet]:
-        """Return the packets made since the last call, each with `pid` (0 for tables)."""
+        """Return the packets made since the last call, each labelled with `pid`."""
         return [Packet(pid, one) for one in self.taken()]
 
     def put_tables(self) -> None:

@@ -36,8 +36,8 @@ case "$*" in
 esac
 """
 EMPTY = ["refused 60 Empty", "1 faults"]
-# Output of `check`, mostly invalid, with the only valid end of the script for a subtitle file alone
-# and for a recording, or `None`.
+# Output of `check`, with the end of the script that makes it valid for a subtitle file alone and
+# for a recording (`None` if it is always invalid).
 ANSWERS: dict[str, tuple[list[str], str | None, str | None]] = {
     "accepted": ([ACCEPTED], None, "exit 0"), "no PES packet": (EMPTY, "exit 1", "exit 1"),
     "a fault of the subtitle file": (["refused 50 Character block 1 at 0", "1 faults"], "exit 1",

@@ -66,7 +66,7 @@ def proof_file(case: Case) -> str:
 
 
 def is_compiled(folder: str) -> bool:
-    """Return whether each module in a folder has a compiled file that is valid without its time."""
+    """Return whether all modules in a folder have compiled files that Python uses unchecked."""
     for place, _, names in os.walk(folder):
         for name in names:
             if not name.endswith(".py"):

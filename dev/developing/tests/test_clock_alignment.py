@@ -184,7 +184,7 @@ class EstimatedClocks(unittest.TestCase):
     def test_reports_an_early_cue_of_a_known_inserter(self) -> None:
         for name, (within, inserter) in INSERTERS.items():
             if name in ("any of six", "seldom late"):
-                continue  # early in-cues are likely for these
+                continue  # early in-cues are usual for these inserters
             chance = random.Random(5)
             shown = [one._replace(letters=b"text %d" % at)
                      for at, one in enumerate(random_programme(chance, 30))]
@@ -236,7 +236,7 @@ class Drifts(unittest.TestCase):
                 chance = random.Random(seed)
                 delays = [inserter(chance, True) for _ in range(chance.choice((6, 8, 12, 40)))]
                 count += self.drift(delays) is not None
-        self.assertLess(count, 4)  # of 1800 programmes
+        self.assertLess(count, 4)  # at most 3 of 1800 programmes
 
 
 class RepeatedProgrammes(unittest.TestCase):

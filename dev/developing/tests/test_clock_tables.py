@@ -24,7 +24,7 @@ SHIFTS = (0, CLOCK - 2 * TICKS - 7)  # first PTS, before a PTS wrap or without i
 
 
 def changes_at(several: Sequence[tuple[int, bytes]], shift: int = 0) -> list[PageChange]:
-    """Return changes to these texts, each at some ticks after the first PTS `shift`."""
+    """Return page changes to these texts, each at some ticks after the first PTS `shift`."""
     return [PageChange((shift + ticks) % CLOCK, letters, at, ((20, letters),) if letters else ())
             for at, (ticks, letters) in enumerate(several)]
 
@@ -133,7 +133,7 @@ class Fits(unittest.TestCase):
 
     def fit(self, sent: Sequence[tuple[int, bytes]], offs: Sequence[int] = (0,) * 9,
                length: int = 50, within: int = 0, shift: int = 0, start: int = 10) -> Any:
-        """Return how the cues agree with the correct origin."""
+        """Return the match of the cues with these page changes at the start frame `start`."""
         return base_with(self.cues, [(TICKS * frame + off, letters) for (frame, letters), off in
                                      zip(sent, offs)], length, within, shift).compare(start)
 
@@ -199,7 +199,7 @@ class Fits(unittest.TestCase):
             base = base_with(self.cues, [(TICKS * frame, text) for frame, text in some], 60,
                              within)
             self.assertEqual(base.find_cue_offset(base.compare(10)), wanted, (some, within))
-        half = [(0, b"a"), (10, b""), (12, b""), (20, b"b"), (37, b"")]  # on time and late
+        half = [(0, b"a"), (10, b""), (12, b""), (20, b"b"), (37, b"")]  # out-cues on time and late
         base = base_with(self.cues[:4], [(TICKS * frame, text) for frame, text in half])
         self.assertIsNone(base.find_cue_offset(base.compare(10)))
         base = base_with(self.cues, [(TICKS * frame, text) for frame, text in self.SENT], 49)

@@ -67,7 +67,6 @@ def evenly(count: int, is_adjoining: bool = False) -> list[tuple[int, int]]:
 
 
 # Kinds of inserters, with possible delays of in-cues and out-cues in frames.
-
 SHARES: dict[str, tuple[Sequence[int], Sequence[int]]] = {
     "const": ((0,), (0,)), "b1": ((1,), (0,)), "rows": ((1, 1, 2, 2, 3), (0,)),
     "u1": ((0, 1), (0, 1)), "u2": ((0, 1, 2), (0, 1, 2)),

@@ -16,8 +16,8 @@ from .bench import Case, SECONDS
 ORDER = ["common", "formats", "request", "stream", "clock", "recording", "judging", "results",
          "report", "cli", "air"]  # packages of the tools, lowest first
 LONGEST_LINE = 100
-MAIN = "subtitles.cli.main"  # imports modules on demand
-IN_ROWS = os.path.join("developing", "signs.py")  # has a table with long lines
+MAIN = "subtitles.cli.main"  # module that imports other modules on demand
+IN_ROWS = os.path.join("developing", "signs.py")  # file with a table of long lines
 # Modules of the tools that the second implementation may import.
 SHARED = {"subtitles." + name for name in (
     "common.command_line", "common.program.TOP", "common.program.find_built_program",
@@ -66,7 +66,7 @@ def wrong_imports(name: str, names: Iterator[str]) -> list[str]:
 
 
 def wraps(text: str) -> list[int]:
-    """Return the numbers of lines that wrap PTS without the functions for it."""
+    """Return the numbers of lines that compute modulo CLOCK instead of calling `wrap_pts`."""
     return [node.lineno for node in ast.walk(ast.parse(text))
             if isinstance(node, ast.BinOp) and isinstance(node.op, (ast.Mod, ast.FloorDiv))
             and isinstance(node.right, ast.Name) and node.right.id == "CLOCK"]

@@ -75,7 +75,7 @@ class NationalOptions(unittest.TestCase):
                     whole = encode_line(text, option)
                     if (option.word, text) not in known and len(whole) == 1:
                         self.assertEqual(whole, [None], (option.word, text))
-                    if (option.word, text) not in known:  # each byte makes a cell
+                    if (option.word, text) not in known:  # each byte has its own cell
                         self.assertEqual(whole, [code for byte in text for code in encode_line(
                             bytes([byte]), option)], (option.word, text))
 

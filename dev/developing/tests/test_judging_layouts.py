@@ -158,8 +158,6 @@ class OpenSubtitles(Case):
                       and len(late.result["causes"]) == 12, late.said)
 
 
-# Random programmes in a random layout, some with a fault.
-
 # Seeds of the programmes that are always judged.
 GATE = (3, 5, 11, 17, 24, 31, 42, 50, 57, 68, 77, 89, 101, 123, 150, 171, 200, 217, 260, 299)
 UNSEEN = "not checked: whether"

@@ -305,7 +305,7 @@ class Sentences(ProgrammeCase):
                   found.result)
         data = bytearray(example_bytes("hello.pes"))
         at = DATA + 4 + 2 + 7  # offset of C11 to C14 in the first header of the file
-        data[at:at + 1] = reverse_bits(b"\xd0")  # code word of 8: German
+        data[at:at + 1] = reverse_bits(b"\xd0")  # code word of 8, which selects German
         found = judge_files(self, HELLO, self.write("one.pes", data))
         words = "the header is German, but --option is english"
         self.must("header", found.result["hints"] == [f"67: {words}"] and found.said[-3::2] == [

@@ -21,7 +21,7 @@ ADVICE = ("--within", "--keeping", "--no-complete", "--allow-lost", "--severity"
 
 
 def off_grid(sent: Sent, every: int, first: int, ticks: int) -> Sent:
-    """Shift the PTS of every n-th PES packet by ticks, beginning with packet `first`."""
+    """Shift the PTS of each `every`-th PES packet by ticks, beginning with packet `first`."""
     return [(pts + ticks * (at >= first and (at - first) % every == 0), some)
             for at, (pts, some) in enumerate(sent)]
 
@@ -137,7 +137,7 @@ class PlantedFaults(Case):
 
 
 def main(program: str, first: int, last: int) -> None:
-    """Plant faults with the seeds; print each fault that is not named, and the counts."""
+    """Plant faults with these seeds; print each fault that is not named, and the counts."""
     BENCH.chosen = program
     case = PlantedFaults("test_names_at_least_95_of_100_planted_faults")
     counts = collections.Counter[str]()

@@ -377,7 +377,7 @@ class RandomFiles(Case):
 
 NULL_PID, PID = 0x1FFF, 0x101
 NULL = make_head(NULL_PID, 0, PAYLOAD).ljust(PACKET, b"\xff")
-AT_ONCE, TIMES = 1000, 1001  # null packets in one write, and writes: 188 MB
+AT_ONCE, TIMES = 1000, 1001  # null packets per write, and number of writes
 
 
 class LongInputs(Case):

@@ -253,7 +253,7 @@ class NamedPlaces(ProgrammeCase):
             return make_packet(0, 0, [8, 8, 0, c4, 0, c5, c7, option], b" " * 32)
 
         def even(letter: bytes) -> Callable[[bytes], bytes]:
-            """Return a function that gives the last such letter in a packet even parity."""
+            """Return a function that gives even parity to the last `letter` in a packet."""
             def changed(one: bytes) -> bytes:
                 at = bytes(byte & 0x7F for byte in one).rfind(letter, 2)
                 return one if at < 0 else one[:at] + bytes([one[at] ^ 0x80]) + one[at + 1:]

@@ -201,8 +201,6 @@ class OptionRows(Case):
             self.must(text, remove_markup(text) == wanted, remove_markup(text))
 
 
-# Profiles: the lines of the file, its path, and options that override it.
-
 STORY, RECORDING = example("story.stl"), example("recording.ts")
 MAY = "--page, --every, --option, --origin, --complete, --no-complete, --pid, --allow-lost, " \
     "--severity, --start, --relative, --within, --late, --layout, --keeping, --pace"

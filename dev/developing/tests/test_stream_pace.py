@@ -18,8 +18,8 @@ from .streams import Packet, Shape, TELETEXT_PID, make_multiplex, stream_bytes, 
 from .transmissions import Sent, write_pipe, write_programme, schedule_pages
 
 BEGIN = 900_000  # frame number of the first TCI
-LONG = range(5000)  # frames; up to five losses among them are exceptions
-FOUR = range(400)  # frames; up to three losses among them are exceptions
+LONG = range(5000)  # frames; the estimated pace ignores up to five losses in them
+FOUR = range(400)  # frames; the estimated pace ignores up to three losses in them
 
 
 class Row(NamedTuple):
@@ -43,7 +43,7 @@ def holed(frames: Sequence[int], *holes: tuple[int, int]) -> list[int]:
 
 
 def without_frames(count: int) -> list[int]:
-    """Return the frames of two PES packets a frame, except `count` consecutive empty frames."""
+    """Return the frames of PES packets that come in pairs, except in `count` empty frames."""
     return [at // 2 for at in range(800) if not 200 <= at // 2 < 200 + count]
 
 

@@ -33,8 +33,6 @@ from .parts import request_for, call_arguments
 from .transmissions import write_programme, schedule_pes
 
 
-# The places of losses, and the lateness of PTS.
-
 Jump = Tuple[int, int]  # PTS before and after a clock jump
 Around = Tuple[Optional[int], Optional[int]]  # PTS before and after a loss
 
@@ -114,8 +112,6 @@ class LatePts(Case):
                 self.must(f"{samples}: reach", find_recorded_range(known, packets) == (
                     (first + ahead) % CLOCK, 90_000 - late))
 
-
-# Losses that the continuity counters of the PID do not show, and clock jumps.
 
 BEGIN, COUNT = 900_000, 8  # first frame, and number of subtitles
 PAGE = 0, 0x88
@@ -200,9 +196,6 @@ class StreamLosses(Case):
                 judge_files(self, *words, more, "-o", self.path("out"))
                 self.must("in the report", reported[0] in self.read("out/one.html").decode(),
                           reported)
-
-
-# The value of --pace in arguments, lists and earlier results.
 
 
 class PaceOptions(Case):

@@ -803,7 +803,7 @@ class SurveyAnswers(Case):
                    "PID 0x5: announced 888 eng subtitles in programme 1; subtitle pages sent: 210 "
                    f"211 212 213 214 215 216 217 218 219 220 221{more}"])
               for count, more in ((12, ""), (13, " and 1 more"), (14, " and 2 more"))),
-            # A PMT takes the last PCR of its PCR PID, or of one of the last eight PCR PIDs.
+            # A PMT takes the last PCR of its PCR PID, or else of one of eight earlier PCR PIDs.
             *((f"pcr 9 5; programme 1 9; pcr 9 8; {more}",
                lambda it: [one.after for one in it.programmes[1:]], wanted) for more, wanted in (
                    ("pcr 8 20; programme 1 8; programme 1 7; programme 2 7; programme 1 9",

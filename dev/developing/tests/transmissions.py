@@ -112,12 +112,12 @@ def subtitle_times(count: int) -> list[tuple[int, int]]:
 
 
 def delayed(by: int, first: int = 0, last: int = 1 << 40) -> Change:
-    """Return a function that delays PES packets with a PTS from `first` to `last` by frames."""
+    """Return a function that delays PES packets with PTS from `first` to `last` by `by` frames."""
     return lambda sent: [(pts + by * TICKS * (first <= pts <= last), some) for pts, some in sent]
 
 
 def delay_subtitle(number: int, by: int) -> Change:
-    """Return a function that delays the page transmissions of one subtitle by frames."""
+    """Return a function that delays the page transmissions of one subtitle by `by` frames."""
     begin = EACH * number * TICKS
     return delayed(by, begin, begin + LASTS * TICKS - 1)
 
