@@ -260,7 +260,7 @@ def format_key(record: Record, member: Member) -> str:
 
 def find_record(member: Member) -> Record | None:
     """Return the object that is the value of a member, or an item in the member's list."""
-    record = next((shape for shape in (member.shape, *member.shape.inner())
+    record = next((shape for shape in (member.shape, *member.shape.inner_shapes())
                    if isinstance(shape, Record)), None)
     return CAUSE if record is LISTED_CAUSE else record
 
@@ -271,7 +271,7 @@ def list_records(shape: Shape, found: tuple[Record, ...] = ()) -> tuple[Record, 
         if shape in found:
             return found
         found = (*found, shape)
-    for inner in shape.inner():
+    for inner in shape.inner_shapes():
         found = list_records(inner, found)
     return found
 
@@ -291,7 +291,8 @@ def find_column(record: Record, member: Member) -> str:
 
 def describe_member(member: Member) -> str:
     """Return the description of a member, after the description of its value if no table has it."""
-    shape = next((shape for shape in (member.shape, *member.shape.inner()) if shape.name), None)
+    shape = next((shape for shape in (member.shape, *member.shape.inner_shapes()) if shape.name),
+                 None)
     inner = find_record(member)
     of_shape = "" if shape is None or inner and needs_table(inner) else shape.meaning
     return " ".join(text for text in (of_shape, member.meaning) if text)

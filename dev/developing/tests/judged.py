@@ -105,7 +105,7 @@ def judge_files_with(program: str, *words: str, recorder: LineRecorder | None = 
         # A recording read from a pipe is named by its stored copy.
         known_files = {request.stl, request.recording, os.devnull}
         if pair.recording:
-            known_files.add(pair.recording.shown)
+            known_files.add(pair.recording.display_name)
     return JudgedPair(verdict, recorder.lines, result, listed, known_files)
 
 

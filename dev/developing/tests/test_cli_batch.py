@@ -463,14 +463,14 @@ class ForkedPairs(Case):
         items.append(BatchItem("five", None, "no pair"))
         program = describe_program(self.command_paths.program_path)
         mores: list[dict[str, Any]] = [
-            {}, {}, {"program": {**PROGRAM.made(program), "sha256": "1" * 64}}, {}, {"format": 2},
-            {"files_at_start": None}, {"request": None}]
+            {}, {}, {"program": {**PROGRAM.to_json(program), "sha256": "1" * 64}}, {},
+            {"format": 2}, {"files_at_start": None}, {"request": None}]
         verdicts = ("refused", "not judged", "accepted", "waived", *["accepted"] * 3)
         for item, verdict, more in zip(items, verdicts, mores):
             assert item.request
-            have = {**make_result(verdict), "request": REQUEST.made(item.request),
+            have = {**make_result(verdict), "request": REQUEST.to_json(item.request),
                     "files_at_start": describe_inputs(item.request),
-                    "program": PROGRAM.made(program), **more}
+                    "program": PROGRAM.to_json(program), **more}
             self.write(f"out/{item.name}.json", json.dumps(have).encode())
         self.write("out/five.json", json.dumps(make_result()).encode())
         for text in (b"", b"{", b"[]"):

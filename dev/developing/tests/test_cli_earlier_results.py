@@ -47,9 +47,9 @@ class CurrentResults(Case):
             ("one.stl", example_bytes("story.stl")), ("one.pes", example_bytes("story.pes")),
             ("severity", b"72 warning\n"))]
         request = dataclasses.replace(request_for(*paths[:2]), severity=paths[2])
-        return request, make_result("accepted", request=REQUEST.made(request),
-                                  files_at_start=describe_inputs(request),
-                             program=PROGRAM._asdict())
+        return request, make_result("accepted", request=REQUEST.to_json(request),
+                                    files_at_start=describe_inputs(request),
+                                    program=PROGRAM._asdict())
 
     def test_a_result_is_current_only_for_the_same_options(self) -> None:
         request, accepted_pair = self.accepted_pair()
@@ -344,8 +344,8 @@ class WatchedFolders(Case):
                                 self.write(f"in/{name}.ts", b"1"),
                               "--every", "99")
             files = {**describe_inputs(request), **({"stl": None} if name == "b" else {})}
-            have = make_result(request=REQUEST.made(request), files_at_start=files,
-                          program=schema.PROGRAM.made(program))
+            have = make_result(request=REQUEST.to_json(request), files_at_start=files,
+                               program=schema.PROGRAM.to_json(program))
             self.write(f"out/{name}.json", json.dumps(have).encode())
         reads = []
 
@@ -408,8 +408,8 @@ class WatchedFolders(Case):
         request, path = request_for(self.path("in/a.stl"), self.path("in/a.ts"), "--every", "99"), \
             self.path("in/a.ts")
         self.write("out/a.json", json.dumps(make_result(
-            request=REQUEST.made(request), files_at_start=describe_inputs(request),
-            program=schema.PROGRAM.made(describe_program(self.bench.program)))).encode())
+            request=REQUEST.to_json(request), files_at_start=describe_inputs(request),
+            program=schema.PROGRAM.to_json(describe_program(self.bench.program)))).encode())
         before = os.stat(path).st_mtime_ns
 
         def change(look: int) -> None:

@@ -172,7 +172,8 @@ class Members(unittest.TestCase):
         place = LossPlace(5, 9, 3, scrambled=2, missing=4, gap_marker=7)
         for is_judged in (True, False):
             with self.subTest(is_judged=is_judged):
-                self.assertEqual(LOSS.made(Gap("00:00:01:00", None, "3 lost", place, is_judged)), {
+                self.assertEqual(LOSS.to_json(Gap("00:00:01:00", None, "3 lost", place, is_judged)),
+                                 {
                     "from": "00:00:01:00", "to": None, "from_pts": 5, "to_pts": 9,
                     "gap_marker": 7, "lost_ts_packets": 3, "scrambled_ts_packets": 2,
                     "missing_ticks": 4,
@@ -180,7 +181,7 @@ class Members(unittest.TestCase):
 
     def test_writes_the_judged_range_clock_and_file(self) -> None:
         part = make_part(25, 49, 7, number=2)
-        bare = JUDGED_PART.made(PartResult(part, False))
+        bare = JUDGED_PART.to_json(PartResult(part, False))
         self.assertEqual([bare[name] for name in (
             "part", "origin", "from", "to", "verdict", "frames", "transmissions", "fault_count",
             "pid", "packet_size", "pes", "judged_file")], [
@@ -192,12 +193,12 @@ class Members(unittest.TestCase):
         for count in (0, 1, 1_000_000):
             many: Any = SimpleNamespace(verdict="refused", line="l", frames=3, transmissions=1,
                                         fault_count=count)
-            words = JUDGED_PART.made(PartResult(dataclasses.replace(part, check_output=many),
-                                                False))
+            words = JUDGED_PART.to_json(PartResult(dataclasses.replace(part, check_output=many),
+                                                   False))
             self.assertEqual((words["fault_count"], words["verdict"], words["line"]),
                              (count, "refused", "l"), count)
         for is_kept, name in ((True, "a.cut.pes"), (False, None)):
-            words = JUDGED_PART.made(PartResult(part, is_kept))
+            words = JUDGED_PART.to_json(PartResult(part, is_kept))
             self.assertEqual([words[name] for name in ("pid", "packet_size", "pes", "judged_file",
                                                        "clock")],
                              [0x101, 204, "3-9", {"name": name, "size": 5, "sha256": "sum"}, None],

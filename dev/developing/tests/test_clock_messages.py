@@ -9,7 +9,7 @@ from typing import Any, Sequence
 from developing.pes import make_packet
 from subtitles.clock.alignment import EarlyCues
 from subtitles.clock.origin import (
-    OriginEstimate, OriginSearch, break_lines, compare_with_known, part_lines, report_sent_pages,
+    OriginEstimate, OriginSearch, format_breaks, compare_with_known, format_part, report_sent_pages,
     shift_lines, store_parts)
 from subtitles.clock.start import (
     Clock, ESTIMATED_NOTE, FirstPicture, GIVEN, NoFirstPicture, RECORDING, START, TCP,
@@ -43,7 +43,7 @@ class OriginLines(unittest.TestCase):
         fit = SimpleNamespace(**best, score=lambda is_one=True: best["matches"])
         sent = SimpleNamespace(cues=[None] * cues, within=more.get("within", 0),
                                find_cue_offset=lambda _: more.get("apart"))
-        return SimpleNamespace(best=fit, others=more.get("others", []), sent=sent,
+        return SimpleNamespace(best=fit, others=more.get("others", []), time_base=sent,
                                early=more.get("early"))
 
     def other(self, origin: int, matches: int) -> Any:
@@ -87,13 +87,13 @@ class OriginLines(unittest.TestCase):
         for is_begin, matches, late, line in (
                 (True, 5, 2, "all in-cues are 2 frames late compared with the out-cues"),
                 (False, 4, -1, "4 of 5 out-cues are 1 frame early compared with the in-cues")):
-            apart = SimpleNamespace(is_begin=is_begin, matches=matches, total=5, late=late)
+            apart = SimpleNamespace(is_begin=is_begin, matches=matches, total=5, delay=late)
             rows.append((self.part(4, 9, 4, apart=apart), 20, [
                 "4 of 9 cues match, 4 with the expected text; the file has 20; next best: "
                 "none", line]))
         for part, count, lines in rows:
-            self.assertEqual([*part_lines(part, count, True)], lines, (part, count, lines))
-            self.assertEqual([*part_lines(part, count)], [
+            self.assertEqual([*format_part(part, count, True)], lines, (part, count, lines))
+            self.assertEqual([*format_part(part, count)], [
                 line.replace("--origin or --start", "--origin") for line in lines],
                              (part, count, lines))
 
@@ -112,7 +112,7 @@ class OriginLines(unittest.TestCase):
                 self.assertEqual((found.status, found.parts, found.breaks), (1, [], breaks),
                                  (count, printed))
                 self.assertEqual(found.lines, [f"{words} found, but --breaks is {printed}",
-                                               *break_lines(parts)], (count, printed))
+                                               *format_breaks(parts)], (count, printed))
 
     def test_describes_each_part(self) -> None:
         overlapping = [SimpleNamespace(begin=25 * at, end=25 * at + 50) for at in range(3)]
@@ -120,9 +120,9 @@ class OriginLines(unittest.TestCase):
             parts = [self.part(cues - 1, cues, cues - 1, cues) for cues in (20, 12, 6)]
             for number, one in enumerate(parts):
                 one.begin, one.end, one.origin = 1000 * number, 1000 * number + 500, 9 + number
-                one.base, one.sent.packets = 0, (number, 7)
+                one.base, one.time_base.packets = 0, (number, 7)
                 one.overlapping = overlapping[2 * number:][:2]
-            found, bases = OriginEstimate(), [one.sent for one in parts][:count]
+            found, bases = OriginEstimate(), [one.time_base for one in parts][:count]
             store_parts(found, OriginSearch("a", "b", origin=origin, breaks=2), bases, parts)
             pes = [f"--pes {at}-7 " * (count > 1) for at in range(3)]
             self.assertEqual((found.status, found.ticks_late, found.printed), (
@@ -152,8 +152,8 @@ class OriginLines(unittest.TestCase):
             for one in parts:
                 one.begin, one.end, one.base, one.overlapping, one.origin = 0, 50, 0, [], 9
             found = OriginEstimate()
-            store_parts(found, OriginSearch("a", "b", origin=origin, breaks=1), [parts[0].sent],
-                        parts)
+            store_parts(found, OriginSearch("a", "b", origin=origin, breaks=1),
+                        [parts[0].time_base], parts)
             self.assertEqual((found.status, len(found.parts)), (status, 2 - 2 * status), early)
 
     def test_compares_an_origin_with_a_given_one(self) -> None:
@@ -188,19 +188,19 @@ class OriginLines(unittest.TestCase):
         for several, some, damage, changes, printed in rows:
             lines, packets = list[str](), Packets(0, several)
             packets.gap_markers, packets.changes = some, changes
-            packets.damage, packets.sent = damage, {"888": 9, "150": 1, "777": 2}
+            packets.damage, packets.header_counts = damage, {"888": 9, "150": 1, "777": 2}
             self.assertEqual((report_sent_pages(packets, OriginSearch("a", "one"), lines), lines),
                              (bool(changes), printed), (several, some, damage))
 
     def test_reports_the_length_of_each_break(self) -> None:
         parts = [part_at(0), part_at(25, 100), part_at(-50, 200), part_at(0, 300, 1)]
         parts.append(SimpleNamespace(origin=ORIGIN + 7, begin=400, base=1))
-        self.assertEqual(list(break_lines(parts)), [
+        self.assertEqual(list(format_breaks(parts)), [
             "part 2 begins at 00:00:04:00, after a break of 00:00:01:00",
             "part 3 begins at 00:00:08:00, where the recording lacks 00:00:03:00",
             "part 4 begins at 00:00:12:00, where PTS go back",
             "part 5 begins at 00:00:16:00, after a break of 00:00:00:00 and 7 ticks"])
-        self.assertEqual(list(break_lines(parts[:1])), [])
+        self.assertEqual(list(format_breaks(parts[:1])), [])
 
     def shift_texts(self, *frames: int, bases: tuple[int, ...] = ()) -> list[str]:
         """Return the lines printed about minutes that are delayed by these numbers of frames."""
@@ -312,17 +312,18 @@ class FirstPictures(unittest.TestCase):
             self.assertIn(words, found.lines[1], (shift, several, within))
         lines = [*programme_with((VIDEO, MPEG_2)), f"video {VIDEO} 0", f"picture {VIDEO} {TICKS}",
                  f"picture {VIDEO} 0", f"group {VIDEO} 0 0 open"]
-        self.assertEqual(compute_start_clock(request, surveyed(lines), packets).clock.away, -1)
+        self.assertEqual(compute_start_clock(request, surveyed(lines),
+                                             packets).clock.picture_offset, -1)
         self.assertEqual(largest_offset_text(180),
                          "PTS are up to 180 ticks (2.00 ms) off their frames")
         for source, evidence in itertools.product((RECORDING, GIVEN, START, TCP), (
                 None, Selection(ORIGIN_CHOICE, "8", "words"))):
             chosen = (evidence or Selection(ORIGIN_CHOICE, "7", ESTIMATED_NOTE))._replace(part=2)
-            self.assertEqual(Clock(7, source, evidence=evidence).chosen(2),
+            self.assertEqual(Clock(7, source, evidence=evidence).get_selection(2),
                              chosen if source == RECORDING else None, (source, evidence))
         for other, away in ((None, 0), (0, -3), (5 * TICKS + 9, 2), (5 * TICKS - 9, 2),
                             (CLOCK - TICKS, -4)):
-            self.assertEqual(FirstPicture(VIDEO, MPEG_2, 3 * TICKS, 0, other).away, away,
+            self.assertEqual(FirstPicture(VIDEO, MPEG_2, 3 * TICKS, 0, other).picture_offset, away,
                              (other, away))
 
     def test_takes_the_first_picture_of_a_closed_or_open_group(self) -> None:
@@ -340,7 +341,7 @@ class FirstPictures(unittest.TestCase):
             found = self.said([*lines[:-1], f"group {VIDEO} {flagged} {least} {form}", lines[-1]])
             self.assertEqual(found, FirstPicture(VIDEO, MPEG_2, first, 3, other), (frames, form))
             assert isinstance(found, FirstPicture)
-            self.assertEqual((found.away, found.line()), (
+            self.assertEqual((found.picture_offset, found.line()), (
                 away, f"the first picture has PTS {first}{begin}{more}"), (frames, form, first))
 
     def test_asks_about_a_delay_as_long_as_to_another_picture(self) -> None:
@@ -348,7 +349,7 @@ class FirstPictures(unittest.TestCase):
                 (-2, -2, "is the time code from the GOP header?"), (-2, 2, ""), (-2, -1, ""),
                 (-2, 0, ""), (-2, None, ""), (0, 0, ""), (0, None, ""), (2, -2, ""),
                 (2, 2, "is the time code that of the picture with the random_access_indicator?")):
-            printed = Clock(0, START, delay, away=away).question()
+            printed = Clock(0, START, delay, picture_offset=away).question()
             self.assertTrue(printed.startswith(words) and bool(printed) == bool(words), printed)
 
     def test_reports_why_there_is_no_first_picture(self) -> None:

@@ -117,11 +117,11 @@ class TimeBases(unittest.TestCase):
             packets = Packets(0, [PacketRun(at, 1, None if kind == "m" else TICKS * at, 0, kind, "")
                                   for at, kind in enumerate(kinds)])
             packets.changes = [PageChange(0, b"", 1)]
-            self.assertEqual([base.sent for base in find_time_bases([], packets, 0)], [
+            self.assertEqual([base.pts_range for base in find_time_bases([], packets, 0)], [
                 (TICKS * wanted[0], TICKS * wanted[1])] if wanted else [], kinds)
         long = Packets(0, [PacketRun(0, 9, 5, TICKS, "h", "")])
         long.changes = [PageChange(5, b"", 0)]
-        self.assertEqual([(one.sent, one.packets, one.length)
+        self.assertEqual([(one.pts_range, one.packets, one.length)
                           for one in find_time_bases([], long, 0)],
                          [((5, 5 + 8 * TICKS), (0, 8), 8)])
 
@@ -177,7 +177,7 @@ class Fits(unittest.TestCase):
         for at, start, by in ((2, 10, 0), (2, 9, 1), (2, 8, 0), (2, 7, None), (2, 11, 1),
                                 (3, 10, 1), (3, 9, 0), (3, 8, None), (3, 11, 2)):
             found = one.find_match(self.cues[at], start)
-            self.assertEqual(found and found.late, by, (at, start))
+            self.assertEqual(found and found.delay, by, (at, start))
         fit = base_with(self.cues, [(TICKS * 22, b"b")], 60, 2).fit(10)
         self.assertEqual((fit.start, fit.delays), (8, [0]))
         base = base_with(self.cues, [(TICKS * (frame + 2), text) for frame, text in self.SENT],
@@ -284,7 +284,7 @@ class Parts(unittest.TestCase):
                               for one in found], wanted, some)
             self.assertEqual([(one.best.start, one.base, one.early) for one in found],
                              [(0, 0, None), (-4000, int(is_anew), None)], some)
-            first, second = ([*one.sent.changes] for one in found)
+            first, second = ([*one.time_base.changes] for one in found)
             beside = sorted(frame for frame, _ in extra)
             last = some[2].begin if wanted[0][4] else min(some[2].end, 399)
             self.assertEqual((first[-1], second[0]), (
@@ -319,7 +319,7 @@ class Parts(unittest.TestCase):
             [part] = fit_parts(self.shown[::-1], bases, [])  # subtitles in reverse order
             self.assertEqual((part.base, part[:2], part.best.start, part.overlapping), (
                 number, (100, 650), 0, []), number)
-            self.assertIs(part.sent, bases[number], (bases, number))
+            self.assertIs(part.time_base, bases[number], (bases, number))
             self.assertEqual([fit for fit in bases[number].fits if fit.start], part.others,
                              (bases, number))
         self.assertEqual(fit_parts(self.shown, [none], []), [])

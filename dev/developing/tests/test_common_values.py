@@ -19,9 +19,9 @@ from .bench import Case
 
 
 class Shapes(unittest.TestCase):
-    INNER = Record("inner", "", Member("x", Integer(0, 5)), Member("y", Flag(), is_always=False))
+    INNER = Record("inner", "", Member("x", Integer(0, 5)), Member("y", Flag(), is_required=False))
     OUTER = Record("outer", "", Member("a", Text()), Member("b", Maybe(INNER)),
-                   Member("c", Listed(INNER, 2), is_always=False), rules=(
+                   Member("c", Listed(INNER, 2), is_required=False), rules=(
                        Rules(({"a": OneOf("p"), "b": OneOf(None)}, {"a": Text("[qr]+")})),
                        Rules(({"a": Text("[pq]")}, {"b": INNER}))))
 
@@ -41,9 +41,9 @@ class Shapes(unittest.TestCase):
             (Maybe(Integer(0, 1)), [None, 1], [2, "", False])]
         for shape, good, bad in rows:
             for value in good:
-                self.assertIsNone(shape.misfit(value), (shape.schema(), value))
+                self.assertIsNone(shape.find_misfit(value), (shape.schema(), value))
             for value in bad:
-                self.assertEqual(shape.misfit(value), "", (shape.schema(), value))
+                self.assertEqual(shape.find_misfit(value), "", (shape.schema(), value))
         deep: list[tuple[Shape, object, str | None]] = [
             (Listed(Integer(0, 9), 3, 1), [1, 2, 3], None), (Listed(Integer(0, 9), 3, 1), [], ""),
             (Listed(Integer(0, 9), 3, 1), [1, 2, 3, 4], ""), (Listed(Flag(), 3), [], None),
@@ -59,7 +59,7 @@ class Shapes(unittest.TestCase):
             (self.OUTER, {"a": "p", "b": one}, ".a"), (self.OUTER, {"a": "s", "b": one}, ".a"),
             (self.OUTER, {"a": "r", "b": one}, None), (self.OUTER, {"a": "r", "b": None}, ".a")]
         for shape, value, place in deep:
-            self.assertEqual(shape.misfit(value), place, value)
+            self.assertEqual(shape.find_misfit(value), place, value)
 
     def test_cuts_a_text_and_a_list_that_are_too_long(self) -> None:
         rows: list[tuple[Shape, object, object]] = [
@@ -70,11 +70,11 @@ class Shapes(unittest.TestCase):
                 (Listed(Flag(), 2), (), []), (Integer(0, 1), 0, 0),
                 (self.INNER, {"x": 1, "y": False, "z": 3}, {"x": 1, "y": False}),
                 (self.INNER, {"x": 0}, {"x": 0}),
-                (Record("", "", Member("n", Text(most=4), of=lambda value: value.m)),
+                (Record("", "", Member("n", Text(most=4), getter=lambda value: value.m)),
                  SimpleNamespace(m="abcde"), {"n": "a..."}),
                 (Record("", "", Member("n", Flag())), SimpleNamespace(n=False), {"n": False})]
         for shape, value, wanted in rows:
-            self.assertEqual(shape.made(value), wanted, value)
+            self.assertEqual(shape.to_json(value), wanted, value)
 
     def test_prefixes_all_anchors_of_a_part_and_their_links(self) -> None:
         some = markup('<a id="x">{}</a><a href="#x">b</a><a id="y" href="#y">c</a>', ' id="')

@@ -22,7 +22,7 @@ from subtitles.formats.teletext import (
     has_characters, character_bytes, character_table, option_for_language, option_for_track,
     find_options)
 from subtitles.judging.subtitles import advise_on_character
-from subtitles.recording.notices import character_set_notices, option_notices
+from subtitles.recording.notices import find_character_set_notices, find_option_notices
 from subtitles.request.request import Request
 from .bench import Case, Done, example_bytes
 from .parts import survey_packets
@@ -351,7 +351,7 @@ class Warnings(Case):
             ("another magazine's", character_set_packet(29, 8, magazine=1), [])]
         for name, more, lines in cases:
             reported = survey_packets(self, make_pes_packet(0, [HEADER, ROW, CLOSING, more]))
-            found = list(character_set_notices(reported, ASKED))
+            found = list(find_character_set_notices(reported, ASKED))
             self.must(name, [one.line for one in found] == lines, found)
             self.must(f"{name}: kind", {one.kind for one in found} <= {"character_set"}, found)
 
@@ -360,7 +360,7 @@ class Warnings(Case):
             0, [HEADER, character_set_packet(29, 0b100)]))
         for option in OPTIONS:
             request = dataclasses.replace(ASKED, option=option.word)
-            self.must(option.word, bool([*character_set_notices(reported, request)]) == (
+            self.must(option.word, bool([*find_character_set_notices(reported, request)]) == (
                 option != FRENCH))
 
     def test_a_warning_changes_the_verdict_only_with_strict(self) -> None:
@@ -389,7 +389,7 @@ class Languages(unittest.TestCase):
             (["fre", "eng"], "english", ""), (["nld"], "english", ""), (["nld"], "czech", ""),
             (["fre", "und"], "english", ""), ([], "english", "")]
         for languages, option, words in cases:
-            found = [one.line for one in option_notices(languages, dataclasses.replace(
+            found = [one.line for one in find_option_notices(languages, dataclasses.replace(
                 ASKED, option=option))]
             line = f"the PMT announces page 888 in {words}, but it was judged with --option " \
                    f"{option}"
@@ -405,6 +405,6 @@ class Languages(unittest.TestCase):
             language, word = row["ISO 639-2"], row["option"]
             for option in OPTIONS:
                 request = dataclasses.replace(ASKED, option=option.word)
-                found = [*option_notices([language], request)]
+                found = [*find_option_notices([language], request)]
                 with self.subTest(language=language, option=option.word):
                     self.assertEqual(bool(found), word != option.word)

@@ -19,7 +19,8 @@ from subtitles.formats.stl import Subtitle, SubtitleFile
 from subtitles.judging.part import choose_parts, refuse_missing_subtitles
 from subtitles.judging.timing import add_delay, make_unclear_origin
 from subtitles.judging.verdict import measure_delay
-from subtitles.recording.notices import character_set_notices, count_notices, page_notices
+from subtitles.recording.notices import (
+    find_character_set_notices, find_count_notices, find_page_notices)
 from subtitles.request.lines import find_folder_pairs, make_line_request
 from subtitles.request.request import Unclear
 from subtitles.results.files import find_hint
@@ -61,7 +62,7 @@ class Results(Case):
         for words in [list[str](), *options, every]:
             request = request_for("one.stl", "one.pes", *words)
             again = make_line_request(call_arguments(request), default_options())
-            self.must(f"{words}", REQUEST.made(again) == REQUEST.made(request), again)
+            self.must(f"{words}", REQUEST.to_json(again) == REQUEST.to_json(request), again)
 
 
 class Folders(Case):
@@ -177,7 +178,7 @@ class SubtitleFiles(Case):
                 ((2, 2), ("ger", "mul"), []), ((2,), ("GER",), ["language", "option"]),
                 ((2,), ("pol",), ["language", "option"])):
             own = [Announced(PAGE, language, kind) for kind, language in zip(kinds, languages)]
-            found = [warned.kind for warned in page_notices(own, request)]
+            found = [warned.kind for warned in find_page_notices(own, request)]
             self.must(f"{kinds} {languages}", found == wanted, found)
 
     def test_warns_of_another_character_set(self) -> None:
@@ -187,13 +188,13 @@ class SubtitleFiles(Case):
             reported = ["unreadable" if None in (region, option) else
                     f"{option:03b} of region {region:04b}"] * ((region, option) != (0, 0))
             reported += ["001 of region 0000"] * more
-            found = [one.line for one in character_set_notices(packets, request)]
+            found = [one.line for one in find_character_set_notices(packets, request)]
             self.assertEqual(len(found), len(reported), found)
             self.assertTrue(all(map(str.__contains__, found, reported)), found)
 
     def test_warns_of_missing_counts_in_the_gsi_block(self) -> None:
         data = make_gsi_block(b"", 0, 0) + make_tti_block(1, 25, 45, 20, 2, b"a")
-        found = [one.kind for one in count_notices(SubtitleFile(self.write("one.stl", data)))]
+        found = [one.kind for one in find_count_notices(SubtitleFile(self.write("one.stl", data)))]
         self.must("both", found == ["blocks", "subtitles"], found)
 
 
@@ -229,7 +230,7 @@ class EstimatedOrigins(Case):
 
     def test_asks_about_a_delay_as_long_as_to_another_picture(self) -> None:
         for away, is_asked in ((TICKS, True), (TICKS + 5, False), (2 * TICKS, False)):
-            printed = add_delay(Clock(5, START, away=1),
+            printed = add_delay(Clock(5, START, picture_offset=1),
                                 OriginEstimate(0, ticks_late=away, printed=["one"]))[1]
             self.must(f"{away}", bool(printed[1:]) == is_asked, printed)
 

@@ -172,7 +172,7 @@ class SeveralParts(ProgrammeCase):
                 "find_hidden_rows": lambda *_: HiddenRows([hidden], [reported])}
             with mock.patch.multiple(pair, **made), \
                     mock.patch.object(pair, "refuse_other_pid") as elsewhere, \
-                    mock.patch.object(notices, "pause_notices", pauses):
+                    mock.patch.object(notices, "find_pause_notices", pauses):
                 found = self.judge_parts((1000, 3000), {3: 2})
             self.must(f"{own}: elsewhere", elsewhere.call_args.args[2:] == (
                 pts_of(100, ORIGIN), pts_of(2460, ORIGIN + 3000 * TICKS)), elsewhere.call_args)

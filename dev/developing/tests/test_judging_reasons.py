@@ -16,7 +16,7 @@ from subtitles.judging.transmissions import (
     ExpectedPages, PageHeader, REPEAT_WITHOUT_ERASE, count_keeping_headers, describe_control_bits,
     describe_effect, describe_header_faults, describe_missing_erase, describe_omitted_rows,
     find_omitted_rows, find_page_headers)
-from subtitles.recording.recording import pes_header_problem, read_pes_header
+from subtitles.recording.recording import check_pes_header, read_pes_header
 from subtitles.stream.gaps import LossPlace, describe_loss, find_loss_places
 from subtitles.stream.packets import (
     GapMarker, PCRStep, PacketRun, Packets, alternating_subcodes, subcode_of)
@@ -102,12 +102,12 @@ class Reasons(ProgrammeCase):
                 data, "--pid", "0x101").verdict.sentence)
             words = words.replace(" of PID 0x101", "")
             for one in (of_length[0], b"\0\0\1\xbe" + of_length[0][4:]):
-                self.assertEqual(pes_header_problem(one, 0), words, one)
+                self.assertEqual(check_pes_header(one, 0), words, one)
         found = judge_files(self, self.stl, self.write("one.pes", b"".join(of_length)), "--origin",
                             "0")
         self.must("PES packets", words in found.verdict.sentence, found.said)
         for data in (b"", b"refused 60", self.pes[0], self.pes[0][:8]):
-            self.assertEqual(pes_header_problem(data, 0), "", data)
+            self.assertEqual(check_pes_header(data, 0), "", data)
         path = self.write("none", b"\x47\x41\x01\x30\xff".ljust(188, b"\0") * 9)
         self.assertEqual(read_pes_header(self.bench.program, path, TELETEXT_PID, 188), b"refused 6")
 

@@ -27,8 +27,8 @@ from subtitles.judging.timing import (
     PartSearch, cut_packets, find_desync, list_timed_parts, report_estimated_origin)
 from subtitles.judging.transmissions import describe_control_bits
 from subtitles.recording.notices import (
-    Notice, character_set_notices, count_notices, count_text, duration_text, jump_notices,
-    pause_notices, pmt_notices, repeat_notices)
+    Notice, format_presence, format_duration, find_character_set_notices, find_count_notices,
+    find_jump_notices, find_pause_notices, find_pmt_notices, find_repeat_notices)
 from subtitles.recording.recording import is_recording
 from subtitles.request.commands import (
     CommandPaths, ListNames, OutputNames, list_pair_files, make_qc_command, pair_name, part_name,
@@ -65,7 +65,8 @@ class PartClocks(unittest.TestCase):
         request = request_for("a.stl", "a.pes", *"--page 150 --option german --within 3 --breaks 2 "
                           "--every 30 --from 00:00:01:00 --late 0:9,3:1/0:12".split())
         programme = PartSearch(request, TimedPart(3, 9, Clock(7, GIVEN)), (2, 8), frozenset({4}))
-        recording: Any = SimpleNamespace(packets="packets", shown="name", has_picture=lambda: True)
+        recording: Any = SimpleNamespace(packets="packets", display_name="name",
+                                         has_picture=lambda: True)
         with mock.patch.object(timing, "estimate_origin", return_value=OriginEstimate(0)) as sought:
             report_estimated_origin(programme, recording, Clock(5, GIVEN), mock.Mock())
         self.assertEqual(sought.call_args.args, (OriginSearch(
@@ -105,7 +106,7 @@ class Notices(Case):
                 (9, 1), (10, 90_000), (15, -90_000), (20, 8_640_000), (21, 5)))]
             with mock.patch("subtitles.recording.notices.find_clock_jumps", lambda packets: jumps):
                 found = [(one.kind, one.time, one.line.partition(" at ")[0])
-                         for one in jump_notices(Packets(1), origin, 10, 20)]
+                         for one in find_jump_notices(Packets(1), origin, 10, 20)]
             self.assertEqual(found, [
                 ("clock_jump", "00:00:00:10", "the clock jumps by 1.00 s"),
                 ("clock_jump", "00:00:00:15", "the clock jumps back by 1.00 s"),
@@ -113,7 +114,7 @@ class Notices(Case):
         for ticks, words in ((0, "0.00 s"), (45_000, "0.50 s"), (59 * 90_000, "59.00 s"),
                              (60 * 90_000, "0:01:00"), (3599 * 90_000, "0:59:59"),
                              (8641 * 90_000, "2:24:01")):
-            self.assertEqual(duration_text(ticks), words, ticks)
+            self.assertEqual(format_duration(ticks), words, ticks)
 
     def test_warns_of_pages_that_the_pmt_announces(self) -> None:
         own, other = Announced(PAGE, "eng", 2), Announced((1, 0x50), "ger", 5)
@@ -130,7 +131,7 @@ class Notices(Case):
         for pages, words in of_pages:
             listing: Any = SimpleNamespace(programmes_of=lambda pid: [
                 SimpleNamespace(pages={0x101: some, 0x102: [other]}) for some in pages])
-            found = said(pmt_notices(listing, 0x101, request))
+            found = said(find_pmt_notices(listing, 0x101, request))
             self.assertEqual([kind for kind, *_ in found], ["page"] * bool(words), pages)
             self.assertTrue(not found or found[0][1].endswith(words), found)
 
@@ -139,35 +140,35 @@ class Notices(Case):
             packets = survey_packets(self, make_pes_packet(0, [HEADER, *(
                 character_set_packet(number, one) for number, one in zip((29, 28), sets)),
                                                                CLOSING]))
-            found = said(character_set_notices(packets, request_for("one.stl", "one.ts")))
+            found = said(find_character_set_notices(packets, request_for("one.stl", "one.ts")))
             self.assertEqual([one[0] for one in found], ["character_set"] * count, (sets, found))
 
     def test_warns_of_wrong_counts_in_the_gsi_block(self) -> None:
         blocks = [make_subtitle_blocks(at, 25 * at, 25 * at + 20, 20, 2, b"a") for at in (1, 2)]
         for told_blocks, told_subtitles in itertools.product((1, 2, 3), repeat=2):
             data = make_gsi_block(b"", told_blocks, told_subtitles) + b"".join(blocks)
-            found = said(count_notices(SubtitleFile(self.write("one.stl", data))))
+            found = said(find_count_notices(SubtitleFile(self.write("one.stl", data))))
             kinds = ["blocks"] * (told_blocks != 2) + ["subtitles"] * (told_subtitles != 2)
             self.assertEqual([one[0] for one in found], kinds, (told_blocks, told_subtitles))
             for _, line, _ in found:
                 self.assertTrue("there are 2" in line, line)
         data = make_gsi_block(b"", 1, 1)[:238] + b"  x  00000" + make_gsi_block(b"", 1, 1)[248:]
-        self.assertEqual([one[:2] for one in said(count_notices(SubtitleFile(self.write(
+        self.assertEqual([one[:2] for one in said(find_count_notices(SubtitleFile(self.write(
             "one.stl", data + blocks[0]))))], [
                 ("subtitles", "the GSI block counts 0 subtitles (TNS), but there is 1: is the "
                  "subtitle file complete?")])
-        self.assertEqual([count_text(one) for one in (0, 1, 2, 1234)],
+        self.assertEqual([format_presence(one) for one in (0, 1, 2, 1234)],
                          ["there are 0", "there is 1", "there are 2", "there are 1,234"])
         comment = make_tti_block(2, 30, 40, 20, 2, b"", comment=1)
         for count in (1, 2):
             data = make_gsi_block(b"", 2, count) + blocks[0] + comment
-            self.assertEqual(said(count_notices(SubtitleFile(self.write("one.stl", data)))), [],
-                             count)
+            self.assertEqual(said(find_count_notices(SubtitleFile(self.write("one.stl", data)))),
+                             [], count)
 
     def test_warns_of_pauses_in_a_regular_stream(self) -> None:
         def pauses(frames: Sequence[int], origin: int = 0) -> list[tuple[str, str | None]]:
             pts = [(origin + TICKS * frame) % CLOCK for frame in frames]
-            warned = pause_notices(pts, request_for("one.stl", "one.pes"), origin)
+            warned = find_pause_notices(pts, request_for("one.stl", "one.pes"), origin)
             return [(one.line.partition(" from ")[0], one.time) for one in warned
                     if one.kind == "pause"]
 
@@ -186,7 +187,7 @@ class Notices(Case):
         def warned(step: int, every: int) -> list[str]:
             headers = [TICKS * frame for frame in range(0, 600, step)]
             request = request_for("one.stl", "one.pes", "--every", str(every))
-            return [one.line for one in repeat_notices(headers, request, 0, [(0, 599)])]
+            return [one.line for one in find_repeat_notices(headers, request, 0, [(0, 599)])]
 
         for step, every, words in ((25, 51, "25 frames: give --every "
                                             "25 "), (25, 50, ""), (25, 25, ""),

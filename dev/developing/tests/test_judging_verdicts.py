@@ -181,7 +181,7 @@ class Verdicts(Case):
                           verdict.is_lost == any(judged), found)
 
     def test_finds_announced_jumps_of_each_part(self) -> None:
-        recording: Any = SimpleNamespace(places=lambda jumps: [
+        recording: Any = SimpleNamespace(list_losses=lambda jumps: [
             LossPlace(before, after, is_announced=True) for before, after in jumps])
         for own in ((0,), (1,), (2,), (0, 2), (0, 1, 2), ()):
             parts = [make_part(100 * at, 100 * at + 99, 0, recording=recording, jumps=[

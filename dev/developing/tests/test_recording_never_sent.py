@@ -10,7 +10,7 @@ from developing.pes import make_pes_packet, decode_pts
 from subtitles.common.times import CLOCK, TICKS, frame_at
 from subtitles.recording.notices import (
     Announcement, NeverSent, Notice, find_announcements, find_origin, find_unsent, is_page_expected,
-    refuse_other_pid, refuse_unsent, silent_pids, timing_notices)
+    refuse_other_pid, refuse_unsent, find_silent_pids, find_timing_notices)
 from subtitles.recording.recording import Recording
 from subtitles.request.request import Unclear
 from subtitles.stream.gaps import SECOND
@@ -60,9 +60,9 @@ class Announcements(Case):
             packets = Packets(1, samples=[(pts, -SECOND // 10), (pts, 9), (pts, 9)])
             time = None if frame < 0 else f"00:00:{frame // 25:02}:{frame % 25:02}"
             where = f"from {time or f'PTS {pts}'} on"
-            self.must(f"{origin} {frame}", [*timing_notices(packets, origin)] == [Notice(
+            self.must(f"{origin} {frame}", [*find_timing_notices(packets, origin)] == [Notice(
                 "pts_behind", f"{where} PTS of the Teletext are behind the PCR, by up to 0.10 s, "
-                "in 1 of 3 samples", time)], [*timing_notices(packets, origin)])
+                "in 1 of 3 samples", time)], [*find_timing_notices(packets, origin)])
 
     def test_finds_an_announced_page_that_is_not_sent(self) -> None:
         begin, end = 10 * SECOND, 20 * SECOND
@@ -102,7 +102,8 @@ class Announcements(Case):
                 ([*pmt_lines(1, ONE, TWO)], {ONE}, set()),
                 ([*pmt_lines(1, ONE), *pmt_lines(2, ONE)], {ONE}, set())]
         for lines, carriers, wanted in rows:
-            self.must(f"{lines} {carriers}", silent_pids(announcements(*lines), carriers) == wanted)
+            self.must(f"{lines} {carriers}",
+                      find_silent_pids(announcements(*lines), carriers) == wanted)
             for pes in (None, (0, 9)):  # with a range the programme is unambiguous
                 found = self.why_unclear(lines, carriers, pes)
                 pids = [f"--pid 0x{pid:X}" for pid in sorted(carriers | wanted)]

@@ -74,7 +74,7 @@ class ChosenPids(Case):
             recording = read_recording(read_survey("size 188", *lines), *words)
             found: object = None
             try:
-                packets = recording.chosen()
+                packets = recording.find_packets()
                 found = packets.pid
                 self.must(f"{lines}: all", packets.count == 1)
             except NeverSent:
@@ -83,7 +83,7 @@ class ChosenPids(Case):
                 found = [*reason.commands]
             self.must(f"{lines} {words}", found == wanted, found)
         for count in (0, 1):
-            packets = read_recording(read_survey("size 0", *[pes_line(PES)] * count)).chosen()
+            packets = read_recording(read_survey("size 0", *[pes_line(PES)] * count)).find_packets()
             self.must(f"{count}", (packets.pid, packets.count) == (PES, count))
 
     def test_distinguishes_files_pipes_and_streams(self) -> None:
@@ -100,7 +100,7 @@ class ChosenPids(Case):
             one = read_recording(read_survey(f"size {packet_size}"), name=name, kind=kind)
             one.packets = Packets(ONE)
             self.must(f"{name} {kind} {packet_size}", (
-                one.is_piped, one.path, one.stream(), (one.shown, one.kept_ending)) == (
+                one.is_piped, one.path, one.stream(), (one.display_name, one.kept_ending)) == (
                     is_piped, "one.recording" if is_piped else name,
                     (ONE, packet_size) if packet_size else None, wanted), vars(one))
         jumped = read_recording(Survey())

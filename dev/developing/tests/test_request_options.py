@@ -136,7 +136,7 @@ class OptionRows(Case):
         parser = ToolParser("")
         add_options(parser)
         plain_words = parser.parse_args([])
-        without = REQUEST.made(request_for("one.stl", "one.pes"))
+        without = REQUEST.to_json(request_for("one.stl", "one.pes"))
         for name, value, member in ROWS:
             words = [name, value] if value else [name]
             words += ["--within", "5"] if name == "--late" else []
@@ -146,7 +146,7 @@ class OptionRows(Case):
                                                                  "one.pes"]))
             once_more = make_file_request("one.stl", "one.pes", parser.parse_args(words))
             self.must(f"{name}: again", once_more == request)
-            known = REQUEST.made(request)
+            known = REQUEST.to_json(request)
             key = name.replace("--no-", "--").strip("-").replace("-", "_")
             self.must(f"{name}: result", known == {
                 **without, **({"within": 5} if name == "--late" else {}), key: member}, known)

@@ -85,7 +85,7 @@ class WrittenResults(Case):
         self.must("read", second_validator() is None or second_validator().schema == read_schema())
 
     def test_a_new_row_of_the_table_is_used_everywhere(self) -> None:
-        row = ROWS_OF_FAULT.members[0]._replace(name="new", shape=Integer(3, 3), of=lambda _: 3)
+        row = ROWS_OF_FAULT.members[0]._replace(name="new", shape=Integer(3, 3), getter=lambda _: 3)
         with mock.patch.multiple(ROWS_OF_FAULT, members=(*ROWS_OF_FAULT.members, row),
                                  shapes={**ROWS_OF_FAULT.shapes, "new": row.shape},
                                  needed={*ROWS_OF_FAULT.needed, "new"}):

@@ -119,7 +119,7 @@ class FirstPictures(unittest.TestCase):
                                     for one in (pcr, pts, last))
             known: Any = SimpleNamespace(packets=Packets(5, last_pts=begun), survey=SimpleNamespace(
                 clock_of=lambda _: None if clock is None else (0, clock)))
-            self.assertEqual(Recording.last(known), wanted, (origin, pts, pcr))
+            self.assertEqual(Recording.find_last_time(known), wanted, (origin, pts, pcr))
 
     def test_computes_ticks_after_a_frame(self) -> None:
         for origin, (times, exact, near) in itertools.product(ORIGINS, (
@@ -252,7 +252,8 @@ class ReceivedFrames(unittest.TestCase):
             self.assertEqual(getattr(both, name), getattr(alone, name), name)
         decoded = self.timeline("200:he 310:he 200:he 400:he", begin=300)
         self.assertEqual((decoded.halt, decoded.last), (2, 310))
-        self.assertEqual([self.timeline(twice, came=came).first for came in (NO_FRAME, 0, 7)],
+        self.assertEqual([self.timeline(twice, first_packet_frame=came).first
+                          for came in (NO_FRAME, 0, 7)],
                          [10, 0, 7])
         decoded = self.timeline(twice, lost=[Span(5, 6)])
         self.assertEqual([decoded.lost.has(*one) for one in ((6, 9), (7, 9))], [True, False])
@@ -309,7 +310,7 @@ class ClearOrigins(unittest.TestCase):
     def part(self, best: OriginFit, *others: OriginFit, early: EarlyCues | None = None,
              apart: object = None) -> Any:
         return SimpleNamespace(best=best, others=others, early=early,
-                               sent=SimpleNamespace(find_cue_offset=lambda _: apart))
+                               time_base=SimpleNamespace(find_cue_offset=lambda _: apart))
 
     def test_compares_origins_by_cues_and_characters(self) -> None:
         five, four, apart = self.fit(5, 5, 2), self.fit(4, 4, 2), CueOffset(True, 3, 5, 5)

@@ -2,7 +2,7 @@
 from __future__ import annotations
 
 
-from subtitles.recording.recording import unreadable_packets
+from subtitles.recording.recording import find_unreadable_packets
 from subtitles.stream.gaps import explain_refusal
 from subtitles.stream.packets import PacketRun, Packets
 from subtitles.stream.survey import Survey, language_names
@@ -32,7 +32,7 @@ class ExtractMessages(Case):
             one.runs += [PacketRun(0, count, 0, 0, "", "")] * bool(count)
             known.by_pid[pid] = one
             self.must(f"{pid:#x}", explain_refusal(one) == words, explain_refusal(one))
-        silent = [one.pid for one in unreadable_packets(known)]
+        silent = [one.pid for one in find_unreadable_packets(known)]
         self.must("silent", silent == [1, 2, 5, 6, 9], silent)
 
     def test_names_the_languages_of_ebu_tech_3264(self) -> None:

@@ -214,8 +214,8 @@ class PaceOptions(Case):
             self.must(word, request.check_arguments() == ["--complete", *given] and request.pace ==
                       pace
                       and make_request(self.options(*call_arguments(request))) == request)
-            self.must(f"{word}: result", REQUEST.made(request)["pace"] == str(pace or "none"))
-        self.must("left out", REQUEST.made(request_for("one.stl", "one.ts"))["pace"] is None)
+            self.must(f"{word}: result", REQUEST.to_json(request)["pace"] == str(pace or "none"))
+        self.must("left out", REQUEST.to_json(request_for("one.stl", "one.ts"))["pace"] is None)
         for word in ("0", "", "-1", "x", "None", "2160001", "9" * 5000, "1.5", "\u0661"):
             with self.assertRaises(Stop, msg=word):
                 request_for("one.stl", "one.ts", "--pace", word)
@@ -236,9 +236,9 @@ class PaceOptions(Case):
         request = [request_for(self.path("one.stl"), self.path("one.ts"), *words)
                  for words in ((), ("--pace", "none"), ("--pace", "16"))]
         for one in request:
-            words = REQUEST.made(one)
+            words = REQUEST.to_json(one)
             known = {"request": words, "files_at_start": describe_inputs(one),
-                     "program": PROGRAM.made(program)}
+                     "program": PROGRAM.to_json(program)}
             self.must(f"{one.pace}", [is_current(known, other, program) for other in request] ==
                       [other == one for other in request])
             del words["pace"]

@@ -795,7 +795,7 @@ class SurveyAnswers(Case):
              [ProgramMap(2, 9, {5: 6, 9: 27}, {5: [
                  Announced((0, 0x88), "eng", 2), Announced((1, 0x50), "\xe9ng", 5),
                  Announced((0, 0xFF), "eng", 1)]}), ProgramMap(1, 8, {9: 2})]),
-            ("sub 5 888; subs 5 888 9; subs 5 150 7", lambda it: on_5(it).sent,
+            ("sub 5 888; subs 5 888 9; subs 5 150 7", lambda it: on_5(it).header_counts,
              {"888": 9, "150": 7}),
             *(("programme 1 9; stream 5 6; announce 5 888 656e67 2; announce 5 888 656e67 2; " +
                "; ".join(f"sub 5 2{page}" for page in range(9 + count, 9, -1)),

@@ -361,7 +361,7 @@ class ClockTables(unittest.TestCase):
                                  (wanted, has_end, is_over, read))
                 first, last = wanted or (0, -1)
                 ends = [one for one in frames[first:last + 1] if low <= one <= high]
-                self.assertEqual((found.came, found.first, found.last), (
+                self.assertEqual((found.first_packet_frame, found.first, found.last), (
                     came[0] if came else None, taken[0] if taken else None,
                     ends[-1] if ends else None))
                 words = f"{read} PES packet{'s' * (read != 1)}"
@@ -376,7 +376,7 @@ class ClockTables(unittest.TestCase):
             self.assertEqual(found.range, (int(is_continued), 2), "the text was due before")
         made = Packets(257, [PacketRun(at, 1, TICKS * (100 + at), 0, "he", "") for at in range(9)])
         found = find_range(made, 100, 200, 0, 25, inside=(3, 5))
-        self.assertEqual((found.range, found.came, found.read), ((3, 5), 103, 7))
+        self.assertEqual((found.range, found.first_packet_frame, found.read), ((3, 5), 103, 7))
         # Ranges at the start and end of the day.
         for frames, begin, end, wanted in (([0, 5], 0, 9, (0, 1)), ([-50, -20, 0, 1], -50, -20,
                                                                     (0, 1))):
@@ -384,8 +384,8 @@ class ClockTables(unittest.TestCase):
             made = Packets(257, [PacketRun(at, 1, TICKS * (first + one - begin), 0, "h-h-"[at], "")
                                  for at, one in enumerate(frames)])
             found = find_range(made, first, last, 0, 25)
-            self.assertEqual((found.range, found.came, found.has_end), (wanted, first, False),
-                             (frames, begin, end))
+            self.assertEqual((found.range, found.first_packet_frame, found.has_end),
+                             (wanted, first, False), (frames, begin, end))
 
     def test_judges_a_gap_marker_just_after_the_last_frame(self) -> None:
         for frames, wanted in (

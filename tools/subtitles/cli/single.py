@@ -464,7 +464,8 @@ class OutputFiles:
                  for part in self.verdict.parts]
         ending = recording and recording.packets.count and recording.kept_ending
         if self.call.is_kept and recording and ending:
-            lists.append(Output(self.names.final_path(ending), recording.kept, True, is_raw=True))
+            lists.append(Output(self.names.final_path(ending), recording.read_kept_data, True,
+                                is_raw=True))
         return lists
 
     def make_testcase(self) -> Iterator[bytes]:

@@ -74,11 +74,11 @@ class OriginFit(NamedTuple):
 
 
 class CueOffset(NamedTuple):
-    """A delay of in-cues against out-cues, or of out-cues against in-cues: `late` frames, which
+    """A delay of in-cues against out-cues, or of out-cues against in-cues: `delay` frames, which
     `matches` of `total` cues have."""
 
     is_begin: bool
-    late: int
+    delay: int
     matches: int
     total: int
 
@@ -87,7 +87,7 @@ class MatchedChange(NamedTuple):
     """A page change that matches a cue: its delay in frames, its characters, and its distance from
     a whole frame in ticks."""
 
-    late: int
+    delay: int
     letters: bytes
     ticks: int
 
@@ -113,7 +113,7 @@ class TimeBase:
                  last: int, packets: Range, within: int) -> None:
         self.cues, self.within, self.packets = cues, within, packets
         self.frames = [cue.frame for cue in cues]
-        self.first, self.sent = first, (first, last)
+        self.first, self.pts_range = first, (first, last)
         if within:
             offsets = [(wrap_pts(change.pts - first) + TICKS // 2) % TICKS - TICKS // 2
                        for change in changes]
@@ -155,10 +155,10 @@ class TimeBase:
         """Return the change that matches a cue if the first PTS is at frame `start`, or `None`."""
         if not self.within:
             return self.changes.get(cue.frame - start)
-        for late in range(self.within + 1):
-            change = self.changes.get(cue.frame - start + late)
+        for delay in range(self.within + 1):
+            change = self.changes.get(cue.frame - start + delay)
             if change and change.letters == cue.letters:
-                return change._replace(late=late)
+                return change._replace(delay=delay)
         return None
 
     @functools.cached_property
@@ -176,7 +176,7 @@ class TimeBase:
         if self.within:
             exact_votes = dict(votes)
             votes = collections.Counter({
-                start: sum(exact_votes.get(start - late, 0) for late in range(self.within + 1))
+                start: sum(exact_votes.get(start - delay, 0) for delay in range(self.within + 1))
                 for start in exact_votes})
         best = heapq.nlargest(TRIED + 4 * self.within, votes,
                               key=lambda start: (votes[start], -start))
@@ -221,7 +221,7 @@ class TimeBase:
         inside = self.cues[bisect.bisect_left(self.frames, start):
                            bisect.bisect_right(self.frames, start + self.length)]
         pairs = [(cue, change) for cue in inside if (change := self.find_match(cue, start))]
-        late = [change.late for _, change in pairs] if self.within else []
+        delays = [change.delay for _, change in pairs] if self.within else []
         equal = [cue for cue, change in pairs if change.letters == cue.letters]
         ticks = sorted([change.ticks for _, change in pairs])
         rest = ticks[len(ticks) // 2] if ticks and not self.within else 0
@@ -231,7 +231,7 @@ class TimeBase:
                          sum(cue.letters != b"" for cue in equal),
                          len(ticks) if self.within else ticks.count(rest), len(inside),
                          next((cue.frame for cue in equal if cue.letters), None),
-                         next(unmatched, None) if len(pairs) < len(inside) else None, start, late)
+                         next(unmatched, None) if len(pairs) < len(inside) else None, start, delays)
 
     def find_cue_offset(self, fit: OriginFit) -> CueOffset | None:
         """Return a constant delay between in-cues and out-cues, or `None`."""
@@ -239,27 +239,27 @@ class TimeBase:
             before_offset = self.count_delayed(fit, is_begin, 0)
             if before_offset.total and before_offset.matches * 2 >= before_offset.total:
                 continue
-            best = max((self.count_delayed(fit, is_begin, late)
-                        for late in range(-MAX_CUE_OFFSET, MAX_CUE_OFFSET + 1)),
-                       key=lambda cue_offset: (cue_offset.matches, -abs(cue_offset.late)))
+            best = max((self.count_delayed(fit, is_begin, delay)
+                        for delay in range(-MAX_CUE_OFFSET, MAX_CUE_OFFSET + 1)),
+                       key=lambda cue_offset: (cue_offset.matches, -abs(cue_offset.delay)))
             least = 1 if is_begin or fit.text_matches else 2  # any page may be erased
-            if abs(best.late) > self.within and best.matches >= least and \
+            if abs(best.delay) > self.within and best.matches >= least and \
                     best.matches * 10 >= best.total * 9:
                 return best
         return None
 
-    def count_delayed(self, fit: OriginFit, is_begin: bool, late: int) -> CueOffset:
-        """Count the in-cues or the out-cues with a delay of `late` frames."""
-        own = [(at, cue.letters) for cue in self.cues if cue.is_begin == is_begin
-               and 0 <= (at := cue.frame - fit.start + late) <= self.length]
+    def count_delayed(self, fit: OriginFit, is_begin: bool, delay: int) -> CueOffset:
+        """Count the in-cues or the out-cues with a delay of `delay` frames."""
+        expected_texts = [(at, cue.letters) for cue in self.cues if cue.is_begin == is_begin
+                          and 0 <= (at := cue.frame - fit.start + delay) <= self.length]
         matches = sum(at in self.changes and self.changes[at].letters == letters
-                      for at, letters in own)
-        return CueOffset(is_begin, late, matches, len(own))
+                      for at, letters in expected_texts)
+        return CueOffset(is_begin, delay, matches, len(expected_texts))
 
     def align_in_cues(self, fit: OriginFit) -> OriginFit:
         """Return the origin of the in-cues if the out-cues have another one, or else `fit`."""
         cue_offset = self.find_cue_offset(fit)
-        return self.fit(fit.start - cue_offset.late) if cue_offset and cue_offset.is_begin else fit
+        return self.fit(fit.start - cue_offset.delay) if cue_offset and cue_offset.is_begin else fit
 
 
 def skip_repeats(changes: Sequence[PageChange], most: int) -> Iterator[PageChange]:
@@ -279,9 +279,10 @@ def find_repeat(changes: Sequence[PageChange], at: int, most: int) -> int | None
     text, after = changes[at], changes[at + 1:at + 26]
     if not text.letters or not after or after[0].letters:
         return None
-    near = itertools.takewhile(
+    following = itertools.takewhile(
         lambda change: wrap_pts(change.pts - after[0].pts) <= TICKS * most, after)
-    return next((at + away for away, change in enumerate(near, 1) if change.rows == text.rows),
+    return next((at + distance for distance, change in enumerate(following, 1) if change.rows ==
+                 text.rows),
                 None)
 
 
@@ -343,15 +344,15 @@ class EarlyCues(NamedTuple):
 
 
 def choose_clock(base: TimeBase, fit: OriginFit,
-                 late: Lateness | None) -> tuple[OriginFit, EarlyCues | None]:
+                 lateness: Lateness | None) -> tuple[OriginFit, EarlyCues | None]:
     """Return the intended clock near an estimated one, and the cues before it.
 
     Use the configured shares of delays, or else the usual delay.
     """
     if not base.within or not fit.matches:
         return fit, None
-    if late:
-        return find_likeliest_clock(base, fit, late), None
+    if lateness:
+        return find_likeliest_clock(base, fit, lateness), None
     begins, ends = count_delays(base, fit)
     first = find_usual_delay(begins, ends)
     if not first:
@@ -369,7 +370,7 @@ def count_delays(base: TimeBase, fit: OriginFit) -> tuple[collections.Counter[in
         collections.Counter(), collections.Counter())
     for cue in base.cues:
         if change := base.find_match(cue, fit.start):
-            kinds[not cue.is_begin][change.late] += 1
+            kinds[not cue.is_begin][change.delay] += 1
     return kinds
 
 
@@ -383,14 +384,14 @@ def find_usual_delay(begins: Mapping[int, int], ends: Mapping[int, int]) -> int:
                 if many * COMMON >= most and many >= min(most, FEW_CUES)), default=0)
 
 
-def find_likeliest_clock(base: TimeBase, fit: OriginFit, late: Lateness) -> OriginFit:
+def find_likeliest_clock(base: TimeBase, fit: OriginFit, lateness: Lateness) -> OriginFit:
     """Return the clock near an estimated one by which the delays are likeliest."""
     near = range(-base.within, 2 * base.within + 1)
     patterns = collections.Counter(
         (cue.is_begin, tuple(by for by in near if base.has_text_at(cue, fit.start - by)))
         for cue in base.cues)
     kinds = [{delay: max(share / sum(kind.values()), UNSEEN_SHARE)
-              for delay, share in kind.items()} for kind in late]
+              for delay, share in kind.items()} for kind in lateness]
 
     def likelihood(by: int) -> float:
         """Return the log-likelihood of the clock `by` frames later."""
@@ -428,15 +429,15 @@ def find_drift(cues: Sequence[ExpectedCue], changes: Mapping[int, MatchedChange]
     if len(frames) < FEW_TEXTS or 2 * len(frames) < len(due):
         return None
     at = {frame: sent[letters] - frame for letters, frame in due.items() if letters in sent}
-    near = select_near_line([(frame, at[frame]) for frame in frames])
-    if (len(frames) - len(near)) * MAX_OFF > len(frames):
+    points = select_near_line([(frame, at[frame]) for frame in frames])
+    if (len(frames) - len(points)) * MAX_OFF > len(frames):
         return None
-    times, delays = [frame for frame, _ in near], [delay for _, delay in near]
+    times, delays = [frame for frame, _ in points], [delay for _, delay in points]
     middle, usual = statistics.fmean(times), statistics.fmean(delays)
-    slope = sum((frame - middle) * delay for frame, delay in near) / sum(
+    slope = sum((frame - middle) * delay for frame, delay in points) / sum(
         (frame - middle) ** 2 for frame in times)
     drift = slope * (times[-1] - times[0])
-    left = sum((delay - usual - slope * (frame - middle)) ** 2 for frame, delay in near)
+    left = sum((delay - usual - slope * (frame - middle)) ** 2 for frame, delay in points)
     if abs(drift) < LEAST_DRIFT or left * MAX_LEFT > sum((delay - usual) ** 2 for delay in delays):
         return None
     return Drift(times[0], times[-1], round(drift))

@@ -42,7 +42,7 @@ class OriginSearch(NamedTuple):
     inside: Range | None = None
     between: Between = ALL_DAY
     left_out: Collection[int] = ()
-    late: Lateness | None = None  # the shares of delays, if configured
+    lateness: Lateness | None = None  # the shares of delays, if configured
     has_picture: bool = False  # whether `--start` can be used
 
 
@@ -119,9 +119,10 @@ def estimate_origin(search: OriginSearch, packets: Packets) -> OriginEstimate:
     row = find_stretches(bases)
     if search.breaks:
         store_parts(origin, search, bases, fit_parts(subtitles, bases, split_at_breaks(row),
-                                                     search.late))
+                                                     search.lateness))
     else:
-        store_first_part(origin, search, bases, row, fit_parts(subtitles, bases, row, search.late))
+        store_first_part(origin, search, bases, row, fit_parts(subtitles, bases, row,
+                                                               search.lateness))
     if origin.status:
         origin.lines[:0] = explain_mismatch(packets, search.page)
     return origin
@@ -146,10 +147,10 @@ def report_sent_pages(packets: Packets, search: OriginSearch, lines: list[str]) 
         lines.append(f"{count - timed - marks} of {counted(count, 'PES packet')} have no PTS and "
                      "are skipped here: check refuses them as 34")
     if not packets.changes:
-        own = page_name(*search.page)
-        others = sorted((page for page in packets.sent if page != own),
-                        key=lambda page: -packets.sent[page])
-        lines.append(f"{search.name} has no header of page {own}; other subtitle pages: "
+        requested_page = page_name(*search.page)
+        others = sorted((page for page in packets.header_counts if page != requested_page),
+                        key=lambda page: -packets.header_counts[page])
+        lines.append(f"{search.name} has no header of page {requested_page}; other subtitle pages: "
                      f"{', '.join(others[:NAMED]) or 'none'}")
     return bool(packets.changes)
 
@@ -164,9 +165,9 @@ def store_first_part(origin: OriginEstimate, search: OriginSearch, bases: Sequen
     if is_clear(part, search.origin is not None):
         origin.status = 0
         is_back = len(bases) > 1 and len(parts) == 1
-        add_part(origin, part, part.sent.packets if is_back else None, None, len(cues))
+        add_part(origin, part, part.time_base.packets if is_back else None, None, len(cues))
         origin.matches_every_cue = part.best.matches == part.best.content_matches == len(cues)
-    origin.lines += part_lines(part, len(cues), search.has_picture)
+    origin.lines += format_part(part, len(cues), search.has_picture)
     compare_with_known(origin, search.origin, part)
     if len(parts) > 1:
         origin.first_shift = cues[row[1].first].frame
@@ -175,7 +176,8 @@ def store_first_part(origin: OriginEstimate, search: OriginSearch, bases: Sequen
     if drift := find_drift(cues, bases[part.base].changes):
         origin.shift_texts = [drift_line(drift)]
     origin.lines += origin.shift_texts
-    first, last = (time_in(pts, part.origin) or "outside of the day" for pts in part.sent.sent)
+    first, last = (time_in(pts, part.origin) or "outside of the day"
+                   for pts in part.time_base.pts_range)
     origin.lines.append(f"subtitles expected from {time_of(cues[0].frame)} to "
                         f"{time_of(cues[-1].frame)}, page received from {first} to {last}")
 
@@ -183,14 +185,16 @@ def store_first_part(origin: OriginEstimate, search: OriginSearch, bases: Sequen
 def prefer_known_origin(part: EstimatedPart, known: int | None) -> EstimatedPart:
     """Return a part with the known origin if by the estimated one only the first page matches. If a
     recording begins within a subtitle, its first header looks like a late in-cue."""
-    sent = part.sent.copy_between(part.sent.cues, 0, part.sent.length + 1)  # without its first page
+    sent = part.time_base.copy_between(part.time_base.cues, 0, part.time_base.length +
+                                       1)  # without its first page
     if known is None or sent.compare(part.best.start).matches:
         return part
     start = round(ticks_after(known, sent.first) / TICKS)
     fit = sent.compare(start)
     if not fit.matches:
         return part
-    return part._replace(best=fit, others=select_other_origins(part.sent, start), sent=sent)
+    return part._replace(best=fit, others=select_other_origins(part.time_base, start),
+                         time_base=sent)
 
 
 def store_parts(origin: OriginEstimate, search: OriginSearch, bases: Sequence[TimeBase],
@@ -200,18 +204,18 @@ def store_parts(origin: OriginEstimate, search: OriginSearch, bases: Sequence[Ti
         origin.breaks = max(len(parts) - 1, 0)
         breaks = counted(origin.breaks, "break") if origin.breaks else "no break"
         origin.lines += [f"{breaks} found, but --breaks is {search.breaks}",
-                         *break_lines(parts)]
+                         *format_breaks(parts)]
         return
-    count = sum(len(part.sent.cues) for part in parts)
+    count = sum(len(part.time_base.cues) for part in parts)
     if all(is_clear(part, part is parts[0] and search.origin is not None) for part in parts):
         origin.status = 0
         for part in parts:
-            add_part(origin, part, part.sent.packets if len(bases) > 1 else None,
+            add_part(origin, part, part.time_base.packets if len(bases) > 1 else None,
                      (part.begin, part.end), count)
     origin.lines += [f"{len(parts)} parts: {sum(part.best.matches for part in parts)} of "
-                     f"{counted(count, 'cue')} match", *break_lines(parts)]
+                     f"{counted(count, 'cue')} match", *format_breaks(parts)]
     for part in parts:
-        origin.lines += part_lines(part, count, search.has_picture)
+        origin.lines += format_part(part, count, search.has_picture)
         if part is parts[0]:
             compare_with_known(origin, search.origin, part)
         origin.lines += [f"the subtitle from {time_of(shown.begin)} to {time_of(shown.end)} "
@@ -226,14 +230,14 @@ def add_part(origin: OriginEstimate, part: EstimatedPart, packets: Range | None,
     pes = f"--pes {packets[0]}-{packets[1]} " if packets else ""
     best = part.best
     origin.parts.append(PartOrigin(part.origin, packets, frames, best.matches, best.total,
-                                   match_line(part, count)))
+                                   format_match(part, count)))
     origin.printed.append(f"{between}{pes}--origin {part.origin}")
 
 
 def compare_with_known(origin: OriginEstimate, known: int | None, part: EstimatedPart) -> None:
     """Store whether all cues of the first part match, and its distance from the known origin or
     from 0."""
-    best, cue_offset = part.best, part.sent.find_cue_offset(part.best)
+    best, cue_offset = part.best, part.time_base.find_cue_offset(part.best)
     origin.has_all_cues = best.matches == best.total or bool(
         cue_offset and cue_offset.matches == cue_offset.total)
     ticks_late = ticks_between(known or 0, part.origin)
@@ -267,7 +271,7 @@ def offset_text(ticks: int) -> str:
 def find_equal_origins(part: EstimatedPart) -> list[OriginFit]:
     """Return the origins that are as good as the best one of a part. Ignore the origin of its
     out-cues if they have a constant delay, and origins by which only erasures match."""
-    best, cue_offset = part.best, part.sent.find_cue_offset(part.best)
+    best, cue_offset = part.best, part.time_base.find_cue_offset(part.best)
     ways = (True,) if best.matches >= LEAST_ROW else (True, False)
     return [fit for fit in part.others if any(fit.score(one) >= best.score(one) for one in ways)
             and not (cue_offset and (abs(fit.start - best.start) <= MAX_CUE_OFFSET
@@ -279,12 +283,12 @@ def is_clear(part: EstimatedPart, is_known: bool = False) -> bool:
     be early."""
     is_open = part.early is not None and part.early.is_common_delay and not is_known
     return not find_equal_origins(part) and not is_open and (
-        part.best.matches * 2 >= part.best.total or bool(part.sent.find_cue_offset(part.best)))
+        part.best.matches * 2 >= part.best.total or bool(part.time_base.find_cue_offset(part.best)))
 
 
-def match_line(part: EstimatedPart, count: int) -> str:
+def format_match(part: EstimatedPart, count: int) -> str:
     """Return the line on how many cues of a part match; `count` is the number in the file."""
-    best, others, cues = part.best, part.others, len(part.sent.cues)
+    best, others, cues = part.best, part.others, len(part.time_base.cues)
     following = f"--origin {others[0].origin} with {others[0].matches}" if others else "none"
     return (f"{best.matches} of {counted(best.total, 'cue')} "
             f"{'matches' if best.matches == 1 else 'match'}, {best.content_matches} with the "
@@ -292,15 +296,15 @@ def match_line(part: EstimatedPart, count: int) -> str:
             f"next best: {following}")
 
 
-def part_lines(part: EstimatedPart, count: int, has_picture: bool = False) -> Iterator[str]:
+def format_part(part: EstimatedPart, count: int, has_picture: bool = False) -> Iterator[str]:
     """Yield the lines on the origin of a part; `count` is the number of cues in the file."""
     best = part.best
-    yield match_line(part, count)
-    if part.sent.within:
-        late = sorted(best.delays)
-        yield "no cue is late" if not late[-1] else f"cues are " \
-            f"{format_frame_range(late[0], late[-1])} late (median {late[len(late) // 2]})"
-    equal, cue_offset = find_equal_origins(part), part.sent.find_cue_offset(best)
+    yield format_match(part, count)
+    if part.time_base.within:
+        delays = sorted(best.delays)
+        yield "no cue is late" if not delays[-1] else f"cues are " \
+            f"{format_frame_range(delays[0], delays[-1])} late (median {delays[len(delays) // 2]})"
+    equal, cue_offset = find_equal_origins(part), part.time_base.find_cue_offset(best)
     if equal:
         names = ", ".join(f"--origin {fit.origin}" for fit in equal[:NAMED])
         yield (f"it is ambiguous: as good as --origin {best.origin} are {names}"
@@ -313,8 +317,8 @@ def part_lines(part: EstimatedPart, count: int, has_picture: bool = False) -> It
         kinds = ("in-cues", "out-cues")[::1 if cue_offset.is_begin else -1]
         count_text = "all" if cue_offset.matches == cue_offset.total else \
             f"{cue_offset.matches} of {cue_offset.total}"
-        yield f"{count_text} {kinds[0]} are {offset_text(TICKS * cue_offset.late)} compared with " \
-            f"the {kinds[1]}"
+        yield f"{count_text} {kinds[0]} are {offset_text(TICKS * cue_offset.delay)} compared " \
+            f"with the {kinds[1]}"
     if best.exact_matches < best.matches:
         yield (f"{best.matches - best.exact_matches} of them match only to the nearest frame: PTS "
                "that are not whole frames apart are refused as 61")
@@ -345,10 +349,10 @@ def shift_lines(row: Sequence[Stretch], parts: Sequence[EstimatedPart], known: i
     """Return a line for each change of the delay by a known origin."""
     lines = []
     for stretch, before, part in zip(row[1:], parts, parts[1:]):
-        late = ticks_between(known, part.origin)
-        frames = round(abs(late) / TICKS)
+        distance = ticks_between(known, part.origin)
+        frames = round(abs(distance) / TICKS)
         words = f"{frames / FRAMES_A_SECOND:.2f} s ({counted(frames, 'frame')}) " \
-            f"{'late' if late > 0 else 'early'}" if abs(late) >= TICKS else "on time"
+            f"{'late' if distance > 0 else 'early'}" if abs(distance) >= TICKS else "on time"
         back = ", where PTS go back," if part.base != before.base else ""
         lines.append(f"from {time_of(stretch.track.cues[stretch.first].frame)} on{back} subtitles "
                      f"are {words}")
@@ -358,13 +362,13 @@ def shift_lines(row: Sequence[Stretch], parts: Sequence[EstimatedPart], known: i
     return lines
 
 
-def break_lines(parts: Sequence[EstimatedPart]) -> Iterator[str]:
+def format_breaks(parts: Sequence[EstimatedPart]) -> Iterator[str]:
     """Yield a line for each later part: its begin, and the length of the break before it."""
-    for number, (before, part) in enumerate(zip(parts, parts[1:]), 2):
-        frames, rest = divmod(abs(away := ticks_between(before.origin, part.origin)), TICKS)
+    for number, (previous, part) in enumerate(zip(parts, parts[1:]), 2):
+        frames, rest = divmod(abs(gap_ticks := ticks_between(previous.origin, part.origin)), TICKS)
         length = time_of(frames) + (f" and {counted(rest, 'tick')}" if rest else "")
-        where = "where PTS go back" if part.base != before.base else \
-            f"after a break of {length}" if away > 0 else f"where the recording lacks {length}"
+        where = "where PTS go back" if part.base != previous.base else \
+            f"after a break of {length}" if gap_ticks > 0 else f"where the recording lacks {length}"
         yield f"part {number} begins at {time_of(part.begin)}, {where}"
 
 

@@ -32,17 +32,17 @@ class Clock(NamedTuple):
     TCP of the GSI block. `delay_frames` is the delay of the cues by that clock, or `None` if it was
     estimated, since it then includes the delay. `is_delay_of_all`: every cue of the file has that
     delay. `evidence` says how the clock was estimated. If the time code belongs to another picture,
-    the clock is later by `away` frames.
+    the clock is later by `picture_offset` frames.
     """
 
     origin: int
     source: str
     delay_frames: int | None = None
     evidence: Selection | None = None
-    away: int = 0
+    picture_offset: int = 0
     is_delay_of_all: bool = False
 
-    def chosen(self, part: int | None) -> Selection | None:
+    def get_selection(self, part: int | None) -> Selection | None:
         """Return the estimated clock as a choice for a part, or `None` if it was given."""
         evidence = self.evidence or Selection(ORIGIN_CHOICE, str(self.origin), ESTIMATED_NOTE)
         return evidence._replace(part=part) if self.is_estimated else None
@@ -59,10 +59,10 @@ class Clock(NamedTuple):
     def question(self) -> str:
         """Ask whether the time code belongs to another picture if the delay is the distance to that
         picture; return an empty text otherwise."""
-        if not self.away or self.delay_frames != self.away:
+        if not self.picture_offset or self.delay_frames != self.picture_offset:
             return ""
         return "is the time code from the GOP header? That belongs to the first picture in " \
-            "display order, even if it can't be decoded" if self.away < 0 else \
+            "display order, even if it can't be decoded" if self.picture_offset < 0 else \
             "is the time code that of the picture with the random_access_indicator? Others are " \
             "shown before it"
 
@@ -113,15 +113,15 @@ class FirstPicture(NamedTuple):
     other: int | None = None
 
     @property
-    def away(self) -> int:
+    def picture_offset(self) -> int:
         """Return the number of frames from the first picture to the other picture."""
         return 0 if self.other is None else round(ticks_between(self.pts, self.other) / TICKS)
 
     def line(self) -> str:
-        frames = counted(abs(self.away), "frame")
+        frames = counted(abs(self.picture_offset), "frame")
         more = "" if self.other is None else \
             f"; the one with the random_access_indicator has PTS {self.other}, {frames} later" \
-            if self.away > 0 else \
+            if self.picture_offset > 0 else \
             f"; pictures of its group before it, from PTS {self.other} on ({frames}), can't be " \
             "decoded"
         return (f"the first picture has PTS {self.pts}, {NAMES[self.kind]} of "
@@ -224,8 +224,8 @@ def find_frame_offset(packets: Packets, pts: int, within: int) -> int:
     for _, (sent, _) in zip(range(MAX_SAMPLES), ((sent, 0) for sent in packets.pts())):
         ticks[ticks_after(pts, sent) % TICKS] += 1
     known = [rest for rest, _ in ticks.most_common()]
-    near = [rest for rest in known if rest <= EARLY_TICKS or rest >= TICKS - EARLY_TICKS]
-    return (near if within and near else known)[0]
+    near_rests = [rest for rest in known if rest <= EARLY_TICKS or rest >= TICKS - EARLY_TICKS]
+    return (near_rests if within and near_rests else known)[0]
 
 
 def read_start_frame(request: Request) -> int:
@@ -257,7 +257,7 @@ def compute_start_clock(request: Request, survey: Survey, packets: Packets) -> S
     said = "which matches the PTS of the Teletext" if not ticks else \
         f"moved by {counted(abs(ticks), 'tick')} {'forward' if ticks > 0 else 'back'} to the PTS " \
         "of the Teletext"
-    return StartClock(Clock(moved, source, away=first.away),
+    return StartClock(Clock(moved, source, picture_offset=first.picture_offset),
                       [first.line(), f"{name} there means --origin {moved}, {said}"], frame)
 
 

@@ -34,8 +34,8 @@ class Track:
         matched = [base.find_match(cue, start) for cue in base.cues]
         self.points = [0 if not one else 1 if one.letters != cue.letters else
                        TEXT_POINTS if cue.letters else 2 for cue, one in zip(base.cues, matched)]
-        self.late = sum(one.late for one in matched if one)
-        self.places = [cue.frame - start + (one.late if one else 0)
+        self.total_delay = sum(one.delay for one in matched if one)
+        self.places = [cue.frame - start + (one.delay if one else 0)
                        for cue, one in zip(base.cues, matched)]
 
     @functools.cached_property
@@ -48,12 +48,12 @@ class Track:
     def rank(self) -> tuple[int, int, int]:
         """Return the sort key, best first: by points, delay, and first text."""
         first = self.points.index(TEXT_POINTS) if TEXT_POINTS in self.points else len(self.cues)
-        return -sum(self.points), self.late, first
+        return -sum(self.points), self.total_delay, first
 
-    def may_follow(self, before: Track, frames: int) -> bool:
+    def may_follow(self, previous: Track, frames: int) -> bool:
         """Return whether a cue that is expected `frames` later is also sent later."""
-        return self.base > before.base or \
-            self.base == before.base and frames > self.start - before.start
+        return self.base > previous.base or \
+            self.base == previous.base and frames > self.start - previous.start
 
 
 class Stretch(NamedTuple):
@@ -107,8 +107,9 @@ class TrackSequence(NamedTuple):
 
     def switch_track(self, cue: int, track: Track) -> TrackSequence:
         """Return the sequence that continues with another track from a cue on."""
-        before = self.turns[-1][1]
-        distance = abs(track.start - before.start) + FRAMES_OF_A_DAY * (track.base - before.base)
+        previous = self.turns[-1][1]
+        distance = abs(track.start - previous.start) + \
+            FRAMES_OF_A_DAY * (track.base - previous.base)
         return TrackSequence(self.points - NEW_TRACK, self.nearness - distance,
                              (*self.turns, (cue, track)))
 
@@ -130,8 +131,8 @@ def find_best_stretches(cues: Sequence[ExpectedCue], tracks: Sequence[Track]) ->
             sequences = [best[track]] if track in best else []
             if track.row_lengths[at] >= LEAST_ROW:
                 sequences = sequences or [TrackSequence(sum(track.points[:at]), 0, ((0, track),))]
-                sequences += [sequence.switch_track(at, track) for before, sequence in leaders
-                              if before is not track and track.may_follow(before, gap)]
+                sequences += [sequence.switch_track(at, track) for previous, sequence in leaders
+                              if previous is not track and track.may_follow(previous, gap)]
             if sequences:
                 sequence = max(sequences, key=lambda sequence: sequence.rank)
                 extended[track] = sequence._replace(points=sequence.points + track.points[at])
@@ -140,20 +141,20 @@ def find_best_stretches(cues: Sequence[ExpectedCue], tracks: Sequence[Track]) ->
     row = [Stretch(track, cue, end) for (cue, track), end in zip(
         turns, [*(cue for cue, _ in turns[1:]), len(cues)])]
     for number in range(1, len(row)):
-        before, own = row[number - 1:number + 1]
-        border = find_border(cues, before, own)
-        row[number - 1:number + 1] = before._replace(end=border), own._replace(first=border)
+        previous, own = row[number - 1:number + 1]
+        border = find_border(cues, previous, own)
+        row[number - 1:number + 1] = previous._replace(end=border), own._replace(first=border)
     return row
 
 
-def find_border(cues: Sequence[ExpectedCue], before: Stretch, own: Stretch) -> int:
+def find_border(cues: Sequence[ExpectedCue], previous: Stretch, following: Stretch) -> int:
     """Return the number of the first cue of the second of two stretches. A cue that matches in
     neither belongs to the first."""
-    best, most, gained = own.first, 0, 0
-    for border in range(own.first - 1, before.first + LEAST_ROW - 1, -1):
-        gained += own.track.points[border] - before.track.points[border]
-        if gained > most and own.track.may_follow(
-                before.track, cues[border].frame - cues[border - 1].frame):
+    best, most, gained = following.first, 0, 0
+    for border in range(following.first - 1, previous.first + LEAST_ROW - 1, -1):
+        gained += following.track.points[border] - previous.track.points[border]
+        if gained > most and following.track.may_follow(
+                previous.track, cues[border].frame - cues[border - 1].frame):
             best, most = border, gained
     return best
 
@@ -169,7 +170,7 @@ class EstimatedPart(NamedTuple):
     end: int
     best: OriginFit
     others: list[OriginFit]
-    sent: TimeBase
+    time_base: TimeBase
     base: int
     overlapping: list[ExpectedSubtitle]
     early: EarlyCues | None = None
@@ -181,18 +182,18 @@ class EstimatedPart(NamedTuple):
 
 def fit_parts(subtitles: Sequence[ExpectedSubtitle], bases: Sequence[TimeBase],
               row: Sequence[Stretch],
-              late: Lateness | None = None) -> list[EstimatedPart]:
+              lateness: Lateness | None = None) -> list[EstimatedPart]:
     """Return the parts of a sequence of stretches. Without stretches, return one part with all
-    subtitles, or none if no cue matches. `late` are the shares of delays, if configured."""
+    subtitles, or none if no cue matches. `lateness` are the shares of delays, if configured."""
     if len(row) > 1:
-        return [fit_part(subtitles, bases, row, number, late) for number in range(len(row))]
+        return [fit_part(subtitles, bases, row, number, lateness) for number in range(len(row))]
     number = row[0].track.base if row else max(
         range(len(bases)), key=lambda one: bases[one].fits[0].matches if bases[one].fits else 0)
     own = bases[number]
     if not own.fits:
         return []
     estimate = own.fit(row[0].track.start) if row else own.align_in_cues(own.fits[0])
-    best, early = choose_clock(own, estimate, late)
+    best, early = choose_clock(own, estimate, lateness)
     return [EstimatedPart(min(shown.begin for shown in subtitles),
                           max(shown.end for shown in subtitles), best,
                        select_other_origins(own, estimate.start, best.start), own, number, [],
@@ -207,7 +208,7 @@ def select_other_origins(base: TimeBase, *starts: int) -> list[OriginFit]:
 
 def fit_part(subtitles: Sequence[ExpectedSubtitle], bases: Sequence[TimeBase],
              row: Sequence[Stretch],
-             number: int, late: Lateness | None) -> EstimatedPart:
+             number: int, lateness: Lateness | None) -> EstimatedPart:
     """Return one of several parts, from the page changes between those of its neighbours."""
     track, first, end = row[number]
     whole = bases[track.base]
@@ -222,7 +223,7 @@ def fit_part(subtitles: Sequence[ExpectedSubtitle], bases: Sequence[TimeBase],
     overlapping = [shown for shown in subtitles if begin <= shown.begin < stop < shown.end]
     # The last subtitle is erased even if the first one of the next part adjoins it.
     own = whole.copy_between(find_expected_cues(inside) or whole.cues[first:end], low, high)
-    best, early = choose_clock(own, own.fit(track.start), late)
+    best, early = choose_clock(own, own.fit(track.start), lateness)
     return EstimatedPart(min((shown.begin for shown in inside), default=begin),
                          max((shown.end for shown in inside), default=stop), best,
                          select_other_origins(own, track.start, best.start), own, track.base,
@@ -237,11 +238,11 @@ def split_at_breaks(row: Sequence[Stretch]) -> list[Stretch]:
     that are early for a while, stay in their part.
     """
     parts = list(row[:1])
-    for before, stretch in zip(row, row[1:]):
+    for previous, stretch in zip(row, row[1:]):
         track = stretch.track
-        away = track.start - parts[-1].track.start
-        is_break = max(away, track.start - before.track.start) <= -LEAST_BREAK
-        if track.base != parts[-1].track.base or is_break or away >= LEAST_GAP:
+        gap_frames = track.start - parts[-1].track.start
+        is_break = max(gap_frames, track.start - previous.track.start) <= -LEAST_BREAK
+        if track.base != parts[-1].track.base or is_break or gap_frames >= LEAST_GAP:
             parts.append(stretch)
         else:
             parts[-1] = parts[-1]._replace(end=stretch.end)

@@ -21,11 +21,11 @@ class Shape:
 
     name, meaning = "", ""
 
-    def made(self, value: Any) -> Any:
+    def to_json(self, value: Any) -> Any:
         """Return a value as it is written."""
         return value
 
-    def misfit(self, value: object) -> str | None:
+    def find_misfit(self, value: object) -> str | None:
         """Return where a value does not fit; `None` if it fits."""
         raise NotImplementedError
 
@@ -33,11 +33,11 @@ class Shape:
         """Return the kind in a schema."""
         raise NotImplementedError
 
-    def inner(self) -> Iterator[Shape]:
+    def inner_shapes(self) -> Iterator[Shape]:
         """Yield the kinds that it contains."""
         return iter(())
 
-    def reference(self) -> Schema:
+    def make_reference(self) -> Schema:
         """Return the kind as another one refers to it."""
         return {"$ref": f"#/definitions/{self.name}"} if self.name else self.schema()
 
@@ -48,11 +48,11 @@ class Text(Shape):
     def __init__(self, pattern: str = "", most: int = MAX_TEXT, least: int = 0) -> None:
         self.pattern, self.most, self.least = pattern and re.compile(pattern), most, least
 
-    def made(self, value: Any) -> Any:
+    def to_json(self, value: Any) -> Any:
         is_cut = not self.pattern and isinstance(value, str) and len(value) > self.most
         return value[:self.most - 3] + "..." if is_cut else value
 
-    def misfit(self, value: object) -> str | None:
+    def find_misfit(self, value: object) -> str | None:
         fits = isinstance(value, str) and self.least <= len(value) <= self.most and (
             not self.pattern or self.pattern.fullmatch(value))
         return None if fits else ""
@@ -69,7 +69,7 @@ class Integer(Shape):
     def __init__(self, least: int, most: int) -> None:
         self.least, self.most = least, most
 
-    def misfit(self, value: object) -> str | None:
+    def find_misfit(self, value: object) -> str | None:
         return None if type(value) is int and self.least <= value <= self.most else ""
 
     def schema(self) -> Schema:
@@ -82,7 +82,7 @@ class Number(Shape):
     def __init__(self, most: int) -> None:
         self.most = most
 
-    def misfit(self, value: object) -> str | None:
+    def find_misfit(self, value: object) -> str | None:
         if isinstance(value, bool) or not isinstance(value, (int, float)):
             return ""
         return None if 0 <= value <= self.most else ""  # neither NaN nor infinite
@@ -97,7 +97,7 @@ class OneOf(Shape):
     def __init__(self, *values: str | int | None) -> None:
         self.values = values
 
-    def misfit(self, value: object) -> str | None:
+    def find_misfit(self, value: object) -> str | None:
         return None if any(type(value) is type(one) and value == one for one in self.values) else ""
 
     def schema(self) -> Schema:
@@ -107,7 +107,7 @@ class OneOf(Shape):
 class Flag(Shape):
     """True or false."""
 
-    def misfit(self, value: object) -> str | None:
+    def find_misfit(self, value: object) -> str | None:
         return None if isinstance(value, bool) else ""
 
     def schema(self) -> Schema:
@@ -120,16 +120,16 @@ class Maybe(Shape):
     def __init__(self, shape: Shape) -> None:
         self.shape = shape
 
-    def made(self, value: Any) -> Any:
-        return None if value is None else self.shape.made(value)
+    def to_json(self, value: Any) -> Any:
+        return None if value is None else self.shape.to_json(value)
 
-    def misfit(self, value: object) -> str | None:
-        return None if value is None else self.shape.misfit(value)
+    def find_misfit(self, value: object) -> str | None:
+        return None if value is None else self.shape.find_misfit(value)
 
     def schema(self) -> Schema:
-        return {"anyOf": [self.shape.reference(), {"type": "null"}]}
+        return {"anyOf": [self.shape.make_reference(), {"type": "null"}]}
 
-    def inner(self) -> Iterator[Shape]:
+    def inner_shapes(self) -> Iterator[Shape]:
         yield self.shape
 
 
@@ -139,23 +139,24 @@ class Listed(Shape):
     def __init__(self, shape: Shape, most: int, least: int = 0) -> None:
         self.shape, self.most, self.least = shape, most, least
 
-    def made(self, value: Any) -> Any:
-        return [self.shape.made(one) for one in itertools.islice(value, self.most)]
+    def to_json(self, value: Any) -> Any:
+        return [self.shape.to_json(one) for one in itertools.islice(value, self.most)]
 
-    def misfit(self, value: object) -> str | None:
+    def find_misfit(self, value: object) -> str | None:
         if not isinstance(value, list) or not self.least <= len(value) <= self.most:
             return ""
         for at, item in enumerate(value):
-            place = self.shape.misfit(item)
+            place = self.shape.find_misfit(item)
             if place is not None:
                 return f"[{at}]{place}"
         return None
 
     def schema(self) -> Schema:
         least = {"minItems": self.least} if self.least else {}
-        return {"type": "array", "items": self.shape.reference(), **least, "maxItems": self.most}
+        return {"type": "array", "items": self.shape.make_reference(), **least,
+                "maxItems": self.most}
 
-    def inner(self) -> Iterator[Shape]:
+    def inner_shapes(self) -> Iterator[Shape]:
         yield self.shape
 
 
@@ -166,20 +167,20 @@ class Member(NamedTuple):
     name: str
     shape: Shape
     meaning: str = ""
-    of: Callable[[Any], Any] | None = None
-    is_always: bool = True  # whether every object has it
+    getter: Callable[[Any], Any] | None = None
+    is_required: bool = True  # whether every object has it
 
-    def made(self, value: Any) -> Any:
+    def to_json(self, value: Any) -> Any:
         """Return the member of a value as it is written."""
-        if self.of is not None:
-            member = self.of(value)
+        if self.getter is not None:
+            member = self.getter(value)
         else:
             member = value[self.name] if isinstance(value, dict) else getattr(value, self.name)
-        return self.shape.made(member)
+        return self.shape.to_json(member)
 
     def schema(self) -> Schema:
         """Return the member in a schema, which allows nothing next to a reference."""
-        known = self.shape.reference()
+        known = self.shape.make_reference()
         if not self.meaning:
             return known
         return {"description": self.meaning, **({"allOf": [known]} if "$ref" in known else known)}
@@ -192,34 +193,35 @@ class Record(Shape):
                  rules: Sequence[Rules] = ()) -> None:
         self.name, self.meaning, self.members, self.rules = name, meaning, members, rules
         self.shapes = {one.name: one.shape for one in members}
-        self.needed = {one.name for one in members if one.is_always}
+        self.needed = {one.name for one in members if one.is_required}
 
-    def made(self, value: Any) -> Any:
-        return {one.name: one.made(value) for one in self.members
-                if one.is_always or one.name in value}
+    def to_json(self, value: Any) -> Any:
+        return {one.name: one.to_json(value) for one in self.members
+                if one.is_required or one.name in value}
 
-    def misfit(self, value: object) -> str | None:
+    def find_misfit(self, value: object) -> str | None:
         if not isinstance(value, dict):
             return ""
         strange = (value.keys() - self.shapes.keys()) | (self.needed - value.keys())
         if strange:
             return f".{min(strange)}"
         for name, member in value.items():
-            place = self.shapes[name].misfit(member)
+            place = self.shapes[name].find_misfit(member)
             if place is not None:
                 return f".{name}{place}"
-        return next((place for rule in self.rules if (place := rule.misfit(value)) is not None),
+        return next((place for rule in self.rules if (place := rule.find_misfit(value)) is
+                     not None),
                     None)
 
     def schema(self) -> Schema:
         rules = {"allOf": [rule.schema() for rule in self.rules]} if self.rules else {}
         meaning = {"description": self.meaning} if self.meaning else {}
         return {**meaning, "type": "object",
-                "required": [one.name for one in self.members if one.is_always],
+                "required": [one.name for one in self.members if one.is_required],
                 "additionalProperties": False,
                 "properties": {one.name: one.schema() for one in self.members}, **rules}
 
-    def inner(self) -> Iterator[Shape]:
+    def inner_shapes(self) -> Iterator[Shape]:
         return iter(self.shapes.values())
 
 
@@ -228,9 +230,9 @@ class Rules(NamedTuple):
 
     rows: Sequence[dict[str, Shape | Rules]]
 
-    def misfit(self, value: Any) -> str | None:
+    def find_misfit(self, value: Any) -> str | None:
         """Return the first member of the first alternative, if none fits."""
-        is_one = any(all(shape.misfit(value[name]) is None for name, shape in row.items())
+        is_one = any(all(shape.find_misfit(value[name]) is None for name, shape in row.items())
                      for row in self.rows)
         return None if is_one else f".{next(iter(self.rows[0]))}"
 
@@ -257,7 +259,7 @@ def make_definitions(shapes: Sequence[Shape]) -> Schema:
         if shape.name:
             meaning = {"description": shape.meaning} if shape.meaning else {}
             known[shape.name] = {**meaning, **shape.schema()}
-        waiting += shape.inner()
+        waiting += shape.inner_shapes()
     return known
 
 

@@ -93,15 +93,16 @@ def list_check_options(part: Part) -> list[str]:
     """Return the options for running `check` on a part."""
     recording, alignment = part.judged_recording
     first, last = part.pes or (0, 0)
-    return [*recording.words(), "--pes", f"{first}-{last}", *part.request.check_arguments(),
+    return [*recording.program_options(), "--pes", f"{first}-{last}",
+            *part.request.check_arguments(),
             *(["--origin", str(alignment.origin)] if alignment.origin else [])]
 
 
 def check_part(part: Part, command_paths: CommandPaths, listener: Listener) -> None:
     """Run `check` on the PES packets of a part, and read its list of faults."""
     recording, words = part.judged_recording[0], [*list_check_options(part), "--all"]
-    listener.add_command(command_paths.program_command, "check", part.request.stl, recording.shown,
-                         *words)
+    listener.add_command(command_paths.program_command, "check", part.request.stl,
+                         recording.display_name, *words)
     run_check([command_paths.program_path, "check", *words, "--", part.names.program_stl,
                recording.path],
               part.check_output, listener.printer.print_list_line)
@@ -208,7 +209,7 @@ class PairJudge:
         if has_valid_subtitles(answer.fault_numbers):
             answer = self.find_valid_subtitles(answer)
         file = SubtitleFile(self.names.program_stl)
-        verdict.warnings += notices.count_notices(file)
+        verdict.warnings += notices.find_count_notices(file)
         if request.from_time is None and (title := advise_on_title(file)):
             self.listener.add_notes(title)
         return answer
@@ -361,7 +362,7 @@ class PairJudge:
         self.add_recording_warnings(recording, clocks.alignments[0].origin, programme.full_range)
         parts = self.parts_in(recording, clocks.alignments, programme, subtitles)
         for part in parts:
-            if selection := part.judged_recording[1].clock.chosen(part.number):
+            if selection := part.judged_recording[1].clock.get_selection(part.number):
                 self.listener.add_selection(selection, is_printed=False)
         for part in parts:
             self.judge_part(part, programme, subtitles)
@@ -390,7 +391,8 @@ class PairJudge:
         own = [subtitle for subtitle in subtitles if request.between.has(subtitle.begin)]
         due = functools.lru_cache(maxsize=None)(lambda: self.make_expected_pages(request, own))
         part = dataclasses.replace(part, expected_pages=due).add_packets(
-            find_part_packets(programme, part, listener), sum_file(recording.path, recording.shown)
+            find_part_packets(programme, part, listener),
+            sum_file(recording.path, recording.display_name)
             if self.is_result_written and recording.is_piped else None)
         self.current_part = part
         part = measure_part_pace(part, [(subtitle.begin, subtitle.end) for subtitle in own],
@@ -453,15 +455,15 @@ class PairJudge:
         warnings, packets, survey = list[Notice](), recording.packets, recording.survey
         warnings += recording.find_notices()
         if recording.is_stream:
-            warnings += [*notices.timing_notices(packets, origin),
-                         *notices.jump_notices(packets, origin, part.begin, part.end),
-                         *notices.pmt_notices(survey, packets.pid, self.request)]
-        self.verdict.warn([*warnings, *notices.character_set_notices(packets, self.request)])
+            warnings += [*notices.find_timing_notices(packets, origin),
+                         *notices.find_jump_notices(packets, origin, part.begin, part.end),
+                         *notices.find_pmt_notices(survey, packets.pid, self.request)]
+        self.verdict.warn([*warnings, *notices.find_character_set_notices(packets, self.request)])
 
     def add_part_warnings(self, part: Part, subtitles: list[Subtitle]) -> None:
         """Add warnings about pauses in a part, and about long intervals between page headers."""
         origin = part.judged_recording[1].origin
         times = [(subtitle.begin, subtitle.end) for subtitle in subtitles]
         self.verdict.warn([
-            *notices.pause_notices(part.list_pts(), self.request, origin),
-            *notices.repeat_notices(part.list_pts(HEADER), self.request, origin, times)])
+            *notices.find_pause_notices(part.list_pts(), self.request, origin),
+            *notices.find_repeat_notices(part.list_pts(HEADER), self.request, origin, times)])

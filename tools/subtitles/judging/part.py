@@ -166,7 +166,7 @@ class Part:
 
     def find_loss_places(self) -> list[LossPlace]:
         """Return the places in the recording of the part where packets are missing."""
-        return self.recording.places(self.jumps) if self.recording else []
+        return self.recording.list_losses(self.jumps) if self.recording else []
 
     @functools.cached_property
     def unmarked_losses(self) -> list[Span]:

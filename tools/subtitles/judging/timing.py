@@ -96,7 +96,7 @@ def find_start_clock(search: PartSearch, recording: Recording, listener: Listene
     for line in begin.lines:
         listener.print_line(line)
     if begin.clock.source == TCP:
-        refuse_outside(request, begin, whole.begin, whole.end, recording.last())
+        refuse_outside(request, begin, whole.begin, whole.end, recording.find_last_time())
     return begin.clock
 
 
@@ -107,7 +107,8 @@ def report_estimated_origin(search: PartSearch, recording: Recording, clock: Clo
     """Estimate the origin of a recording, compare it with a clock that was given, and report
     both."""
     request = search.request
-    origin_search = OriginSearch(request.stl_path, recording.shown, request.page, request.option,
+    origin_search = OriginSearch(request.stl_path, recording.display_name, request.page,
+                                 request.option,
                                  clock and clock.origin, request.within, request.breaks,
                                  search.allowed_packets,
                                  request.between, search.skipped_positions, request.late,
@@ -222,7 +223,7 @@ def find_part_packets(search: PartSearch, part: Part, listener: Listener) -> Ran
                                          cut.read,
                                   part.number))
     if damage and not cut.is_over:
-        listener.print_line(f"range: {recording.shown}: {damage}; it was read up to there")
+        listener.print_line(f"range: {recording.display_name}: {damage}; it was read up to there")
     if cut.range is None:
         raise Unclear("the recording has nothing of the page at the time of the subtitles",
                       recording.suggest_call("--origin", "T"),

@@ -425,7 +425,7 @@ class Verdict:
 
 def find_gaps(recording: Recording, parts: Sequence[Part]) -> list[Gap]:
     """Return the gaps in a recording, including gaps hidden by announced jumps of the counter."""
-    return make_gaps(recording.places([jump for part in parts for jump in part.jumps]), parts)
+    return make_gaps(recording.list_losses([jump for part in parts for jump in part.jumps]), parts)
 
 
 def make_gaps(places: Sequence[LossPlace], parts: Sequence[Part]) -> list[Gap]:

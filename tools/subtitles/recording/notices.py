@@ -43,7 +43,7 @@ class Notice(NamedTuple):
         return f"warning: {self.line}"
 
 
-def timing_notices(packets: Packets, origin: int) -> Iterator[Notice]:
+def find_timing_notices(packets: Packets, origin: int) -> Iterator[Notice]:
     """Yield warnings about PTS that do not agree with the PCR."""
     for strange in find_pts_anomalies(packets):
         time = time_in(strange.pts, origin)
@@ -54,18 +54,18 @@ def timing_notices(packets: Packets, origin: int) -> Iterator[Notice]:
                      f"{strange.total} samples", time)
 
 
-def jump_notices(packets: Packets, origin: int, first: int, last: int) -> Iterator[Notice]:
+def find_jump_notices(packets: Packets, origin: int, first: int, last: int) -> Iterator[Notice]:
     """Yield warnings about jumps of the clock without a missing packet, between two frames."""
     for jump in find_clock_jumps(packets):
         frame = FRAMES_OF_A_DAY if jump.before is None else frame_in(jump.before, origin)
         if first <= frame <= last:
             way = "by" if jump.ticks > 0 else "back by"
-            yield Notice("clock_jump", f"the clock jumps {way} {duration_text(abs(jump.ticks))} at "
-                         f"{time_of(frame)}, but no packet is missing: was an encoder restarted?",
-                         time_of(frame))
+            yield Notice("clock_jump", f"the clock jumps {way} {format_duration(abs(jump.ticks))} "
+                         f"at {time_of(frame)}, but no packet is missing: was an encoder "
+                         "restarted?", time_of(frame))
 
 
-def duration_text(ticks: int) -> str:
+def format_duration(ticks: int) -> str:
     """Return ticks as hours, minutes and seconds, as `2:24:01`, or as seconds below a minute."""
     seconds = round(ticks / SECOND)
     if seconds < 60:
@@ -73,41 +73,41 @@ def duration_text(ticks: int) -> str:
     return f"{seconds // 3600}:{seconds // 60 % 60:02}:{seconds % 60:02}"
 
 
-def pmt_notices(survey: Survey, pid: int, request: Request) -> Iterator[Notice]:
+def find_pmt_notices(survey: Survey, pid: int, request: Request) -> Iterator[Notice]:
     """Yield warnings about a PMT that does not announce the requested page."""
     programmes = survey.programmes_of(pid)
     if not programmes:
         return
     announced = [page for program_map in programmes for page in program_map.pages.get(pid, [])]
-    own = [one for one in announced if one.page == request.page]
+    page_announcements = [one for one in announced if one.page == request.page]
     name = request.page_name
     if not announced:
         yield Notice("page", f"the PMT announces no page on {format_pid(pid)}, so receivers do not "
                      f"find page {name}")
-    elif not own:
-        yield Notice("page", f"the PMT announces {page_list(announced)}, but not page {name}")
+    elif not page_announcements:
+        yield Notice("page", f"the PMT announces {format_pages(announced)}, but not page {name}")
     else:
-        yield from page_notices(own, request)
+        yield from find_page_notices(page_announcements, request)
 
 
-def page_notices(own: list[Announced], request: Request) -> Iterator[Notice]:
+def find_page_notices(page_announcements: list[Announced], request: Request) -> Iterator[Notice]:
     """Yield warnings about the type, language and option that a PMT announces for the page."""
     name = request.page_name
-    if not any(announced.kind in SUBTITLE_KINDS for announced in own):
+    if not any(announced.kind in SUBTITLE_KINDS for announced in page_announcements):
         kinds = " and ".join(dict.fromkeys(KINDS.get(announced.kind, "of an unknown kind")
-                                           for announced in own))
+                                           for announced in page_announcements))
         yield Notice("type", f"the PMT announces page {name} as {kinds}, not as subtitles")
-    code = language_code(request.stl_path)
+    code = read_language_code(request.stl_path)
     wanted = {*language_names(code)}
-    languages = dict.fromkeys(announced.language.lower() for announced in own)
+    languages = dict.fromkeys(announced.language.lower() for announced in page_announcements)
     if wanted and not (wanted | ANY) & languages.keys():
         yield Notice("language", f"the PMT announces page {name} in "
                      f"{' and '.join(map(escape_hidden, languages))}, but the language of the "
                      f"subtitle file is {' or '.join(language_names(code))} (LC {code})")
-    yield from option_notices([*languages], request)
+    yield from find_option_notices([*languages], request)
 
 
-def option_notices(languages: list[str], request: Request) -> Iterator[Notice]:
+def find_option_notices(languages: list[str], request: Request) -> Iterator[Notice]:
     """Yield a warning if no language that a PMT announces for the page can use the national option:
     receivers may choose characters by that language."""
     options = [option_for_track(one) for one in languages]
@@ -122,7 +122,7 @@ def option_notices(languages: list[str], request: Request) -> Iterator[Notice]:
                  f"with --option {request.option}")
 
 
-def character_set_notices(packets: Packets, request: Request) -> Iterator[Notice]:
+def find_character_set_notices(packets: Packets, request: Request) -> Iterator[Notice]:
     """Yield warnings about packets that name another character set than that of the national
     option."""
     for number, designation, region, option in packets.character_sets:
@@ -136,17 +136,17 @@ def character_set_notices(packets: Packets, request: Request) -> Iterator[Notice
                      f"names {named}: receivers above level 1 may show other characters")
 
 
-def page_list(announced: list[Announced]) -> str:
+def format_pages(announced: list[Announced]) -> str:
     """Return announced pages as text."""
     return ", ".join(dict.fromkeys(one.line() for one in announced))
 
 
-def language_code(stl: str) -> str:
+def read_language_code(stl: str) -> str:
     """Return the LC of a subtitle file."""
     return read_first_bytes(stl, LC.stop)[LC].decode("latin-1")
 
 
-def count_notices(subtitles: SubtitleFile) -> Iterator[Notice]:
+def find_count_notices(subtitles: SubtitleFile) -> Iterator[Notice]:
     """Yield warnings if the GSI block counts other blocks or subtitles than the file has, as after
     a cut at the end of a block. Comments may be counted; a count that is not a number is ignored.
     """
@@ -154,11 +154,11 @@ def count_notices(subtitles: SubtitleFile) -> Iterator[Notice]:
     there = subtitles.count()
     if expected is not None and expected != there:
         yield Notice("blocks", f"the GSI block counts {counted(expected, 'TTI block')} (TNB), but "
-                     f"{count_text(there)}: is the subtitle file complete?")
+                     f"{format_presence(there)}: is the subtitle file complete?")
     expected, known = read_count(subtitles.data[TNS]), subtitles.count_ended()
     if expected is not None and expected not in known:
         yield Notice("subtitles", f"the GSI block counts {counted(expected, 'subtitle')} (TNS), "
-                     f"but {count_text(known[0])}: is the subtitle file complete?")
+                     f"but {format_presence(known[0])}: is the subtitle file complete?")
 
 
 def read_count(digits: bytes) -> int | None:
@@ -166,12 +166,12 @@ def read_count(digits: bytes) -> int | None:
     return int(digits) if digits.isdigit() else None
 
 
-def count_text(count: int) -> str:
+def format_presence(count: int) -> str:
     """Return `there are N`."""
     return "there is 1" if count == 1 else f"there are {count:,}"
 
 
-def pause_notices(pts: Sequence[int], request: Request, origin: int) -> Iterator[Notice]:
+def find_pause_notices(pts: Sequence[int], request: Request, origin: int) -> Iterator[Notice]:
     """Yield warnings about frames without a PES packet, if nearly all other frames have one."""
     frames = array.array("i", (frame for frame in frames_at(pts, origin, request.within)
                                if frame != NO_FRAME))
@@ -183,8 +183,8 @@ def pause_notices(pts: Sequence[int], request: Request, origin: int) -> Iterator
                          f"{time_of(first)} on", time_of(first))
 
 
-def repeat_notices(headers: Sequence[int], request: Request, origin: int,
-                   times: list[tuple[int, int]]) -> Iterator[Notice]:
+def find_repeat_notices(headers: Sequence[int], request: Request, origin: int,
+                        times: list[tuple[int, int]]) -> Iterator[Notice]:
     """Yield a warning if the page is repeated so often that `--every` would not notice a missing
     repeat."""
     every = repeat_distance((frame_in(pts, origin, request.within) for pts in headers),
@@ -223,7 +223,7 @@ class Announcement(NamedTuple):
             self.end is None or ticks_between(begin, self.end) > NEAR)
 
 
-def announcing_pids(program_map: ProgramMap, page: Page) -> set[int]:
+def find_announcing_pids(program_map: ProgramMap, page: Page) -> set[int]:
     """Return the PIDs on which a PMT announces a page."""
     return {pid for pid, pages in program_map.pages.items()
             if any(known.page == page for known in pages)}
@@ -234,7 +234,7 @@ def find_announcements(records: Sequence[ProgramMap], page: Page) -> Iterator[An
     ends: dict[int, int | None] = {}  # the PCR before the next PMT of a programme, by its number
     several: list[Announcement] = []
     for record in reversed(records):
-        if pids := announcing_pids(record, page):
+        if pids := find_announcing_pids(record, page):
             several.append(Announcement(record.number, frozenset(pids), record.after,
                                         ends.get(record.number)))
         ends[record.number] = record.after
@@ -245,19 +245,21 @@ def find_unsent(announced: Sequence[Announcement], carriers: Collection[int], be
               end: int) -> Announcement | None:
     """Return the first announcement between two PTS whose page is sent on other PIDs only: of the
     programme that carries it, or of any programme if none announces those PIDs."""
-    own = {announcement.number for announcement in announced if announcement.pids & {*carriers}}
+    carrying_programmes = {announcement.number for announcement in announced if announcement.pids &
+                           {*carriers}}
     return next((announcement for announcement in announced
                  if carriers and not announcement.pids & {*carriers}
                  and announcement.is_in(begin, end)
-                 and (not own or announcement.number in own)), None)
+                 and (not carrying_programmes or announcement.number in carrying_programmes)), None)
 
 
-def silent_pids(announced: Sequence[Announcement], carriers: Collection[int]) -> set[int]:
+def find_silent_pids(announced: Sequence[Announcement], carriers: Collection[int]) -> set[int]:
     """Return the PIDs on which only programmes without the page announce it."""
-    own = {announcement.number for announcement in announced if announcement.pids & {*carriers}}
-    others = {pid for announcement in announced if announcement.number not in own
+    carrying_programmes = {announcement.number for announcement in announced if announcement.pids &
+                           {*carriers}}
+    others = {pid for announcement in announced if announcement.number not in carrying_programmes
               for pid in announcement.pids}
-    return (others - {*carriers}) if own else set()
+    return (others - {*carriers}) if carrying_programmes else set()
 
 
 def is_page_expected(clock: tuple[int, int] | None, times: Sequence[tuple[int, int]],
@@ -280,8 +282,8 @@ def has_unreadable(survey: Survey, pids: Collection[int]) -> bool:
     return any(not one.count and one.packets and explain_refusal(one) for one in packets)
 
 
-def never_sent_text(survey: Survey, page: Page, pids: Collection[int],
-                carriers: Collection[int] = ()) -> str:
+def explain_never_sent(survey: Survey, page: Page, pids: Collection[int],
+                       carriers: Collection[int] = ()) -> str:
     """Return where the page is announced, and which PIDs have it."""
     names = " and ".join(map(format_pid, sorted(pids)))
     words = f"page {page_name(*page)} is announced on {names}, but never sent"
@@ -303,7 +305,7 @@ def refuse_unsent(request: Request, survey: Survey, times: Sequence[tuple[int, i
     if named and not has_unreadable(survey, named) and any(
             is_page_expected(survey.clock_of(pid), times, find_origin(request, survey, pid))
             for pid in named):
-        raise NeverSent(never_sent_text(survey, request.page, named))
+        raise NeverSent(explain_never_sent(survey, request.page, named))
 
 
 def find_origin(request: Request, survey: Survey, pid: int) -> int | None:
@@ -320,7 +322,7 @@ def refuse_dead_source(request: Request, survey: Survey, packets: Packets,
     subtitle is expected in the recording. `times` are those of the subtitles with text. Without a
     clock no row may come in the whole recording. A page of which no header comes may be the wrong
     one; and if some PES packets can't be read, nobody knows."""
-    origin, clock = find_origin(request, survey, packets.pid), time_of_recording(survey, packets)
+    origin, clock = find_origin(request, survey, packets.pid), find_recorded_time(survey, packets)
     if not packets.has_page or not is_all_read(packets) or \
             not is_page_expected(clock, times, origin):
         return
@@ -349,7 +351,7 @@ def is_all_read(packets: Packets) -> bool:
         all(run.pts is not None and not run.fault for run in packets.runs)
 
 
-def time_of_recording(survey: Survey, packets: Packets) -> tuple[int, int] | None:
+def find_recorded_time(survey: Survey, packets: Packets) -> tuple[int, int] | None:
     """Return the first and the last PCR, or without these the first and the last PTS."""
     clock = survey.clock_of(packets.pid) if packets.pid != PES else None
     if clock or not packets.runs or len(packets.time_bases()) > 1:
@@ -365,4 +367,4 @@ def refuse_other_pid(request: Request, survey: Survey, begin: int, end: int) -> 
     announced = [*find_announcements(survey.programmes, request.page)]
     announcement = find_unsent(announced, carriers, begin, end) if request.pid is None else None
     if announcement and not has_unreadable(survey, announcement.pids):
-        raise NeverSent(never_sent_text(survey, request.page, announcement.pids, carriers))
+        raise NeverSent(explain_never_sent(survey, request.page, announcement.pids, carriers))

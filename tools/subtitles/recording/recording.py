@@ -23,7 +23,7 @@ from ..stream.gaps import (
     LossPlace, explain_refusal, find_loss_places, find_recorded_range, gap_marker_lines)
 from ..stream.packets import HEADER, PES, PTSPair, Packets
 from ..stream.survey import Survey, survey
-from .notices import Notice, find_announcements, refuse_unsent, silent_pids
+from .notices import Notice, find_announcements, refuse_unsent, find_silent_pids
 
 
 # A recording from a pipe is copied to a file, which is judged once it is complete.
@@ -61,21 +61,21 @@ LENGTH_AT, FIXED, TELETEXT = 8, 9, 0x24
 
 def read_pes_header(program: str, path: str, pid: int, size: int) -> bytes:
     """Return the first bytes that `extract` prints of a PID."""
-    words = [program, "extract", *stream_options(pid, size), "--", path, OUTPUT]
-    with subprocess.Popen(words, stdin=subprocess.DEVNULL, stdout=subprocess.PIPE,
+    arguments = [program, "extract", *stream_options(pid, size), "--", path, OUTPUT]
+    with subprocess.Popen(arguments, stdin=subprocess.DEVNULL, stdout=subprocess.PIPE,
                           stderr=subprocess.DEVNULL) as call:
         assert call.stdout
-        begun = call.stdout.read(FIXED)
+        header = call.stdout.read(FIXED)
         call.kill()
-    return begun
+    return header
 
 
-def pes_header_problem(begun: bytes, pid: int) -> str:
+def check_pes_header(header: bytes, pid: int) -> str:
     """Return what is wrong with the first PES header of a PID; nothing if it is a Teletext header
     or there is none."""
-    if not begun.startswith(START[:3]) or begun[LENGTH_AT:FIXED] in (b"", bytes([TELETEXT])):
+    if not header.startswith(START[:3]) or header[LENGTH_AT:FIXED] in (b"", bytes([TELETEXT])):
         return ""
-    length, whose = begun[LENGTH_AT], f" of {format_pid(pid)}" if pid != PES else ""
+    length, whose = header[LENGTH_AT], f" of {format_pid(pid)}" if pid != PES else ""
     return (f"the PES header{whose} has {FIXED + length} bytes (PES_header_data_length "
             f"{length:02X}), but EN 300 472 requires {FIXED + TELETEXT} ({TELETEXT:02X})")
 
@@ -115,7 +115,7 @@ def refuse_stream(survey: Survey, name: str) -> None:
         raise Unclear(f"{name} is not a transport stream: packets of 188 bytes that begin with 47")
 
 
-def unreadable_packets(survey: Survey) -> list[Packets]:
+def find_unreadable_packets(survey: Survey) -> list[Packets]:
     """Return the PIDs with TS packets but without readable PES packets, in order."""
     return [packets for _, packets in sorted(survey.by_pid.items())
             if not packets.count and packets.packets]
@@ -147,14 +147,14 @@ class Recording:
                              self.request.pid, look=self.show_progress)
         self.file = summed.result() if summed else self.file
         refuse_stream(self.survey, self.name)
-        self.packets = self.chosen()
+        self.packets = self.find_packets()
         self.print_losses()
 
     def show_progress(self) -> None:
         """Show on a terminal how much was read."""
         self.listener.printer.show_progress(lambda: self.name)
 
-    def chosen(self) -> Packets:
+    def find_packets(self) -> Packets:
         """Return the requested PID, or the only one that carries the page."""
         page, by_pid = self.request.page_name, self.survey.by_pid
         if self.survey.size == PES:
@@ -185,7 +185,7 @@ class Recording:
         """Raise `Unclear` if several programmes announce the page but some never send it: only the
         broadcaster knows which one is meant."""
         announced = [*find_announcements(self.survey.programmes, self.request.page)]
-        silent = silent_pids(announced, carriers)
+        silent = find_silent_pids(announced, carriers)
         if silent and self.request.pes is None:
             raise Unclear(self.with_contents(
                 f"page {self.request.page_name} is announced by several programmes of {self.name}, "
@@ -195,24 +195,24 @@ class Recording:
 
     def print_choice(self, packets: Packets, why: str) -> None:
         """Report which PID was chosen, with the evidence."""
-        begun = sum(run.length for run in packets.runs_with_pts() if HEADER in run.flags)
+        header = sum(run.length for run in packets.runs_with_pts() if HEADER in run.flags)
         line = f"{format_pid(packets.pid)}: page {self.request.page_name} has a header in " \
-            f"{begun} of {counted(packets.count, 'PES packet')}, {why}"
-        self.listener.add_selection(Selection(PID_CHOICE, f"0x{packets.pid:X}", line, begun,
-                                       packets.count))
+            f"{header} of {counted(packets.count, 'PES packet')}, {why}"
+        self.listener.add_selection(Selection(PID_CHOICE, f"0x{packets.pid:X}", line, header,
+                                              packets.count))
 
     def unreadable_reasons(self) -> list[str]:
         """Return why PIDs that should carry Teletext can't be read, as scrambled ones."""
-        return [words for packets in unreadable_packets(self.survey)
+        return [words for packets in find_unreadable_packets(self.survey)
                 for words in (explain_refusal(packets), self.header_problem(packets)) if words]
 
     def header_problem(self, packets: Packets) -> str:
         """Return what is wrong with the PES header of a PID."""
         if packets.pid != PES and not packets.packets:
             return ""
-        begun = self.survey.head if packets.pid == PES else read_pes_header(
+        header = self.survey.head if packets.pid == PES else read_pes_header(
             self.command_paths.program_path, self.path, packets.pid, self.survey.size or 0)
-        return pes_header_problem(begun, packets.pid)
+        return check_pes_header(header, packets.pid)
 
     def print_losses(self) -> None:
         """Report what was read, and the places where something is missing."""
@@ -241,13 +241,13 @@ class Recording:
         """Return the PID and the TS packet size in bytes of a transport stream."""
         return (self.packets.pid, self.survey.size or 0) if self.is_stream else None
 
-    def words(self) -> list[str]:
+    def program_options(self) -> list[str]:
         """Return the options with which the program reads the recording."""
         stream = self.stream()
         return stream_options(*stream) if stream else []
 
     @property
-    def shown(self) -> str:
+    def display_name(self) -> str:
         """Return the name of the recording as it was typed."""
         if not self.is_piped:
             return self.name
@@ -261,20 +261,21 @@ class Recording:
             return KEPT_TS
         return KEPT_PES if self.is_piped or self.is_stream else None
 
-    def kept(self) -> Iterator[bytes]:
+    def read_kept_data(self) -> Iterator[bytes]:
         """Yield the bytes of the recording to keep."""
         if self.is_piped:
             yield from read_chunks(self.path)
             return
-        own = self.names.temporary_path("kept.pes")
-        done = subprocess.run([self.command_paths.program_path, "extract", *self.words(), "--",
-                               self.path, own], stdin=subprocess.DEVNULL, stdout=subprocess.DEVNULL,
-                              check=False)
+        pes_path = self.names.temporary_path("kept.pes")
+        done = subprocess.run([self.command_paths.program_path, "extract", *self.program_options(),
+                               "--",
+                               self.path, pes_path], stdin=subprocess.DEVNULL,
+                              stdout=subprocess.DEVNULL, check=False)
         if done.returncode != 1:  # everything before a refused PES packet is kept
             done.check_returncode()
-        yield from read_chunks(own)
+        yield from read_chunks(pes_path)
 
-    def places(self, jumps: Iterable[PTSPair] = ()) -> list[LossPlace]:
+    def list_losses(self, jumps: Iterable[PTSPair] = ()) -> list[LossPlace]:
         """Return the places where packets are missing, including those that announced jumps of the
         counter hide."""
         return find_loss_places(self.packets, jumps)
@@ -283,7 +284,7 @@ class Recording:
         """Return the PTS between which the PCR shows that everything was recorded."""
         return find_recorded_range(self.survey, self.packets)
 
-    def last(self) -> int | None:
+    def find_last_time(self) -> int | None:
         """Return the last PTS, or the last PCR if it is later."""
         clock, pts = self.survey.clock_of(self.packets.pid), self.packets.last_pts
         known = [one for one in (pts, clock and clock[1]) if one is not None]
@@ -307,7 +308,7 @@ class Recording:
     def other_pids(self) -> list[str]:
         """Return the calls with other PIDs to type instead."""
         known = [f"0x{pid:X}" for pid, packets in sorted(self.survey.by_pid.items())
-                 if self.request.page_name in packets.sent]
+                 if self.request.page_name in packets.header_counts]
         return [self.suggest_call("--pid", word)
                 for word in known or ["PID"] * bool(self.survey.by_pid)]
 
@@ -326,7 +327,7 @@ class Recording:
         """Yield the calls for the other pages of some PIDs, those with the most headers first."""
         counts = collections.Counter[str]()
         for one in several:
-            counts.update(one.sent)
+            counts.update(one.header_counts)
         del counts[self.request.page_name]
         return (self.suggest_call("--page", name) for name, _ in counts.most_common(MAX_PAGES))
 

@@ -48,7 +48,7 @@ def write_result(verdict: Verdict, program: ProgramInfo) -> Iterator[str]:
         if member in LISTS:
             yield from write_list(member, source, limit)
         else:
-            value = limit.omitted_counts if member.shape is OMITTED else member.made(source)
+            value = limit.omitted_counts if member.shape is OMITTED else member.to_json(source)
             yield json.dumps(value, ensure_ascii=False)
         separator = ","
     yield "\n}\n"
@@ -56,10 +56,10 @@ def write_result(verdict: Verdict, program: ProgramInfo) -> Iterator[str]:
 
 def write_list(member: Member, source: ResultSource, limit: ListLimit) -> Iterator[str]:
     """Yield a JSON list with one item per line. Items that exceed the limit are omitted."""
-    assert isinstance(member.shape, Listed) and member.of
-    items, separator = iter(member.of(source)), "["
+    assert isinstance(member.shape, Listed) and member.getter
+    items, separator = iter(member.getter(source)), "["
     for count, item in enumerate(items):
-        text = json.dumps(member.shape.shape.made(item), ensure_ascii=False)
+        text = json.dumps(member.shape.shape.to_json(item), ensure_ascii=False)
         limit.remaining_bytes -= len(text.encode("utf-8", "surrogatepass"))
         if count == member.shape.most or limit.remaining_bytes < 0:
             limit.omitted_counts[member.name] = 1 + sum(1 for _ in items)
@@ -108,7 +108,7 @@ class Row(NamedTuple):
 
 def make_unjudged(name: str, reason: str) -> dict[str, Any]:
     """Return the result of a pair that was not judged, without a request."""
-    result: dict[str, Any] = NO_PAIR.made({
+    result: dict[str, Any] = NO_PAIR.to_json({
         "format": FORMAT, "verdict": NOT_JUDGED, "status": STATUSES[NOT_JUDGED], "name": name,
         "reason": reason or "no reason was given"})
     return result
@@ -280,7 +280,7 @@ def describe_inputs(request: Request) -> dict[str, Any]:
 def is_current(result: dict[str, Any], request: Request, program: ProgramInfo) -> bool:
     """Return whether a pair has the same options and unchanged files as in its result, and would be
     judged by the same version of the program and the tools."""
-    return "request" in result and result["request"] == REQUEST.made(request) \
+    return "request" in result and result["request"] == REQUEST.to_json(request) \
         and result["files_at_start"] == describe_inputs(request) \
         and result["program"]["sha256"] == program.sha256 \
         and result["program"]["version"] == program.version

@@ -170,7 +170,7 @@ JUDGED_PART = Record(
     Member("pace", Maybe(Integer(1, MAX_EVERY)), "The longest allowed PES interval in frames; "
            "null if it is not checked.", lambda of: of.part.request.pace),
     Member("judged_file", Maybe(FILE), "The judged PES packets of a feed."),
-    Member("clock", Maybe(CLOCK_OF_PART), of=lambda of: of.part.clock))
+    Member("clock", Maybe(CLOCK_OF_PART), getter=lambda of: of.part.clock))
 
 LOSS = Record(
     "loss", "",
@@ -374,8 +374,8 @@ OMITTED = Record("omitted", "The number of items omitted from each list.", *(
 VERDICT = Record(
     "verdict", "",
     Member("format", OneOf(FORMAT), "The format number.", lambda _: FORMAT),
-    Member("verdict", WORD, of=lambda known: known.verdict.word),
-    Member("status", STATUS, of=lambda known: known.verdict.status),
+    Member("verdict", WORD, getter=lambda known: known.verdict.word),
+    Member("status", STATUS, getter=lambda known: known.verdict.status),
     Member("line", Maybe(Text()), "The last line on standard output.",
            lambda known: known.verdict.line),
     Member("worst_fault", Maybe(Text()), "The last line, but with the worst fault that is not "
@@ -394,15 +394,15 @@ VERDICT = Record(
            lambda known: sum_parts(known, "transmissions")),
     Member("fault_count", COUNT, "The number of all faults, including omitted faults.",
            lambda known: known.verdict.fault_count),
-    Member("subtitle_counts", Maybe(COUNTS), of=lambda known: known.verdict.subtitle_counts),
-    Member("request", REQUEST, of=lambda known: known.verdict.request),
-    Member("files_at_start", FILES_AT_START, of=lambda known: known.verdict.files_at_start),
-    Member("inputs", INPUTS, of=lambda known: known.verdict),
+    Member("subtitle_counts", Maybe(COUNTS), getter=lambda known: known.verdict.subtitle_counts),
+    Member("request", REQUEST, getter=lambda known: known.verdict.request),
+    Member("files_at_start", FILES_AT_START, getter=lambda known: known.verdict.files_at_start),
+    Member("inputs", INPUTS, getter=lambda known: known.verdict),
     Member("program", PROGRAM),
     Member("date", DATE, "The time of judging, in UTC.", lambda known: known.verdict.date),
     Member("seconds", Number(MAX_SECONDS), "The time that judging took.",
            lambda known: known.verdict.seconds),
-    Member("cause_counts", CAUSE_COUNTS, of=lambda known: count_causes(
+    Member("cause_counts", CAUSE_COUNTS, getter=lambda known: count_causes(
         part.causes for part in known.verdict.parts if part.causes)),
     Member("complete_after", Maybe(SPREAD),
            "The number of frames after which subtitles were complete.",
@@ -430,7 +430,7 @@ BATCH = Record(
 def find_misfit(known: object) -> str | None:
     """Return where a value does not match the schema of a pair's result, or `None`."""
     is_pair = isinstance(known, dict) and "request" in known
-    return (VERDICT if is_pair else NO_PAIR).misfit(known)
+    return (VERDICT if is_pair else NO_PAIR).find_misfit(known)
 
 
 def schema() -> Schema:
@@ -438,12 +438,12 @@ def schema() -> Schema:
     batch = BATCH.schema()
     batch["required"].append("pairs")
     batch["properties"]["pairs"] = {
-        "type": "array", "items": {"oneOf": [VERDICT.reference(), NO_PAIR.reference()]}}
+        "type": "array", "items": {"oneOf": [VERDICT.make_reference(), NO_PAIR.make_reference()]}}
     return {
         "$schema": "http://json-schema.org/draft-07/schema#",
         "$comment": "tools/qc --json writes this format; dev/make-pages makes this file. All "
                     "members are always present; null means unknown or not applicable. Times are "
                     "HH:MM:SS:FF at 25 frames a second, in the time of the subtitle file.",
         "title": "A verdict on a subtitle file and its recording, or on a batch of them",
-        "oneOf": [one.reference() for one in (VERDICT, BATCH, NO_PAIR)],
+        "oneOf": [one.make_reference() for one in (VERDICT, BATCH, NO_PAIR)],
         "definitions": {**make_definitions([VERDICT, NO_PAIR]), BATCH.name: batch}}

@@ -97,22 +97,22 @@ def find_beginnings(lines: Counter[tuple[bytes, bytes]],
                     trim: bool) -> list[tuple[bool, bytes, bytes]]:
     """Return the beginnings of most lines: `white`, and the codes before and after a line's own
     leading codes."""
-    seen = Counter[tuple[bytes, bytes]]()  # leading codes of lines, and of sent rows
+    line_counts = Counter[tuple[bytes, bytes]]()  # leading codes of lines, and of sent rows
     for (cells, sent), count in lines.items():
         shown = sent.lstrip(b" ")
         cells = cells.strip(b" ") if trim else cells
-        seen[cells[:count_leading_codes(cells)], shown[:count_leading_codes(shown)]] += count
+        line_counts[cells[:count_leading_codes(cells)], shown[:count_leading_codes(shown)]] += count
     votes = Counter[tuple[bool, bytes, bytes]]()
     for white in (False, True):
         whole = {(own + bytes([WHITE]) * (white and not any(it in COLOURS for it in own)), shown)
-                 for own, shown in seen}
+                 for own, shown in line_counts}
         ways = {(white, shown[:at], shown[at + len(own):]) for own, shown in whole
                 for at in range(len(shown) - len(own) + 1)
                 if shown[at:at + len(own)] == own and (own or at == len(shown))}
         for way in ways:
             if len(way[1] + way[2]) <= MAX_BEFORE and all(
                     code in DRAWN_CODES for code in way[1] + way[2]):
-                votes[way] = sum(count for (own, shown), count in seen.items()
+                votes[way] = sum(count for (own, shown), count in line_counts.items()
                                  if shown == way[1] + own + bytes([WHITE]) * (
                                      white and not any(it in COLOURS for it in own)) + way[2])
     return most(votes, MAX_KEPT)
@@ -151,8 +151,8 @@ def find_line_layouts(pairs: Sequence[SentLine]) -> list[Layout]:
                     for made in [prepare_line(cells, layout)]
                     if made.strip(b" ") == sent.strip(b" ") and len(made) <= COLUMNS)
     best = max(scores.values())
-    near = [one for one, score in scores.items() if score * 10 >= best * TENTHS]
-    return sorted(near, key=lambda one: (-scores[one], complexity_key(one)))[:4 * MAX_KEPT]
+    candidates = [one for one, score in scores.items() if score * 10 >= best * TENTHS]
+    return sorted(candidates, key=lambda one: (-scores[one], complexity_key(one)))[:4 * MAX_KEPT]
 
 
 def as_bits(places: Iterable[int]) -> int:
@@ -252,8 +252,8 @@ def find_candidates(subtitles: Sequence[SentSubtitle], option: NationalOption) -
                                          row=row.row)
                 counts[layout] = len(subtitles) - bin(wrong | others | unknown).count("1")
     best = max(counts.values())
-    near = sorted((one for one in counts if counts[one] == best), key=complexity_key)
-    return [PLAIN, *(simplify(one, subtitles, option) for one in near[:MAX_KEPT])]
+    candidates = sorted((one for one in counts if counts[one] == best), key=complexity_key)
+    return [PLAIN, *(simplify(one, subtitles, option) for one in candidates[:MAX_KEPT])]
 
 
 # The items of a layout for which there is evidence
@@ -334,14 +334,15 @@ def list_items(layout: Layout) -> list[LayoutItem]:
 
 def remove_items(layout: Layout, group: Iterable[LayoutItem]) -> Layout:
     """Return a layout without a group of items."""
-    gone = {*group}
+    removed_items = {*group}
     layout = layout._replace(strip=bytes(
-        code for code in layout.strip if ("strip", code) not in gone))
-    if (STAR, 0) in gone:
+        code for code in layout.strip if ("strip", code) not in removed_items))
+    if (STAR, 0) in removed_items:
         layout = layout._replace(before=layout.before + layout.behind, behind=b"")
-    if ("before", 0) in gone:
+    if ("before", 0) in removed_items:
         layout = layout._replace(before=PLAIN.before, behind=PLAIN.behind)
-    return layout._replace(**{name: getattr(PLAIN, name) for name in SINGLE if (name, 0) in gone})
+    return layout._replace(**{name: getattr(PLAIN, name) for name in SINGLE if (name, 0)
+                              in removed_items})
 
 
 def add_items(layout: Layout, group: Iterable[LayoutItem], other: Layout) -> Layout:
@@ -362,8 +363,8 @@ def items_text(group: Iterable[LayoutItem], layout: Layout) -> str:
 def find_questionable_items(layout: Layout) -> Group:
     """Return the items of a layout that are unlikely, or that remove something visible."""
     brought = layout.before + layout.behind
-    gone = {*VISIBLE_CODES, *({*RESTORED} - {*brought})}
-    taken: set[LayoutItem] = {("strip", code) for code in layout.strip if code in gone}
+    removed_codes = {*VISIBLE_CODES, *({*RESTORED} - {*brought})}
+    taken: set[LayoutItem] = {("strip", code) for code in layout.strip if code in removed_codes}
     if {*OVERRULING} & {*layout.behind}:
         taken.add((STAR, 0))
     if FLASH in brought or brought.count(START_BOX) < BOXES_SHOWN:
@@ -425,11 +426,11 @@ class Evidence:
 
     def remove_unsupported(self, layout: Layout) -> tuple[Layout, list[Group]]:
         """Remove items that lack evidence or need a decision; return the layout and these items."""
-        gone: list[Group] = []
+        removed_groups: list[Group] = []
         while group := find_questionable_items(layout) or self.find_unsupported(layout):
             layout = remove_items(layout, group)
-            gone.append(group)
-        return layout, gone
+            removed_groups.append(group)
+        return layout, removed_groups
 
     def make_choice(self, layout: Layout, left: Sequence[RejectedItems] = ()) -> LayoutChoice:
         """Return a layout with the evidence for its items; of two with the same TEXT the weaker."""
@@ -440,19 +441,19 @@ class Evidence:
         return LayoutChoice(layout, self.count(layout), len(self.subtitles), (*items.values(),),
                             (*left,))
 
-    def find_rejected_items(self, layout: Layout, gone: Sequence[Group],
+    def find_rejected_items(self, layout: Layout, removed_groups: Sequence[Group],
                             whole: Layout) -> list[RejectedItems]:
         """Return the items of another layout that would draw more subtitles as sent; also all of
         them together if this draws the most."""
         count, left = self.count(layout), list[RejectedItems]()
-        for group in gone:
+        for group in removed_groups:
             other, text = add_items(layout, group, whole), items_text(group, whole)
             more = self.count(other) - count
             if more > 0 and all(one.text != text for one in left):
                 left.append(RejectedItems(text, more, format_layout(other)))
         together = self.count(whole) - count
         if together > max((one.more for one in left), default=0):
-            items = [item for group in gone for item in group]
+            items = [item for group in removed_groups for item in group]
             left.append(RejectedItems(items_text(items, whole), together, format_layout(whole)))
         return left
 
@@ -470,9 +471,9 @@ def choose_layouts(sent: Sequence[SentSubtitle],
         return closest, closest
     layout = min((evidence.remove_unsupported(one)[0] for one in best),
                  key=lambda one: (-evidence.count(one), complexity_key(one)))
-    gone = evidence.remove_unsupported(closest.layout)[1]
+    removed_groups = evidence.remove_unsupported(closest.layout)[1]
     return closest, evidence.make_choice(
-        layout, evidence.find_rejected_items(layout, gone, closest.layout))
+        layout, evidence.find_rejected_items(layout, removed_groups, closest.layout))
 
 
 # Subtitles that were sent with their characters

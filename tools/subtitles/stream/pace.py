@@ -64,65 +64,68 @@ class Pace(NamedTuple):
         return self.loss_interval - 1 if self.kind == REGULAR else None
 
 
-def compute_pace(rows: Sequence[Sequence[int]], each: int, every: int, pauses: Pauses = (),
-                 is_stream: bool = True) -> Pace:
+def compute_pace(rows: Sequence[Sequence[int]], packets_per_pes: int, every: int,
+                 pauses: Pauses = (), is_stream: bool = True) -> Pace:
     """Measure the intervals of PES packets, from rows of their frames without a known loss.
 
-    Each PES packet has at most `each` TS packets; a header of the page comes within `every` frames;
+    Each PES packet has at most `packets_per_pes` TS packets; a header comes within `every` frames;
     `pauses` are the times without a subtitle.
 
     A few longer intervals are losses, so that damage can't change the result. If most of them are
     caused by the inserter, the PES packets are not regular.
     """
-    near, far = count_distances(rows, 1), count_distances(rows, TWO_LOST if is_stream else ONE_LOST)
-    count = sum(near.values())
+    distances = count_distances(rows, 1)
+    loss_distances = count_distances(rows, TWO_LOST if is_stream else ONE_LOST)
+    count = sum(distances.values())
     few = max(FEW, count // PART)
-    interval = number_at_rank(near, few, True) if count > few else max(near, default=0)
-    if count < LEAST or sum(far.values()) <= few:
-        return Pace(BY_EVERY if min(far, default=0) > every else TOO_FEW, interval)
-    loss_interval = find_loss_distance(far, interval, few) if is_stream else interval + 1
-    if min(loss_interval, *far) > every:
+    interval = number_at_rank(distances, few, True) if count > few else max(distances, default=0)
+    if count < LEAST or sum(loss_distances.values()) <= few:
+        return Pace(BY_EVERY if min(loss_distances, default=0) > every else TOO_FEW, interval)
+    loss_interval = find_loss_distance(loss_distances, interval, few) if is_stream else interval + 1
+    if min(loss_interval, *loss_distances) > every:
         return Pace(BY_EVERY, interval, loss_interval)
     is_dense = max(interval, 1) >= loss_interval
     if is_dense:
-        usual = find_usual_distance(near, count, few)
+        usual = find_usual_distance(distances, count, few)
         if usual is None:
             return Pace(IRREGULAR, interval, loss_interval)
         loss_interval = usual + 2
     silences = [silence for row in rows for silence
-                in find_silences(row, loss_interval, count_loss_steps(each))]
+                in find_silences(row, loss_interval, count_loss_steps(packets_per_pes))]
     idle = select_idle_silences(silences, every, pauses)
     if 2 * len(idle) > len(silences):
         return Pace(PAUSED, max(silence.last - silence.first for silence in idle), loss_interval)
-    hidden_places = sum(many for frames, many in far.items() if frames < loss_interval)
-    return Pace(REGULAR, interval, loss_interval, hidden_places, sum(far.values()), is_dense)
+    hidden_places = sum(many for frames, many in loss_distances.items() if frames < loss_interval)
+    return Pace(REGULAR, interval, loss_interval, hidden_places, sum(loss_distances.values()),
+                is_dense)
 
 
-def find_loss_distance(far: collections.Counter[int], apart: int, few: int) -> int:
+def find_loss_distance(loss_distances: collections.Counter[int], usual_distance: int,
+                       few: int) -> int:
     """Return the shortest interval in frames after a loss of two PES packets. Ignore a few
     intervals if the shortest is no longer than the usual interval."""
-    least = min(far)
-    return least if least > max(apart, 1) else number_at_rank(far, few, False)
+    least = min(loss_distances)
+    return least if least > max(usual_distance, 1) else number_at_rank(loss_distances, few, False)
 
 
-def find_usual_distance(near: collections.Counter[int], count: int, few: int) -> int | None:
+def find_usual_distance(distances: collections.Counter[int], count: int, few: int) -> int | None:
     """Return the usual interval if three PES packets may come in the time of two, as when two come
     in a frame; `None` if too many intervals are longer."""
-    usual = max([1, *(frames for frames, many in near.items() if many * OFTEN >= count)])
-    longer = sum(many for frames, many in near.items() if frames > usual)
-    is_usual = longer * SELDOM <= count and longer - near[usual + 1] <= few
+    usual = max([1, *(frames for frames, many in distances.items() if many * OFTEN >= count)])
+    longer = sum(many for frames, many in distances.items() if frames > usual)
+    is_usual = longer * SELDOM <= count and longer - distances[usual + 1] <= few
     return usual if is_usual else None
 
 
-def count_loss_steps(each: int) -> int:
+def count_loss_steps(packets_per_pes: int) -> int:
     """Return the number of PES packets to the next one if 16 TS packets are lost."""
-    return max(TWO_LOST, -(-HOLE // each))
+    return max(TWO_LOST, -(-HOLE // packets_per_pes))
 
 
-def find_hidden_loss(rows: Sequence[Sequence[int]], each: int) -> int | None:
+def find_hidden_loss(rows: Sequence[Sequence[int]], packets_per_pes: int) -> int | None:
     """Return the shortest time of 16 TS packets, whose loss the counter does not show, in frames;
     `None` if there are too few PES packets."""
-    return min(count_distances(rows, count_loss_steps(each)), default=None)
+    return min(count_distances(rows, count_loss_steps(packets_per_pes)), default=None)
 
 
 def select_idle_silences(silences: Sequence[Silence], every: int, pauses: Pauses) -> list[Silence]:

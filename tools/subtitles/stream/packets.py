@@ -117,7 +117,7 @@ class Packets:
     samples: list[tuple[int, int]] = dataclasses.field(default_factory=list)  # PTS, ticks ahead
     character_sets: list[tuple[int, int, int | None,
                                int | None]] = dataclasses.field(default_factory=list)
-    sent: dict[str, int] = dataclasses.field(default_factory=dict)  # headers by subtitle page
+    header_counts: dict[str, int] = dataclasses.field(default_factory=dict)  # by subtitle page
     counter_jumps: list[int] = dataclasses.field(default_factory=list)  # numbers of PES packets
     damage: str | None = None  # why a PES file can't be read further
     refusal: int = 0  # 31 or 32 if the next PES packet is not Teletext
@@ -218,8 +218,8 @@ def find_announced_jumps(packets: Packets, inside: Range, usual: int) -> list[PT
     """Return the PTS around each announced jump of the counter at an interval of more than `usual`
     frames."""
     pts = array.array("q", packets.pts(inside))
-    late = {after: before for before, after in zip(pts, itertools.islice(pts, 1, None))
-            if ticks_between(before, after) > usual * TICKS}
+    previous_pts = {after: before for before, after in zip(pts, itertools.islice(pts, 1, None))
+                    if ticks_between(before, after) > usual * TICKS}
     jumps = (packets.pts_at(number) for number in packets.counter_jumps
              if inside[0] <= number <= inside[1])
-    return [(late[one], one) for one in dict.fromkeys(jumps) if one in late]
+    return [(previous_pts[one], one) for one in dict.fromkeys(jumps) if one in previous_pts]

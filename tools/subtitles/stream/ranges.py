@@ -26,15 +26,16 @@ class PacketRange(NamedTuple):
     """The PES packets of a range of frames.
 
     `range` has their numbers, or is `None`; `read` counts the PES packets read. `first` and `last`
-    are frames, and `came` is the frame of the first PES packet, even without the page. `has_end`:
-    the last page transmission has come. `is_over`: no later PES packet can be in the range.
+    are frames, and `first_packet_frame` is the frame of the first PES packet, even without the
+    page. `has_end`: the last page transmission has come. `is_over`: no later PES packet can be in
+    the range.
     """
 
     range: Range | None
     read: int
     first: int | None = None
     last: int | None = None
-    came: int | None = None
+    first_packet_frame: int | None = None
     has_end: bool = False
     is_over: bool = False
 
@@ -60,16 +61,16 @@ def find_range(packets: Packets, begin: int, end: int, origin: int, every: int |
     high = end if every is None else min(end + max(every, within), FRAMES_OF_A_DAY - 1)
     beginning = RangeStart(begin, within, PageTexts(packets, origin, within, is_continued))
     ending = RangeEnd(low, high, end, within, every is not None)
-    first = came = None
+    first = first_packet_frame = None
     read, is_over = 0, False
     for sent in packets_from(packets, low, high, origin, within):
         read = sent.number + 1
         if inside and sent.number > inside[1]:
             break
         is_in_time = sent.frame is not None and low <= sent.frame <= high
-        if inside and sent.number < inside[0] or came is None and not is_in_time:
+        if inside and sent.number < inside[0] or first_packet_frame is None and not is_in_time:
             continue
-        came = sent.frame if came is None else came
+        first_packet_frame = sent.frame if first_packet_frame is None else first_packet_frame
         if first is None and is_in_time:
             first = beginning.find(sent)
         if first is None:
@@ -79,10 +80,10 @@ def find_range(packets: Packets, begin: int, end: int, origin: int, every: int |
             break
     read = read or packets.count
     if first is None:
-        return PacketRange(None, read, came=came, is_over=is_over)
+        return PacketRange(None, read, first_packet_frame=first_packet_frame, is_over=is_over)
     begun = frame_in(next(packets.pts((first, ending.number))), origin, within)
-    return PacketRange((first, ending.number), read, begun, ending.last, came, ending.has_end,
-                       is_over)
+    return PacketRange((first, ending.number), read, begun, ending.last, first_packet_frame,
+                       ending.has_end, is_over)
 
 
 class PageTexts:

@@ -188,15 +188,15 @@ class Timeline(ReceivedPackets):
     first and after the PES packets `state_packets`, in the frames `state_frames`. The page opens or
     closes at the ends of the frames `open_changes`. The frames `header_frames` have a page header,
     `erasure_frames` one that erases the page. If frames go back before frame `begin`, everything
-    before is cleared. `came` is the frame of the first PES packet, if known.
+    before is cleared. `first_packet_frame` is the frame of the first PES packet, if known.
     """
 
     def __init__(self, packets: Packets, page: Page, origin: int, within: int = 0,
-                 inside: Range | None = None, begin: int = NO_FRAME, came: int = NO_FRAME,
-                 lost: Iterable[Span] = ()) -> None:
+                 inside: Range | None = None, begin: int = NO_FRAME, first_packet_frame: int
+                 = NO_FRAME, lost: Iterable[Span] = ()) -> None:
         self.packets, self.page, self.origin, self.within = packets, page, origin, within
         self.inside = (0, packets.count - 1) if inside is None else inside
-        self.begin, self.came = begin, came
+        self.begin, self.first_packet_frame = begin, first_packet_frame
         self.printed_rows: Rows = OLD_PAGE  # the last rows that `survey` printed
         self.is_erased = False  # whether the page was ever erased
         super().__init__(lost)
@@ -249,8 +249,8 @@ class Timeline(ReceivedPackets):
         is_first = self.first == NO_FRAME
         if not self.add_run(run, frames):
             return
-        if is_first and self.came != NO_FRAME:
-            self.first = self.came
+        if is_first and self.first_packet_frame != NO_FRAME:
+            self.first = self.first_packet_frame
         for letter, sent in ((HEADER, self.header_frames), (ERASE, self.erasure_frames)):
             if letter in run.flags:
                 sent.extend(frame for frame in dict.fromkeys(frames)
@@ -362,7 +362,8 @@ def decode_near(packets: Packets, page: Page, origin: int, within: int, span: Sp
     cut = find_range(packets, max(span.first - more, 0), min(span.last + more, FRAMES_OF_A_DAY - 1),
                      origin, None, within, inside)
     return Timeline(packets, page, origin, within, cut.range or NO_RANGE, span.first,
-                    NO_FRAME if cut.came is None else cut.came, lost=lost)
+                    NO_FRAME if cut.first_packet_frame is None else cut.first_packet_frame,
+                    lost=lost)
 
 
 def full_page(texts: Texts, is_erased: bool) -> Rows:

@@ -68,7 +68,7 @@ def pid_line(packets: Packets, programmes: Iterable[ProgramMap]) -> str:
     announced = dict.fromkeys(f"{page.line()} in programme {program_map.number}"
                               for program_map in programmes
                               for page in program_map.pages.get(packets.pid, []))
-    pages = sorted(packets.sent)
+    pages = sorted(packets.header_counts)
     more = [f"and {len(pages) - MAX_PAGES} more"] if len(pages) > MAX_PAGES else []
     return f"{format_pid(packets.pid)}: announced {', '.join(announced) or 'nothing'}; subtitle " \
         f"pages sent: {' '.join(pages[:MAX_PAGES] + more) or 'none'}"
@@ -150,7 +150,7 @@ class Survey:
         self.get_packets(pid)
 
     def parse_sub(self, pid: str, page: str, count: str = "1", *_: str) -> None:
-        self.get_packets(pid).sent[page] = int(count)
+        self.get_packets(pid).header_counts[page] = int(count)
 
     parse_subs = parse_sub
 
