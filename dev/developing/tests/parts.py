@@ -61,7 +61,7 @@ def make_part(begin: int | None, end: int | None, origin: int | None,
     if packets is not None or places:
         more["recording"] = SimpleNamespace(packets=packets, stream=lambda: None, is_stream=False,
                                             has_picture=lambda: False,
-                                            places=lambda jumps: [*places])
+                                            list_losses=lambda jumps: [*places])
     known: dict[str, Any] = {
         "request": request_for("a.stl", "a.pes"), "names": names, "alignment": alignment,
         "is_recording_read": True, **more}

@@ -53,8 +53,8 @@ class Requests(Case):
         parts = [*many[:12], *(one + 400 for one in many[:12])]
         rows: list[tuple[dict[str, Any], list[int], int]] = [
             ({}, many, 1), ({"origin": 0}, many, 0), ({"origin": 7200}, many, 0),
-            ({"late": late}, many, 0), ({"breaks": 1}, parts, 1),
-            ({"breaks": 1, "late": late}, parts, 0), ({"breaks": 1, "origin": 0}, parts, 1)]
+            ({"lateness": late}, many, 0), ({"breaks": 1}, parts, 1),
+            ({"breaks": 1, "lateness": late}, parts, 0), ({"breaks": 1, "origin": 0}, parts, 1)]
         for request, sent, status in rows:
             found = self.find(self.transmissions(sent), within=2, **request)
             self.assertEqual((found.status, len(found.parts)), (

@@ -335,7 +335,7 @@ class PartDecisions(Case):
         for refusal, is_stream in itertools.product((None, 31), (True, False)):
             recording: Any = SimpleNamespace(
                 is_stream=is_stream, packets=SimpleNamespace(refusal=refusal),
-                recorded_range=lambda: (0, TICKS * 250), places=lambda jumps: places)
+                recorded_range=lambda: (0, TICKS * 250), list_losses=lambda jumps: places)
             part = make_part(100, 199, 0, recording=recording, pes=(0, 9), request=request_for(
                 "a.stl", "a.ts", "--within", "2", "--every", "300"))
             with mock.patch("subtitles.judging.part.decode_near") as near, \

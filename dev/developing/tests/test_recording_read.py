@@ -104,7 +104,7 @@ class ChosenPids(Case):
                     is_piped, "one.recording" if is_piped else name,
                     (ONE, packet_size) if packet_size else None, wanted), vars(one))
         jumped = read_recording(Survey())
-        self.must("jumps", [one.is_announced for one in jumped.places([(5, 9)])] == [True])
+        self.must("jumps", [one.is_announced for one in jumped.list_losses([(5, 9)])] == [True])
 
     def test_reports_what_is_no_recording(self) -> None:
         for head, size, words in (

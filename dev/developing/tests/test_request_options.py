@@ -71,7 +71,8 @@ print(json.dumps({
     "help": help, "man page": pages.make_tool_parts(help)["options"],
     "chapter": pages.make_chapter_parts()["options"],
     "completion": pages.make_completion_parts("  check STL PES  does\\n", "", [help])["values"],
-    "asked": REQUEST.made(asked), "left out": REQUEST.made(none), "call": call_arguments(asked),
+    "asked": REQUEST.to_json(asked), "left out": REQUEST.to_json(none),
+    "call": call_arguments(asked),
     "again": make_qc_command(asked, CommandPaths("tools/qc", program)),
     "check": asked.check_arguments(),
     "file": asked.check_arguments(True), "pages": asked.schedule_arguments(),
@@ -79,7 +80,7 @@ print(json.dumps({
     "same": make_request(make_parser("").parse_args(call_arguments(asked))) == asked,
     "not with": [taken("a.stl", *given), taken(*pair, *given),
                  taken("--collect", "x", "--new-one", "5")],
-    "line": REQUEST.made(make_line_request([*pair, *given], default_options()))}))
+    "line": REQUEST.to_json(make_line_request([*pair, *given], default_options()))}))
 """
 # Options, their values, and their values in a JSON result.
 ROWS: list[tuple[str, str, Any]] = [
