@@ -164,7 +164,7 @@ class Messages(Case):
             one, found = read_recording(read_survey("size 188"), folder=self.folder), None
             one.command_paths.program_path, one.packets = path, Packets(pid)
             try:
-                found = b"".join(one.kept())
+                found = b"".join(one.read_kept_data())
             except subprocess.CalledProcessError:
                 pass
             self.must(f"{pid:#x}", found == wanted, found)
