@@ -1,7 +1,7 @@
 """Check names and numbers in the documents.
 
-Names in backquotes must be names in the sources. The numbers of lines to be read for a promise, and
-the numbers about the proof, must equal the numbers that this module counts.
+Names in backquotes must be names in the sources. The line counts of promises and the numbers about
+the proof must equal the numbers that this module counts.
 """
 from __future__ import annotations
 
@@ -19,11 +19,11 @@ from .proved import parse_proved
 DOCUMENTS = {"docs/HEADLINE.md": "", "docs/ASSURANCE.md": "", "docs/CLAUSES.md": "",
              "docs/DECISIONS.md": "", "docs/GLOSSARY.md": "",
              "docs/ARCHITECTURE.md": "|"}
-# A table row with the name of a promise and the size of the definitions to be read for it.
+# A table row: a promise, its name, and the size of the definitions on which it depends.
 ROW = re.compile(r"^\| (.*) \| `(\S+)` \| (\d+) \| (\d+) \|$", re.M)
-# The maximum number of lines to be read for each promise.
+# The maximum number of lines that a reader must read for each promise.
 MAX_LINES = {"run_in_memory.headline": 450, "run_in_memory.acceptance": 800}
-# Patterns that find the number of lines to be read in README.
+# Patterns that find the line counts of promises in README.
 IN_README = {"run_in_memory.headline": re.compile(r"\[(\d+)\s+lines\]")}
 NUMBERS = re.compile(r"^## The proof in numbers$.*?(?=^## )", re.M | re.S)
 NUMBER = re.compile(r"^\| (.*) \| ([\d,]+) \|$", re.M)  # a table row with a number
@@ -110,7 +110,7 @@ def find_unknown_names(top: str) -> dict[str, list[str]]:
 
 
 def correct_count_rows(top: str) -> Iterator[tuple[str, str]]:
-    """Yield each row of ASSURANCE that counts lines to be read, and the corrected row."""
+    """Yield each row of ASSURANCE with the line count of a promise, and the corrected row."""
     with open(os.path.join(top, "docs", "ASSURANCE.md"), encoding="utf-8") as file:
         rows, library = list(ROW.finditer(file.read())), Library(top)
     for row in rows:
@@ -119,7 +119,7 @@ def correct_count_rows(top: str) -> Iterator[tuple[str, str]]:
 
 
 def correct_readme_counts(top: str) -> Iterator[tuple[str, str]]:
-    """Yield each number of lines to be read in README, and the correct number."""
+    """Yield the line count of each promise in README, and the correct count."""
     text, library = read(os.path.join(top, "README.md")) or "", Library(top)
     for name, form in IN_README.items():
         shown = form.search(text)

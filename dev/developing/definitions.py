@@ -1,8 +1,8 @@
 """Find the definitions of crates/*/specs that a name or a clause depends on.
 
-Files are read as text. A name in a definition means what the file's `use` lines import, or what the
-file defines, unless it is bound: as a parameter, a field's label or a variable of a pattern. What
-one equation binds is not bound in the next.
+Files are read as text. A name in a definition refers to an import or a definition in the file,
+unless it is bound: as a parameter, a field's label or a variable of a pattern. A name that one
+equation binds is not bound in the next equation.
 """
 from __future__ import annotations
 

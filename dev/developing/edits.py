@@ -1,8 +1,8 @@
 """Read and apply the faulty programs of crates/*/must-fail/, release-edits/ and test-edits/.
 
-A file NAME.edit has lines `file: PATH` and, below each, pairs of lines `old: TEXT` and `new: TEXT`:
-in that file of the crate, the old text, which must occur exactly once, is replaced by the new one.
-A line `test: NAME` names a stored test that fails on the faulty program; the prover ignores it.
+A NAME.edit file has `file: PATH` lines, each with pairs of lines `old: TEXT` and `new: TEXT` below.
+In the file PATH of the crate, the new text replaces the old text, which must occur exactly once. A
+`test: NAME` line names a stored test that fails on the faulty program; the prover ignores the line.
 """
 from __future__ import annotations
 

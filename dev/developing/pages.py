@@ -1,11 +1,10 @@
 """Generate man pages, completion, the table of options in qc's chapter, and the schema.
 
-Sources are, for the program, the usage text of ./subttx and the table of options in
-docs/manual/reference.md; for tools, their --help; for qc, the tables of its options and of JSON
-results.
+The sources are the usage text of ./subttx and the table of options in docs/manual/reference.md for
+the program, the --help text for tools, and the tables of options and of JSON results for qc.
 
-Generated parts are between a line `made: NAME` and a line `end`, both comments; the rest is written
-by hand.
+Generated parts are between the comment lines `made: NAME` and `end`. All other text is written by
+hand.
 """
 from __future__ import annotations
 

@@ -36,7 +36,7 @@ def make_gsi_block(title: bytes, blocks: int, subtitles: int, first: int = 0,
     put(238, b"%05d%05d001" % (blocks, subtitles))  # TNB, TNS, TNG: total numbers
     put(251, b"4023")  # MNC, MNR: columns and rows
     put(255, b"1")  # TCS: time codes are intended for use
-    put(256, b"00000000%02d%02d%02d%02d" % tuple(encode_time_code(first)))  # TCP, TCF: starts
+    put(256, b"00000000%02d%02d%02d%02d" % tuple(encode_time_code(first)))  # TCP, TCF: time codes
     put(272, b"11GBR")  # TND, DSN: disk 1 of 1; CO
     return bytes(block)
 

@@ -136,7 +136,7 @@ class Video:
             self.say(f"video {self.pid} {self.passed}")
             self.has_begun, self.flagged = True, pts
             self.kind = self.pmt_entries[self.pid][1]
-            self.form = form_of(self.kind, b"")  # H.264 needs no data
+            self.form = form_of(self.kind, b"")  # known without data for H.264
         self.passed += not self.has_begun
         if decoding is not None:
             self.decoding, self.number = decoding, self.count
