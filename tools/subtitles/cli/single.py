@@ -234,7 +234,7 @@ def judge_and_report(request: Request, call: PairOptions, program_name: str) -> 
 
 
 def stamp_inputs(request: Request) -> dict[str, Stamp | None]:
-    """Return the stamps of those files of a pair that are read more than once."""
+    """Return the stamps (identity, size, times) of the input files that are read more than once."""
     names = request.stl, request.recording, request.severity
     return {name: read_stamp(name) for name in names if name}
 

@@ -81,7 +81,7 @@ class Accepted(NamedTuple):
 
 
 class Trusted(NamedTuple):
-    """A line `trusted`: the times of the first and the last trusted frame."""
+    """A line `trusted`, with the times of the first and the last of consecutive clean frames."""
 
     first: str
     last: str

@@ -195,8 +195,8 @@ class CauseFinder(PageTransmissions):
         return f"its rows came while page {page_name(*self.timeline.page)} was not open"
 
     def classify_difference(self, place: int, number: int) -> Cause:
-        """Return how the page sent at a subtitle's time differs from the expected page. It is not
-        the page of another subtitle."""
+        """Return the cause for a subtitle during which a wrong page was sent that is not the page
+        of another subtitle."""
         subtitle, due, sent = self.subtitles[place], self.pages[place], self.timeline.pages[number]
         words = join_page_text(sent)
         if words != join_page_text(due):

@@ -89,7 +89,7 @@ class WorstFault(NamedTuple):
     rank: Rank
     place: int
     fault: FaultLine
-    is_caused: bool = False  # whether a subtitle has a cause for it
+    is_caused: bool = False  # whether a cause explains the fault
 
 
 def find_worst_fault(answer: CheckOutput, causes: Causes | None,

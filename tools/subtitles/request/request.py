@@ -476,7 +476,7 @@ CHOICES = (PID_CHOICE, ORIGIN_CHOICE, PES_CHOICE, PACE_CHOICE, OPTION_CHOICE)
 
 class Selection(NamedTuple):
     """A choice made by qc: the option with the chosen value, or `None` for no value; the line to
-    print; how many of how many items match; and the part, or `None` for all parts."""
+    print; the numbers of matching and of all items; and the part, or `None` for all parts."""
 
     option: str
     value: str | None

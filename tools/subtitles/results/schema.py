@@ -282,7 +282,7 @@ class ResultSource(NamedTuple):
 
 
 def list_trusted_frames(known: ResultSource) -> Iterator[dict[str, Value]]:
-    """Yield the trusted frames of all parts."""
+    """Yield the clean frames in all parts."""
     for part in known.verdict.parts:
         for begin, end in part.trusted_frames:
             yield {"part": part.number, "from": time_of(begin), "to": time_of(end)}
