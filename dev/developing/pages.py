@@ -289,7 +289,7 @@ def find_column(record: Record, member: Member) -> str:
 
 
 def describe_member(member: Member) -> str:
-    """Return the description of a member, after the description of its value if no table has it."""
+    """Return the descriptions of a member and, if no table contains it, of its value."""
     shape = next((shape for shape in (member.shape, *member.shape.inner_shapes()) if shape.name),
                  None)
     inner = find_record(member)

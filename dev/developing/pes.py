@@ -150,7 +150,7 @@ def read_pes_packets(file: Source) -> Iterator[bytes]:
 
 
 def has_pts(data: bytes) -> bool:
-    """Return whether a PES packet has a PTS and a complete PES header. A gap marker has no PTS."""
+    """Return whether a PES packet has a PTS and a long enough header. A gap marker has no PTS."""
     return len(data) >= 14 and data[7] & 0x80 != 0 and data[HEAD] != 0xFF
 
 
