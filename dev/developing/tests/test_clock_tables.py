@@ -359,8 +359,8 @@ class Runs(unittest.TestCase):
               ) -> list[tuple[int, int]]:
         """Return the first and last frame of each airing of a programme.
 
-        `kinds` has a letter for each airing: `r`ight, `w`rong texts, `f`ew right texts, `h`alf of
-        the cues, or `l`ess.
+        `kinds` has a letter for each airing: r (right), w (wrong texts), f (few right texts), h
+        (half of the cues) or l (less than half).
         """
         sendings = []
         for number, kind in enumerate(kinds):

@@ -243,8 +243,8 @@ class ClockTables(unittest.TestCase):
     def test_cuts_the_range_of_each_row(self) -> None:
         """Test the range found for frames 100 to 200.
 
-        The table lists PES packets, each with its frame and letters for `h`eader, `e`rase,
-        `b`lank, `o`pen, `c`losed, a changed text (`x`) and an unchanged text (`y`).
+        The table lists PES packets, each with its frame and letters: h (header), e (erase page),
+        b (blank), o (open), c (closed), x (changed text) and y (unchanged text).
         """
         whole, every, late = (100, 200), (100, 200, 25), (100, 200, 25, 2)
         rows: list[tuple[str, str, tuple[int, ...], tuple[int, int] | None, bool, bool, int]] = [
