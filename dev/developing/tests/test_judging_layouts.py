@@ -106,7 +106,7 @@ class LayoutMessages(Case):
     def test_reports_what_replaces_auto(self) -> None:
         done = self.tool("qc", "one.stl", "one.ts", "--layout", "auto")
         self.must("auto", done.status == 2 and len(done.told) == 1 and
-                  "find the layout of your inserter with `--measure STL RECORDING ..`" in done.told[0], done)
+                  "find the layout of your inserter with `--measure" in done.told[0], done)
 
     def test_names_the_cells_in_which_pages_differ(self) -> None:
         for text, wanted in (
