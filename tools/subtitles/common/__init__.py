@@ -1,9 +1,9 @@
-"""What every tool needs: arguments, files, times, JSON values, the program.
+"""Modules for every tool: arguments, files, times, JSON values, and the program.
 
-command_line   arguments, messages and exit of a tool
-files          files: read with a limit, written completely or not at all, SHA-256
-times          times of the day, frames, PTS; spans of frames or of PES packets
-shapes         kinds of JSON values, and their schema
-markup         markup for pages, with escaped text
+command_line   arguments, messages and exit status of a tool
+files          read files with a limit, write them completely or not at all, SHA-256
+times          times of day, frames, PTS; spans of frames or of PES packets
+shapes         types of JSON values, and their schema
+markup         markup for HTML pages, with escaped text
 program        the built program, its line in PROVED, and its installation
 """

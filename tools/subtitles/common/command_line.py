@@ -1,4 +1,4 @@
-"""Arguments and exit of a tool: status 0, 1 or 2, and one line if it can't go on."""
+"""Parse the arguments of a tool, print its messages, and exit with status 0, 1 or 2."""
 from __future__ import annotations
 
 import argparse
@@ -13,30 +13,30 @@ from typing import Any, Callable, IO, Mapping, NamedTuple, NoReturn, Sequence, T
 from .times import CLOCK, frame_of
 
 
-# Control characters, writing directions, line ends, surrogates and non-characters: XML can't hold
-# some of these.
+# Control characters, marks of the writing direction, line separators, surrogates and
+# non-characters, some of which XML does not allow.
 HIDDEN = re.compile("[\x00-\x1f\x7f-\x9f\u061c\u200e\u200f\u2028-\u202e\u2066-\u2069"
                     "\ud800-\udfff\ufffe\uffff]")
-INSTALLED = "subttx-"  # prefix of installed tools
-MAX_EVERY = 2_160_000  # frames of --every and --pace: a day
-MAX_WITHIN = 50  # frames
-MAX_DIGITS = 3  # of --breaks
-TCP_WORD = "tcp"  # --start by the GSI block
-NO_PID = 0x1FFF  # of null packets
+INSTALLED = "subttx-"  # prefix of the names of installed tools
+MAX_EVERY = 2_160_000  # most frames for --every and --pace: a day
+MAX_WITHIN = 50  # most frames for --within
+MAX_DIGITS = 3  # most digits of the number for --breaks
+TCP_WORD = "tcp"  # for --start: use the TCP of the GSI block
+NO_PID = 0x1FFF  # PID of null packets
 PACKET_SIZE, PACKET_SIZES = 188, (188, 192, 204)  # bytes from one TS packet to the next
 HOME = os.path.realpath(os.path.join(os.path.dirname(__file__), "..", "..", ".."))
 
 
 class Stop(Exception):
-    """The tool can't go on: the text is printed on standard error, the status is 2."""
+    """Raised to end a tool with status 2 and this message on standard error."""
 
 
 class ProgramInterrupted(Stop):
-    """The program ended before its answer was complete, as when it is killed: try again."""
+    """Raised if the program ended before its output was complete, as when it is killed."""
 
 
 def version() -> str:
-    """Return the version of tools and program."""
+    """Return the version number of the tools and the program."""
     try:
         with open(os.path.join(HOME, "VERSION"), encoding="utf-8") as file:
             return file.read().strip()
@@ -45,12 +45,12 @@ def version() -> str:
 
 
 class ToolParser(argparse.ArgumentParser):
-    """A parser with the tool's own text as its help; wrong arguments raise `Stop`. Without a text
-    it has no --help, as for a line of a list."""
+    """An argument parser that raises `Stop` for wrong arguments. Its help begins with `text`; if that
+    is `None`, as for a line of a list, it has no --help."""
 
     def __init__(self, text: str | None) -> None:
-        self.fields: dict[str, str] = {}  # by their options
-        self.groups: dict[str, argparse._ArgumentGroup] = {}  # of options, by their titles
+        self.fields: dict[str, str] = {}  # names of the fields, by option
+        self.groups: dict[str, argparse._ArgumentGroup] = {}  # groups of options, by title
         super().__init__(description=text, usage=argparse.SUPPRESS, allow_abbrev=False,
                          formatter_class=argparse.RawDescriptionHelpFormatter, add_help=bool(text))
         if text:
@@ -62,19 +62,19 @@ class ToolParser(argparse.ArgumentParser):
         return self.record(super().add_argument(*names, **known))
 
     def add_to_group(self, title: str, *names: Any, **known: Any) -> argparse.Action:
-        """Add an option to the group of the help that has this title."""
+        """Add an option to the group with this title in the help."""
         if title not in self.groups:
             self.groups[title] = self.add_argument_group(title)
         return self.record(self.groups[title].add_argument(*names, **known))
 
     def record(self, action: argparse.Action) -> argparse.Action:
-        """Keep the field of an argument."""
+        """Store the name of the field that holds an option's value."""
         self.fields.update(dict.fromkeys(action.option_strings, action.dest))
         return action
 
     def format_help(self) -> str:
-        """Return the help; of installed tools with their installed names and the paths of
-        documents."""
+        """Return the help. In an installed tool, use the installed names of the tools and the full
+        paths of the documents."""
         text = super().format_help()
         if not self.prog.startswith(INSTALLED):
             return text
@@ -82,7 +82,7 @@ class ToolParser(argparse.ArgumentParser):
         return re.sub(r"(?<![\w/])docs/(?=\w)", lambda _: os.path.join(HOME, "docs", ""), text)
 
     def _print_message(self, message: str, file: IO[str] | None = None) -> None:
-        """Print the help or the version; argparse would ignore an error of writing."""
+        """Print the help or the version. The method of `argparse` would ignore a write error."""
         (file or sys.stderr).write(message)
 
     def error(self, message: str) -> NoReturn:
@@ -90,7 +90,7 @@ class ToolParser(argparse.ArgumentParser):
 
 
 def decode_page(text: str) -> tuple[int, int] | None:
-    """Return the magazine and the number of a page as 888; `None` if the text names none."""
+    """Return the magazine and the number of a page such as 888, or `None` if it is not valid."""
     if len(text) != 3 or text[0] not in "12345678":
         return None
     try:
@@ -101,7 +101,7 @@ def decode_page(text: str) -> tuple[int, int] | None:
 
 
 def parse_page(text: str) -> tuple[int, int]:
-    """Parse a page as 888: its magazine (0 is 8) and its number."""
+    """Return the magazine (0 means 8) and the number of a page such as 888."""
     page = decode_page(text)
     if page is None:
         raise argparse.ArgumentTypeError(f"{text} is not a page: give a digit 1 to 8 and two "
@@ -110,7 +110,7 @@ def parse_page(text: str) -> tuple[int, int]:
 
 
 def parse_time(text: str) -> int:
-    """Parse a time of the day to its frame."""
+    """Return the frame of a time of day HH:MM:SS:FF."""
     frame = frame_of(text)
     if frame is None:
         raise argparse.ArgumentTypeError(
@@ -119,7 +119,7 @@ def parse_time(text: str) -> int:
 
 
 def parse_number(text: str, least: int, most: int, refusal: str) -> int:
-    """Return a decimal number within bounds; leading zeros change nothing."""
+    """Return a decimal number from `least` to `most`; leading zeros are allowed."""
     digits = text.lstrip("0") or "0"
     is_number = text.isascii() and text.isdecimal() and len(digits) <= len(str(most))
     if not is_number or not least <= int(digits) <= most:
@@ -128,12 +128,12 @@ def parse_number(text: str, least: int, most: int, refusal: str) -> int:
 
 
 def parse_origin(text: str) -> int:
-    """Parse a PTS."""
+    """Return the PTS of frame 0, in ticks of 90 kHz."""
     return parse_number(text, 0, CLOCK - 1, f"PTS: give 0 to {CLOCK - 1}")
 
 
 def parse_packet_range(text: str) -> tuple[int, int]:
-    """Parse the numbers of the first and the last PES packet."""
+    """Return the numbers of the first and the last PES packet of a range such as 0-99."""
     found = re.fullmatch(r"(\d{1,12})-(\d{1,12})", text, re.ASCII)
     if not found or int(found[1]) > int(found[2]):
         raise argparse.ArgumentTypeError(f"{text} is not a range of PES packets: give it as 0-99")
@@ -141,22 +141,22 @@ def parse_packet_range(text: str) -> tuple[int, int]:
 
 
 def parse_repeat_interval(text: str) -> int:
-    """Parse the maximum repeat interval, in frames."""
+    """Return the maximum repeat interval, in frames."""
     return parse_number(text, 1, MAX_EVERY, f"repeat interval: give 1 to {MAX_EVERY} frames")
 
 
 def parse_pes_interval(text: str) -> int:
-    """Parse the maximum PES interval, in frames."""
+    """Return the maximum PES interval, in frames."""
     return parse_number(text, 1, MAX_EVERY, f"PES interval: give 1 to {MAX_EVERY} frames")
 
 
 def parse_within(text: str) -> int:
-    """Parse the frames after which a page has to be complete."""
+    """Return the number of frames within which a page has to be complete."""
     return parse_number(text, 0, MAX_WITHIN, f"number of frames: give 0 to {MAX_WITHIN}")
 
 
 def parse_break_count(text: str) -> int:
-    """Parse a number of breaks."""
+    """Return the number of breaks."""
     if not (text.isascii() and text.isdecimal() and len(text) <= MAX_DIGITS):
         raise argparse.ArgumentTypeError(f"{text} is not a number of breaks: give 0 to "
                                          f"{10 ** MAX_DIGITS - 1}")
@@ -164,7 +164,7 @@ def parse_break_count(text: str) -> int:
 
 
 def parse_start(text: str) -> str:
-    """Check the time code of the first picture, or `tcp`."""
+    """Return the time code of the first picture, or `tcp`, after checking it."""
     if text != TCP_WORD and frame_of(text) is None:
         raise argparse.ArgumentTypeError(
             f"{text} is not a time code: give HH:MM:SS:FF, 25 frames a second, or {TCP_WORD}")
@@ -172,7 +172,7 @@ def parse_start(text: str) -> str:
 
 
 def parse_pid(text: str) -> int:
-    """Parse a PID, decimal or as 0x101."""
+    """Return a PID, given as a decimal number or as 0x101."""
     try:
         pid = int(text, 0)
     except ValueError:
@@ -183,39 +183,39 @@ def parse_pid(text: str) -> int:
 
 
 def format_pid(pid: int) -> str:
-    """Return a PID as all tools print it."""
+    """Return a PID as text, such as `PID 0x101`."""
     return f"PID 0x{pid:X}"
 
 
 def stream_options(pid: int | None, packet_size: int = PACKET_SIZE) -> list[str]:
-    """Return the program's options for a PID of a transport stream; none for PES packets."""
+    """Return the options that select a PID of a transport stream; none for a PES file."""
     if pid is None:
         return []
     size = ["--packet-size", str(packet_size)] if packet_size != PACKET_SIZE else []
     return ["--pid", f"0x{pid:X}", *size]
 
 
-# The usual delays of an inserter.
+# The usual delays of a subtitle inserter
 
-MAX_SHARE = 1_000_000  # a share may be a count, or a percentage
+MAX_SHARE = 1_000_000  # a share is a number of cues or a percentage
 SHARE = re.compile(r"([0-9]{1,2}):([0-9]{1,7})", re.ASCII)
 
 
 class Lateness(NamedTuple):
-    """How often in-cues and out-cues have each delay in frames, from `--late 0:31,1:40/0:100`.
-    Shares need no fixed sum; a delay without a share was not seen."""
+    """The shares of in-cues and of out-cues with each delay in frames, as in the option
+    `--late 0:31,1:40/0:100`. Their sum does not matter; no cue had a delay that is not listed."""
 
     begins: Mapping[int, int]
     ends: Mapping[int, int]
 
     @property
     def longest(self) -> int:
-        """Return the longest delay."""
+        """Return the longest delay in frames."""
         return max(*self.begins, *self.ends)
 
 
 def parse_lateness(text: str) -> Lateness:
-    """Parse `0:31,1:40,2:29/0:100`: the shares of in-cues, after the slash of out-cues."""
+    """Parse shares such as `0:31,1:40/0:100`: those of in-cues, a slash, and those of out-cues."""
     kinds = text.split("/")
     if len(kinds) != 2:
         raise argparse.ArgumentTypeError(
@@ -225,7 +225,7 @@ def parse_lateness(text: str) -> Lateness:
 
 
 def parse_shares(text: str) -> dict[int, int]:
-    """Parse `0:31,1:40`: the share of each delay, delays rising."""
+    """Return the share of each delay from text such as `0:31,1:40`, with the delays rising."""
     shares: dict[int, int] = {}
     for piece in text.split(","):
         found = SHARE.fullmatch(piece)
@@ -240,12 +240,12 @@ def parse_shares(text: str) -> dict[int, int]:
 
 
 def format_lateness(late: Lateness) -> str:
-    """Format shares of delays as they are typed."""
+    """Return shares of delays as text for the option --late."""
     return "/".join(",".join(f"{delay}:{share}" for delay, share in kind.items())
                     for kind in late)
 
 
-# Options that several tools have.
+# Options of several tools
 
 def add_page(parser: ToolParser) -> None:
     """Add the option --page, 888 by default."""
@@ -266,50 +266,50 @@ def add_verbose(parser: ToolParser) -> None:
 
 
 def counted(count: int, thing: str) -> str:
-    """Return a count with its noun: `1 fault`, `2 faults`."""
+    """Return a number with its noun, such as `1 fault` or `2 faults`."""
     return f"{count} {thing}" if count == 1 else f"{count} {thing}s"
 
 
 def format_frame_range(least: int, most: int) -> str:
-    """Return a range of frames: `1 frame`, `0 to 2 frames`."""
+    """Return a range of frames as text, such as `1 frame` or `0 to 2 frames`."""
     return counted(most, "frame") if least == most else f"{least} to {counted(most, 'frame')}"
 
 
 def escape_hidden(text: str) -> str:
-    """Return a text for terminals and text files: control characters, characters that change the
-    writing direction, and bytes that are not UTF-8 become as \\x1b."""
+    """Escape control characters, characters that change the writing direction, and bytes that are
+    not UTF-8 (as \\x1b), so that a text is safe for terminals and text files."""
     return HIDDEN.sub(lambda found: escape_character(found[0]), text)
 
 
 def escape_hidden_lines(text: str) -> str:
-    """Return a text of several lines like `escape_hidden`, for pages and tables."""
+    """Escape hidden characters in a text of several lines; keep the line ends."""
     return "\n".join(map(escape_hidden, text.split("\n")))
 
 
 def escape_character(letter: str) -> str:
-    """Return a character as its number, or as its byte if it is not UTF-8."""
+    """Return the escape sequence of a character, or of a byte that is not UTF-8."""
     code = ord(letter)
     is_byte = 0xDC80 <= code <= 0xDCFF
     return f"\\x{code & 0xFF:02x}" if is_byte or code < 0x80 else f"\\u{code:04x}"
 
 
 def quote_argument(word: str) -> str:
-    """Quote a word for a shell; like bash, if it has hidden characters."""
+    """Quote an argument for a shell; if it has hidden characters, use the syntax of bash."""
     if not HIDDEN.search(word):
         return shlex.quote(word)
     return "$'" + escape_hidden(word.replace("\\", "\\\\").replace("'", "\\'")) + "'"
 
 
 def print_stdout(line: str) -> None:
-    """Print a line on standard output at once."""
+    """Print a line on standard output and flush it."""
     print(escape_hidden(line), flush=True)
 
 
 def print_stderr(line: str) -> None:
-    """Print a line on standard error, after earlier output. No status depends on standard error: it
-    may be closed, or on a full disk."""
-    with contextlib.suppress(OSError, AttributeError):  # it is closed
-        sys.stdout.flush()  # `run` reports an error
+    """Print a line on standard error, after earlier output. Ignore errors, since standard error may
+    be closed or on a full disk."""
+    with contextlib.suppress(OSError, AttributeError):  # standard output is closed
+        sys.stdout.flush()  # `run_main` reports an error
     try:
         sys.stderr.write(f"{os.path.basename(sys.argv[0])}: {escape_hidden(line)}\n")
         sys.stderr.flush()
@@ -318,13 +318,13 @@ def print_stderr(line: str) -> None:
 
 
 def run(main: Callable[[list[str]], int]) -> NoReturn:
-    """Call `main` with the arguments of this call and exit with its status."""
+    """Call `main` with the command-line arguments and exit with its status."""
     sys.exit(run_main(main, sys.argv[1:]))
 
 
 def run_main(main: Callable[[list[str]], int], words: Sequence[str]) -> int:
-    """Return the status of `main`, 0 after --help and --version; 2, with one line, if it ends
-    early."""
+    """Call `main` and return its status. After an exception, print one line on standard error and
+    return 2."""
     try:
         if sys.stdout is None:
             raise Stop("standard output is closed")
@@ -332,7 +332,7 @@ def run_main(main: Callable[[list[str]], int], words: Sequence[str]) -> int:
         sys.stdout.flush()
     except (Exception, KeyboardInterrupt) as reason:
         status = 2
-        with contextlib.suppress(KeyboardInterrupt):  # of a second signal
+        with contextlib.suppress(KeyboardInterrupt):  # from a second signal
             print_stderr(format_error(reason))
         with contextlib.suppress(KeyboardInterrupt):
             discard_output(sys.stdout)
@@ -340,7 +340,7 @@ def run_main(main: Callable[[list[str]], int], words: Sequence[str]) -> int:
 
 
 def call_main(main: Callable[[list[str]], int], words: Sequence[str]) -> int:
-    """Return the status of `main`; 0 after --help and --version."""
+    """Call `main` and return its status, which is 0 after --help and --version."""
     try:
         return main([*words])
     except SystemExit as end:
@@ -348,8 +348,8 @@ def call_main(main: Callable[[list[str]], int], words: Sequence[str]) -> int:
 
 
 def format_error(reason: BaseException) -> str:
-    """Return the line for an error that ended a tool. With SUBTTX_DEBUG=1 print the traceback of an
-    internal error."""
+    """Return the message for an exception that ended a tool. If SUBTTX_DEBUG is 1, print the
+    traceback of an internal error."""
     if isinstance(reason, KeyboardInterrupt):
         return "stopped"
     if isinstance(reason, MemoryError):
@@ -366,7 +366,7 @@ def format_error(reason: BaseException) -> str:
 
 
 def locate_error(reason: BaseException) -> str:
-    """Return the file and the line of an error."""
+    """Return the file name and line number at which an exception was raised."""
     trace = reason.__traceback__
     while trace and trace.tb_next:
         trace = trace.tb_next
@@ -375,7 +375,7 @@ def locate_error(reason: BaseException) -> str:
 
 
 def discard_output(out: TextIO | None) -> None:
-    """Redirect a stream that failed to /dev/null: Python writes to it once more at exit."""
+    """Redirect a stream that failed to /dev/null, because Python writes to it again at exit."""
     with contextlib.suppress(OSError):
-        if out is not None:  # None if it was closed from the start
+        if out is not None:  # None if the tool was started with it closed
             os.dup2(os.open(os.devnull, os.O_WRONLY), out.fileno())

@@ -1,4 +1,4 @@
-"""Files: read with a limit, written completely or not at all, summed up (SHA-256)."""
+"""Read files with a limit, write them completely or not at all, and compute their SHA-256."""
 from __future__ import annotations
 
 import contextlib
@@ -17,11 +17,11 @@ from typing import BinaryIO, Iterator, NamedTuple, Tuple, TypeVar
 from .command_line import Stop
 
 
-# Files that are read: opened without waiting, checked once they are open, read with a limit.
+# Input files are opened without blocking, checked once they are open, and read with a limit.
 
 STANDARD = "-"  # standard input or output, as the name of a file
-READ_SIZE = 1 << 20  # bytes of one read, at most
-SPECIAL = ("-", "=", "+", "@")  # the beginning of an option or a formula
+READ_SIZE = 1 << 20  # maximum number of bytes to read at once
+SPECIAL = ("-", "=", "+", "@")  # first characters of options and of spreadsheet formulas
 FILE_KINDS = ((stat.S_ISDIR, "a folder"), (stat.S_ISFIFO, "a pipe"), (stat.S_ISCHR, "a device"),
               (stat.S_ISBLK, "a device"), (stat.S_ISLNK, "a link"), (stat.S_ISSOCK, "a socket"))
 
@@ -29,23 +29,23 @@ KINDS_BY_ERROR = {errno.ENXIO: "a socket", errno.ELOOP: "a link", errno.EISDIR: 
 
 
 class Damaged(Exception):
-    """Bytes that can't be read further; the text says where and why."""
+    """Raised if damaged data can't be read further; the message says where and why."""
 
 
 InputType = TypeVar("InputType", bound="Input")
 
 
 class Input:
-    """A file that is read as it arrives. Errors have its name as typed; `-` is standard input."""
+    """A file to read while it is written. Errors contain its name as typed; `-`: standard input."""
 
-    is_stream = True  # more may arrive
+    is_stream = True  # more data may arrive
 
     def __init__(self, name: str) -> None:
         self.name = name
         self.file = self.open()
 
     def open(self) -> BinaryIO:
-        """Open it."""
+        """Open the file for reading, without a buffer."""
         is_standard = self.name == STANDARD
         with name_errors(self.name):
             return open(0 if is_standard else self.name, "rb", buffering=0,
@@ -58,8 +58,8 @@ class Input:
         self.file.close()
 
     def read(self, size: int = READ_SIZE, /) -> bytes:
-        """Return the bytes that are available, at least one before the end: do not wait for a full
-        buffer."""
+        """Return the bytes that are available, without waiting for a full buffer. Return at least
+        one byte, except at the end of the file."""
         with name_errors(self.name):
             data: bytes | None = self.file.read(size)
             while data is None:  # nothing has arrived yet
@@ -72,7 +72,7 @@ class Input:
 
 @contextlib.contextmanager
 def name_errors(name: str) -> Iterator[None]:
-    """Give a system's error the name that was typed."""
+    """Set the file name of an `OSError` to the name that the user typed."""
     try:
         yield
     except OSError as error:
@@ -81,14 +81,14 @@ def name_errors(name: str) -> Iterator[None]:
 
 
 def describe_kind(mode: int) -> str | None:
-    """Return what kind of thing has a mode; `None` for a file."""
+    """Return a description such as `a folder` for a file mode; `None` for a regular file."""
     return next((words for is_one, words in FILE_KINDS if is_one(mode)), None)
 
 
 class File(Input):
-    """A file to read. It is opened without waiting and checked once it is open, since a name may be
-    given to something else. What is no file is refused; a pipe, if allowed, is waited for until
-    somebody writes to it."""
+    """A regular file to read, or a pipe if that is allowed; anything else is refused. It is opened
+    without blocking and checked once it is open, since another file may get its name in between.
+    If it is a pipe, wait until a program writes to it."""
 
     def __init__(self, name: str, may_be_pipe: bool = False, is_followed: bool = True) -> None:
         self.flags = os.O_RDONLY | os.O_NONBLOCK | os.O_NOCTTY | os.O_CLOEXEC
@@ -101,7 +101,7 @@ class File(Input):
             raise
 
     def open(self) -> BinaryIO:
-        """Open it; refuse a folder, a link or a socket."""
+        """Open the file without blocking; raise `Stop` for a folder, a link or a socket."""
         if self.name == STANDARD:
             return super().open()
         try:
@@ -115,7 +115,7 @@ class File(Input):
             raise Stop(f"{self.name} is {kind}") from None
 
     def look(self, may_be_pipe: bool) -> None:
-        """Check that it is a file, or an allowed pipe."""
+        """Raise `Stop` unless this is a regular file or an allowed pipe."""
         kind = describe_kind(os.fstat(self.file.fileno()).st_mode)
         self.is_stream = kind is not None
         is_endless = kind not in ("a pipe", "a socket") and not self.file.isatty()
@@ -124,12 +124,12 @@ class File(Input):
         if kind and self.name != STANDARD:
             ready = select.poll()
             ready.register(self.file, select.POLLIN)
-            ready.poll()  # until somebody writes to it
+            ready.poll()  # until a program writes to the pipe
 
 
 def read_first_bytes(name: str, most: int, may_be_pipe: bool = False,
                      is_followed: bool = True) -> bytes:
-    """Return the first bytes of a file."""
+    """Return the first `most` bytes of a file, or all if it has fewer."""
     data, left = [], most
     with File(name, may_be_pipe, is_followed) as file:
         while left and (piece := file.read(min(left, READ_SIZE))):
@@ -140,7 +140,7 @@ def read_first_bytes(name: str, most: int, may_be_pipe: bool = False,
 
 def read_bounded_bytes(name: str, most: int, may_be_pipe: bool = False, is_followed: bool = True) \
         -> bytes:
-    """Return all bytes of a file; `Stop` if it has more."""
+    """Return all bytes of a file; raise `Stop` if it has more than `most` bytes."""
     data = read_first_bytes(name, most + 1, may_be_pipe, is_followed)
     if len(data) > most:
         raise Stop(f"{name} has more than {most:,} bytes")
@@ -148,7 +148,7 @@ def read_bounded_bytes(name: str, most: int, may_be_pipe: bool = False, is_follo
 
 
 def read_chunks(name: str, may_be_pipe: bool = False) -> Iterator[bytes]:
-    """Yield all bytes of a file."""
+    """Yield the contents of a file in chunks of bytes."""
     with File(name, may_be_pipe) as file:
         yield from iter(file.read, b"")
 
@@ -157,12 +157,12 @@ Stamp = Tuple[int, ...]
 
 
 def make_stamp(about: os.stat_result) -> Stamp:
-    """Return what differs if a name leads to another file, or its file was written to."""
+    """Return a stamp of a file, which changes if the file is written to or replaced."""
     return about.st_dev, about.st_ino, about.st_size, about.st_mtime_ns, about.st_ctime_ns
 
 
 def read_stamp(path: str) -> Stamp | None:
-    """Return the stamps of a file and of the link to it, if any; `None` for a pipe or no file."""
+    """Return the stamps of a regular file and of the link to it; `None` for anything else."""
     with contextlib.suppress(OSError, ValueError):
         link, about = os.lstat(path), os.stat(path)
         if path != STANDARD and stat.S_ISREG(about.st_mode):
@@ -171,13 +171,13 @@ def read_stamp(path: str) -> Stamp | None:
 
 
 def make_safe_name(name: str) -> str:
-    """Return a name that is no option for a tool, no command for a shell, no formula for a table.
+    """Return a file name, with `./` in front if it could be mistaken for an option or a formula.
     """
     return os.path.join(".", name) if name.startswith(SPECIAL) else name
 
 
 def is_utf_8(name: str) -> bool:
-    """Return whether a name is UTF-8."""
+    """Return whether a file name is valid UTF-8."""
     try:
         name.encode()
     except UnicodeEncodeError:
@@ -185,40 +185,40 @@ def is_utf_8(name: str) -> bool:
     return True
 
 
-# Files that are written: completely or not at all, never over an input, and in a folder of results
-# never through a link.
+# Output files are written completely or not at all, and never over an input file. In a folder of
+# results no link is followed.
 
 STANDARD_OUTPUTS = {STANDARD, "/dev/stdout", "/dev/fd/1", "/proc/self/fd/1"}
-TEMPORARY_PREFIX = ".subttx-"  # of the name of a file while it is written
+TEMPORARY_PREFIX = ".subttx-"  # prefix of the name of a file that is not complete yet
 
 
 class OutputIsInput(Stop):
-    """An output is an input, too; it stays as it is."""
+    """Raised if an output file is also an input file, which is not changed."""
 
 
 class Inputs:
-    """Files that are read, which no output may replace under any name; nor may it replace a link
-    that named them. There may be thousands on a remote disk: they are looked at only if an output
-    exists."""
+    """The input files, which no output file may replace under any name. Nor may it replace a link
+    to them. Check their identities only if an output file exists: there may be thousands of input
+    files on a remote disk."""
 
     def __init__(self, *names: str | None) -> None:
         self.names = [name for name in names if name]
 
     @functools.cached_property
     def known(self) -> dict[tuple[int, int], str]:
-        """Return their names by device and inode."""
+        """Return the names of the input files by device and inode."""
         return {one: name for name in self.names for one in find_identities(name, True)}
 
     def refuse(self, path: str, is_followed: bool) -> None:
-        """Refuse to write to an input or to remove its name. If an input is gone, another file may
-        have its inode."""
+        """Raise `OutputIsInput` if writing to `path` would change an input file or remove its name.
+        Compare again on a match: if an input file was removed, another may have its inode."""
         for one in find_identities(path, is_followed):
             if one in self.known and one in find_identities(self.known[one], True):
                 raise OutputIsInput(f"{path} is also an input: give another name")
 
 
 def find_identities(name: str, is_followed: bool) -> set[tuple[int, int]]:
-    """Return device and inode of a name, and of the target if it is a link that is followed."""
+    """Return the device and inode of a file, and those of the target of a link to follow."""
     found = set()
     for follow in (False, True)[:1 + is_followed]:
         with contextlib.suppress(OSError, ValueError):
@@ -232,7 +232,7 @@ NO_INPUTS = Inputs()
 
 
 def refuse_output_name(name: str) -> None:
-    """Refuse a name under which nothing can be written, before any work."""
+    """Raise `Stop` before any work if no output file can have this name."""
     target = os.path.realpath(name)
     if name != STANDARD and not os.path.isdir(os.path.dirname(target)):
         raise Stop(f"{name}: {os.strerror(errno.ENOENT)}")
@@ -242,10 +242,10 @@ def refuse_output_name(name: str) -> None:
 
 @contextlib.contextmanager
 def open_output(path: str) -> Iterator[BinaryIO]:
-    """Open an output of the operator, following links. It takes its name only if all goes well;
-    else that stays as it was.
+    """Open an output file that the operator named, following links. Replace an earlier file only
+    after all data are written without an error.
 
-    A device and standard output, `-`, are written directly.
+    Write directly to a pipe, a device or standard output, `-`.
     """
     if path in STANDARD_OUTPUTS:
         with open_standard_output() as file:
@@ -261,32 +261,32 @@ def open_output(path: str) -> Iterator[BinaryIO]:
 
 @contextlib.contextmanager
 def open_result(path: str, is_stored: bool = False) -> Iterator[BinaryIO]:
-    """Open an output in a folder of results, which others may use: a link is replaced, not
-    followed. A stored one survives a stop of the machine."""
+    """Open an output file in a folder of results. Replace a link instead of following it, since
+    other users may write to the folder. If `is_stored`, the file survives a power failure."""
     yield from open_replacement(path, path, is_stored)
 
 
 def is_replaced(path: str) -> bool:
-    """Return whether `open_output` replaces an earlier output; pipes, devices and standard output
-    keep it."""
+    """Return whether `open_output` writes a new file and renames it to `path`; false for a pipe, a
+    device or standard output."""
     return path not in STANDARD_OUTPUTS and (
         not os.path.exists(path) or stat.S_ISREG(os.stat(path).st_mode))
 
 
 @contextlib.contextmanager
 def open_standard_output() -> Iterator[BinaryIO]:
-    """Open standard output for bytes, without Python's buffer."""
+    """Open standard output for bytes, after flushing the text that Python has buffered."""
     sys.stdout.flush()
     with open(sys.stdout.fileno(), "wb", closefd=False) as file:
         yield file
 
 
 def open_replacement(path: str, target: str, is_stored: bool = False) -> Iterator[BinaryIO]:
-    """Open a file that takes the name `target` at the end; errors have `path`."""
+    """Open a temporary file and rename it to `target` at the end. Errors contain `path`."""
     name = make_temporary_name(os.path.dirname(target), TEMPORARY_PREFIX)
     try:
         with name_errors(path):
-            file = open(name, "xb")  # x: refuse a link of that name
+            file = open(name, "xb")  # x: fail if there is a link with that name
         with close_after_writing(file, path):
             yield file
             if is_stored:
@@ -297,12 +297,12 @@ def open_replacement(path: str, target: str, is_stored: bool = False) -> Iterato
         if is_stored:
             sync_folder(os.path.dirname(target))
     finally:
-        with contextlib.suppress(OSError):  # it was renamed
+        with contextlib.suppress(OSError):  # after the rename it no longer exists
             os.unlink(name)
 
 
 def sync_folder(folder: str) -> None:
-    """Store the names in a folder, if its file system can do that."""
+    """Write the file names of a folder to disk, if its file system supports that."""
     handle = os.open(folder, os.O_RDONLY | os.O_DIRECTORY | os.O_CLOEXEC)
     with contextlib.suppress(OSError):
         os.fsync(handle)
@@ -310,13 +310,13 @@ def sync_folder(folder: str) -> None:
 
 
 def make_temporary_name(folder: str, begin: str) -> str:
-    """Return a new name; it is known before the file exists, so that a signal can remove it."""
+    """Return a random name for a temporary file, so that it can be removed even after a signal."""
     return os.path.join(folder, begin + os.urandom(8).hex())
 
 
 @contextlib.contextmanager
 def make_temporary_folder(begin: str) -> Iterator[str]:
-    """Make a folder that is removed at the end, whenever a signal comes."""
+    """Make a temporary folder, and remove it at the end, even if a signal arrives."""
     path = make_temporary_name(tempfile.gettempdir(), begin)
     try:
         os.mkdir(path, 0o700)
@@ -324,13 +324,13 @@ def make_temporary_folder(begin: str) -> Iterator[str]:
     finally:
         try:
             shutil.rmtree(path, ignore_errors=True)
-        finally:  # also if a signal came meanwhile
+        finally:  # again, if a signal interrupted the removal
             shutil.rmtree(path, ignore_errors=True)
 
 
 @contextlib.contextmanager
 def close_after_writing(file: BinaryIO, path: str) -> Iterator[None]:
-    """Close a file; an error without a name is an error of writing to it."""
+    """Close a file at the end; give an `OSError` without a file name the name `path`."""
     try:
         with file:
             yield
@@ -341,11 +341,11 @@ def close_after_writing(file: BinaryIO, path: str) -> Iterator[None]:
 
 # SHA-256 and sizes of files.
 
-BUFFER_SIZE = 1 << 18  # bytes of one read
+BUFFER_SIZE = 1 << 18  # bytes to read at once
 
 
 class SummedFile(NamedTuple):
-    """A file that was read: its name as typed, its size and its SHA-256."""
+    """The name of a file as the user typed it, its size in bytes and its SHA-256."""
 
     name: str
     size: int
@@ -353,7 +353,7 @@ class SummedFile(NamedTuple):
 
 
 class BackgroundSum:
-    """Sum up a file in the background."""
+    """A thread that computes the SHA-256 of a file."""
 
     def __init__(self, name: str) -> None:
         self.name, self.found = name, list[SummedFile]()
@@ -363,15 +363,15 @@ class BackgroundSum:
             self.thread.start()
 
     def work(self) -> None:
-        """Sum up the file."""
+        """Compute the SHA-256; store an error for `result`."""
         try:
             self.found.append(sum_file(self.name, self.name))
         except (Stop, OSError) as reason:
             self.reason = reason
 
     def result(self) -> SummedFile:
-        """Return the file with its sum, once that is known."""
-        if self.thread.ident is None:  # it was not started
+        """Wait for the thread, and return the size and SHA-256 of the file or raise its error."""
+        if self.thread.ident is None:  # the thread was not started
             self.work()
         else:
             self.thread.join()
@@ -381,7 +381,7 @@ class BackgroundSum:
 
 
 def sum_file(path: str, name: str) -> SummedFile:
-    """Return the sum of a file, under the name that was typed."""
+    """Return the size and SHA-256 of the file at `path`, with the name that the user typed."""
     digest, room, size = hashlib.sha256(), memoryview(bytearray(BUFFER_SIZE)), 0
     with File(path) as file:
         while count := file.file.readinto(room):  # type: ignore[attr-defined]

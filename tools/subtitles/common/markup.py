@@ -1,4 +1,4 @@
-"""Markup for pages. Text becomes markup only by escaping."""
+"""Markup for HTML pages. Text is escaped before it becomes part of the markup."""
 from __future__ import annotations
 
 import html
@@ -8,13 +8,13 @@ from typing import Iterable, Union
 from .command_line import escape_hidden_lines
 
 
-# A page has its style in it, and loads, runs, sends and frames nothing.
+# The style is part of the page. The page loads nothing, runs no script and sends no form.
 POLICY = ("default-src 'none'; style-src 'unsafe-inline'; base-uri 'none'; form-action 'none'")
 ANCHOR = re.compile(' id="| href="#')
 
 
 class Markup:
-    """Escaped markup. It can't be mixed up with text: neither is put into the other by mistake."""
+    """Escaped markup. It is a separate class, so that it can't be mistaken for unescaped text."""
 
     __slots__ = ("source",)
 
@@ -34,16 +34,16 @@ class Markup:
         return Markup(self.source * times)
 
     def capital(self) -> Markup:
-        """Return it with a capital letter in front."""
+        """Return this markup with its first letter in upper case."""
         return Markup(self.source[:1].upper() + self.source[1:])
 
     def anchored(self, prefix: str) -> Markup:
-        """Return it with a prefix for each anchor and each link to one: a page has several parts.
-        Text has no quotes, so that these patterns match only in tags."""
+        """Add a prefix to each anchor and each link to an anchor, since a page has several parts.
+        Quotes in text are escaped, so these patterns match only in tags."""
         return Markup(ANCHOR.sub(lambda found: found[0] + prefix, self.source))
 
     def page(self) -> bytes:
-        """Return the bytes of a page."""
+        """Return this markup as the bytes of a page, in UTF-8."""
         return self.source.encode("utf-8", "replace")
 
 
@@ -51,30 +51,30 @@ Value = Union[Markup, str, int, float]
 
 
 def escape(text: str) -> str:
-    """Return a text as XML, with hidden characters by number."""
+    """Escape a text for XML; replace hidden characters by their numbers."""
     return html.escape(escape_hidden_lines(text))
 
 
 def markup(template: str, *values: Value) -> Markup:
-    """Fill a template, which has to be a literal, as a test checks: its places `{}` take markup,
-    numbers and text, which is escaped. A place within a tag has quotes."""
+    """Replace each `{}` in a template by markup, a number, or text, which is escaped. The template
+    has to be a literal, which a test checks; a `{}` within a tag has to be in quotes."""
     return Markup(template.format(*map(format_value, values)))
 
 
 def format_value(value: Value) -> str | int | float:
-    """Return a value as it is put into markup."""
+    """Return a value for a template; text is escaped."""
     if isinstance(value, Markup):
         return value.source
     return escape(value) if isinstance(value, str) else value
 
 
 def join_markup(parts: Iterable[Value], between: Value = "") -> Markup:
-    """Join values with something between them."""
+    """Join values as markup, with `between` as the separator."""
     return Markup(str(format_value(between)).join(str(format_value(one)) for one in parts))
 
 
 def read_style(path: str) -> Markup:
-    """Return the style of a page, from a file of these tools."""
+    """Return the style of a page from a CSS file."""
     with open(path, encoding="utf-8") as file:
         return Markup(file.read())
 

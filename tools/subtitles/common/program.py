@@ -1,4 +1,4 @@
-"""The built program, its line in PROVED, and its installation."""
+"""Find the built program and its proof, and install the program and the tools."""
 from __future__ import annotations
 
 import functools
@@ -14,13 +14,13 @@ from .command_line import INSTALLED, Stop, version
 from .files import Stamp, sum_file, name_errors, make_stamp
 
 
-# The program of this repository that ./subttx runs.
+# The program that ./subttx runs in this repository
 
 TOP = os.path.realpath(os.path.join(os.path.dirname(__file__), "..", "..", ".."))
 
 
 def sources() -> str:
-    """Return the line that changes with each source of the program."""
+    """Return the checksum line of the program's sources from `tools/sources`."""
     done = subprocess.run([os.path.join(TOP, "tools", "sources")], stdin=subprocess.DEVNULL,
                           stdout=subprocess.PIPE, check=False)
     if done.returncode:
@@ -29,14 +29,14 @@ def sources() -> str:
 
 
 def find_program(top: str) -> tuple[str, str]:
-    """Return the program's path in a repository by tools/program, and why there is none."""
+    """Return the path that `tools/program` prints in a repository, and its error message."""
     done = subprocess.run([os.path.join(top, "tools", "program")], stdin=subprocess.DEVNULL,
                           stdout=subprocess.PIPE, stderr=subprocess.PIPE, check=False)
     return done.stdout.decode().rstrip("\n"), done.stderr.decode().strip()
 
 
 def find_built_program(path: str | None = None) -> str:
-    """Return the program at `path`, or the one that was built from the current sources."""
+    """Return the program at `path`, or by default the one built from the current sources."""
     if path:
         if os.path.isdir(path) or not os.access(path, os.X_OK):
             raise Stop(f"{path} is not an executable program")
@@ -48,7 +48,7 @@ def find_built_program(path: str | None = None) -> str:
 
 
 def resolve_script(path: str) -> str:
-    """Return the program that a repository's script ./subttx runs; else the path itself."""
+    """Return the program that the script ./subttx of a repository runs; otherwise return `path`."""
     top = os.path.dirname(os.path.realpath(path))
     with open(path, "rb") as file:
         is_script = file.read(2) == b"#!"
@@ -58,21 +58,21 @@ def resolve_script(path: str) -> str:
 
 
 def read(path: str) -> str | None:
-    """Return the text of a file; `None` if there is none."""
+    """Return the text of a file; `None` if the file does not exist."""
     if not os.path.isfile(path):
         return None
     with open(path, encoding="utf-8", errors="replace") as file:
         return file.read()
 
 
-# The program of a verdict: its version, its sum, the prover's line.
+# The version, the SHA-256 and the proof of the program, for a verdict
 
-PROVED = "PROVED"  # in the program's folder, or in the one above if it is installed
+PROVED = "PROVED"  # file next to the program, or in the folder above if it is installed
 PROVED_LINE = re.compile(r"crate subttx \S+ (logic=proved .*)")
 
 
 class ProgramInfo(NamedTuple):
-    """The version of the tools, and the program's SHA-256 and line of the prover."""
+    """The version of the tools, the SHA-256 of the program, and the prover's line about it."""
 
     version: str
     sha256: str
@@ -80,7 +80,7 @@ class ProgramInfo(NamedTuple):
 
 
 def describe_program(path: str) -> ProgramInfo:
-    """Return version, SHA-256 and proof of the program at a path."""
+    """Return the version, the SHA-256 and the proof of the program at a path."""
     real = os.path.realpath(resolve_script(path))
     with name_errors(path):
         about = os.stat(real)
@@ -90,12 +90,12 @@ def describe_program(path: str) -> ProgramInfo:
 
 @functools.lru_cache(maxsize=None)
 def compute_sum(path: str, like: Stamp) -> str:
-    """Return the sum of a file, computed once while its stamp stays the same."""
+    """Return the SHA-256 of a file; compute it again only if the stamp has changed."""
     return sum_file(path, path).sha256
 
 
 def find_proved_line(program: str, sha256: str) -> str | None:
-    """Return the prover's line from the file PROVED that has this program's sum."""
+    """Return the prover's line from the file PROVED that has the SHA-256 of this program."""
     beside = os.path.dirname(program)
     for folder in (beside, os.path.dirname(beside), os.path.join(TOP, "dist")):
         lines = (read(os.path.join(folder, PROVED)) or "").splitlines()
@@ -105,7 +105,7 @@ def find_proved_line(program: str, sha256: str) -> str | None:
     return None
 
 
-# The installation: the program, man pages, tools, documents.
+# Install the program, man pages, tools and documents
 
 TOOLS = ["qc", "air"]
 PAGES = ["subttx.1", "subttx-qc.1", "subttx-air.1"]
@@ -115,12 +115,12 @@ COMPLETION = os.path.join("tools", "completion.bash")
 HOME = os.path.join("lib", "subttx")
 MAN = os.path.join("share", "man", "man1")
 COMPLETIONS = os.path.join("share", "bash-completion", "completions")
-FOLDERS = "FOLDERS"  # in HOME: new folders that others may use too
+FOLDERS = "FOLDERS"  # file in HOME: the shared folders that the installation made
 LINK = re.compile(r"!?\[([^\]]*)\]\(([^)\s#]+)[^)\s]*\)")
 
 
 def copy(source: str, target: str, mode: int = 0o644) -> None:
-    """Copy a file under another name first, so that a running program can be replaced."""
+    """Copy a file under a temporary name and rename it: this can replace a running program."""
     os.makedirs(os.path.dirname(target), exist_ok=True)
     shutil.copyfile(source, target + ".new")
     os.chmod(target + ".new", mode)
@@ -128,7 +128,7 @@ def copy(source: str, target: str, mode: int = 0o644) -> None:
 
 
 def write(path: str, text: str) -> None:
-    """Write a text in the same way."""
+    """Write a text file under a temporary name and rename it."""
     os.makedirs(os.path.dirname(path), exist_ok=True)
     with open(path + ".new", "w", encoding="utf-8") as file:
         file.write(text)
@@ -136,7 +136,7 @@ def write(path: str, text: str) -> None:
 
 
 def link(words: str, name: str) -> None:
-    """Make a symbolic link."""
+    """Make a symbolic link, replacing an earlier file."""
     os.makedirs(os.path.dirname(name), exist_ok=True)
     if os.path.lexists(name):
         os.remove(name)
@@ -144,7 +144,7 @@ def link(words: str, name: str) -> None:
 
 
 def copy_tools(prefix: str) -> None:
-    """Copy the tools, their packages and the files that they read."""
+    """Copy the tools, their Python packages, and the documents that they name."""
     home = os.path.join(prefix, HOME)
     shutil.rmtree(os.path.join(home, "tools"), ignore_errors=True)
     for name in TOOLS:
@@ -159,16 +159,16 @@ def copy_tools(prefix: str) -> None:
 
 
 def compile_tools(prefix: str) -> None:
-    """Compile the packages once for all calls, without times: PREFIX may be moved or restored."""
-    import compileall  # only here: it is slow
+    """Compile the Python packages. Ignore file times, since the installation may be moved later."""
+    import compileall  # imported only here because it is slow
     import py_compile
-    sys.pycache_prefix = None  # into the folder of the tools
+    sys.pycache_prefix = None  # store the compiled files next to the sources
     compileall.compile_dir(os.path.join(prefix, HOME, "tools", "subtitles"), quiet=1,
                            invalidation_mode=py_compile.PycInvalidationMode.UNCHECKED_HASH)
 
 
 def list_documents() -> list[str]:
-    """Return README, the manual, and the files that these link, but for dist/."""
+    """Return README.md, the manual, and the files that they link to, except those in dist/."""
     names = list(READ)
     for name in names:
         text = (read(os.path.join(TOP, name)) or "") if name.endswith(".md") else ""
@@ -180,7 +180,7 @@ def list_documents() -> list[str]:
 
 
 def copy_documents(home: str) -> None:
-    """Copy documents and examples, without links to files that are not installed."""
+    """Copy documents and examples, and remove links to files that are not installed."""
     for folder in ("docs", "examples"):
         shutil.rmtree(os.path.join(home, folder), ignore_errors=True)
     shutil.copytree(os.path.join(TOP, "examples"), os.path.join(home, "examples"))
@@ -195,7 +195,7 @@ def copy_documents(home: str) -> None:
 
 
 def remove_dead_links(text: str, folder: str) -> str:
-    """Replace links to missing files in a document by their text."""
+    """Replace each link to a missing file in a document by the text of the link."""
     def kept(link: re.Match[str]) -> str:
         is_there = ":" in link[2] or os.path.exists(os.path.join(folder, link[2]))
         return link[0] if is_there else link[1]
@@ -204,7 +204,7 @@ def remove_dead_links(text: str, folder: str) -> str:
 
 
 def copy_completion(prefix: str) -> None:
-    """Install the completion of the program and of each tool."""
+    """Install the bash completion for the program and for each tool."""
     folder = os.path.join(prefix, COMPLETIONS)
     copy(os.path.join(TOP, COMPLETION), os.path.join(folder, "subttx"))
     for name in TOOLS:
@@ -212,7 +212,7 @@ def copy_completion(prefix: str) -> None:
 
 
 def install(program: str, prefix: str) -> list[str]:
-    """Install everything under a folder; return the files that a user calls or reads."""
+    """Install everything in a folder; return the paths of the commands and the man pages."""
     copy(program, os.path.join(prefix, "bin", "subttx"), 0o755)
     pages = [os.path.join(prefix, MAN, page) for page in PAGES]
     for page in pages:
@@ -224,7 +224,7 @@ def install(program: str, prefix: str) -> list[str]:
 
 
 def list_shared_folders(prefix: str) -> list[str]:
-    """Return the folders that others may use too, innermost first."""
+    """Return the installation's folders that other software may use too, innermost first."""
     names = ["bin", MAN, COMPLETIONS, "lib"]
     folders: list[str] = []
     for name in names:
@@ -235,7 +235,7 @@ def list_shared_folders(prefix: str) -> list[str]:
 
 
 def install_and_note(program: str, prefix: str) -> list[str]:
-    """Install and compile, and store for `remove` which folders are new."""
+    """Install and compile everything, and record the new folders for `remove`."""
     made = [os.path.relpath(path, prefix) for path in list_shared_folders(prefix)
             if not os.path.isdir(path)]
     paths = install(program, prefix)
@@ -247,8 +247,8 @@ def install_and_note(program: str, prefix: str) -> list[str]:
 
 
 def remove(prefix: str) -> list[str]:
-    """Remove an installation, and its folders unless they have other files; return what was
-    removed."""
+    """Remove an installation, and the folders that it made if they are empty. Return the removed
+    paths."""
     home = os.path.join(prefix, HOME)
     if not os.path.isfile(os.path.join(home, "tools", "qc")):
         raise Stop(f"{prefix} has no subttx: there is no {os.path.join(home, 'tools', 'qc')}")
@@ -270,7 +270,7 @@ def remove(prefix: str) -> list[str]:
 
 
 def find_installed_links(prefix: str) -> list[str]:
-    """Return the links to tools and completions, of any version."""
+    """Return the installed links to tools and completions of any version."""
     starts = {"bin": os.path.join("..", HOME, "tools", ""), COMPLETIONS: "subttx"}
     return [path for folder, start in starts.items()
             for path in sorted(glob.glob(os.path.join(glob.escape(prefix), folder,

@@ -1,4 +1,4 @@
-"""Kinds of JSON values: to write values, to check values that were read, to make a schema."""
+"""Types of JSON values, which write values, check values that were read, and make a schema."""
 from __future__ import annotations
 
 import itertools
@@ -9,41 +9,41 @@ from .command_line import NO_PID
 from .times import CLOCK
 
 
-# `misfit` returns the place that does not fit, as `.faults[3].number`; empty for the value
-# itself.
+# `find_misfit` returns the path of the first value that does not fit its type, such as
+# `.faults[3].number`; an empty path means the value itself.
 
-MAX_TEXT = 65_536  # characters of a text, by default
+MAX_TEXT = 65_536  # maximum length of a text in characters, by default
 Schema = dict[str, Any]
 
 
 class Shape:
-    """A kind of value. One that has a `name` is defined once in a schema, under it."""
+    """A type of JSON value. A type with a `name` is defined once in the schema, under that name."""
 
     name, meaning = "", ""
 
     def to_json(self, value: Any) -> Any:
-        """Return a value as it is written."""
+        """Return a value in the form that is written to JSON."""
         return value
 
     def find_misfit(self, value: object) -> str | None:
-        """Return where a value does not fit; `None` if it fits."""
+        """Return the path at which a value does not fit this type; `None` if it fits."""
         raise NotImplementedError
 
     def schema(self) -> Schema:
-        """Return the kind in a schema."""
+        """Return the JSON schema of this type."""
         raise NotImplementedError
 
     def inner_shapes(self) -> Iterator[Shape]:
-        """Yield the kinds that it contains."""
+        """Yield the types that this type contains."""
         return iter(())
 
     def make_reference(self) -> Schema:
-        """Return the kind as another one refers to it."""
+        """Return a schema that refers to this type, or its own schema if it has no name."""
         return {"$ref": f"#/definitions/{self.name}"} if self.name else self.schema()
 
 
 class Text(Shape):
-    """A text of limited length that matches a pattern. Without a pattern a longer text is cut."""
+    """A text of limited length that matches a pattern. Without a pattern, a long text is cut."""
 
     def __init__(self, pattern: str = "", most: int = MAX_TEXT, least: int = 0) -> None:
         self.pattern, self.most, self.least = pattern and re.compile(pattern), most, least
@@ -64,7 +64,7 @@ class Text(Shape):
 
 
 class Integer(Shape):
-    """A whole number between two bounds, inclusive."""
+    """An integer from `least` to `most`, inclusive."""
 
     def __init__(self, least: int, most: int) -> None:
         self.least, self.most = least, most
@@ -77,7 +77,7 @@ class Integer(Shape):
 
 
 class Number(Shape):
-    """A number from 0 to a bound."""
+    """A number from 0 to `most`, inclusive."""
 
     def __init__(self, most: int) -> None:
         self.most = most
@@ -85,14 +85,14 @@ class Number(Shape):
     def find_misfit(self, value: object) -> str | None:
         if isinstance(value, bool) or not isinstance(value, (int, float)):
             return ""
-        return None if 0 <= value <= self.most else ""  # neither NaN nor infinite
+        return None if 0 <= value <= self.most else ""  # false for NaN and infinity
 
     def schema(self) -> Schema:
         return {"type": "number", "minimum": 0, "maximum": self.most}
 
 
 class OneOf(Shape):
-    """One of some values: texts, numbers, true, `None`."""
+    """One of several constants, such as texts or numbers."""
 
     def __init__(self, *values: str | int | None) -> None:
         self.values = values
@@ -105,7 +105,7 @@ class OneOf(Shape):
 
 
 class Flag(Shape):
-    """True or false."""
+    """A Boolean value."""
 
     def find_misfit(self, value: object) -> str | None:
         return None if isinstance(value, bool) else ""
@@ -115,7 +115,7 @@ class Flag(Shape):
 
 
 class Maybe(Shape):
-    """A value of another kind, or `None`."""
+    """A value of another type, or `None`."""
 
     def __init__(self, shape: Shape) -> None:
         self.shape = shape
@@ -134,7 +134,7 @@ class Maybe(Shape):
 
 
 class Listed(Shape):
-    """A list of values of a kind; the last ones are omitted if there are too many."""
+    """A list of values of the same type; values after the first `most` are not written."""
 
     def __init__(self, shape: Shape, most: int, least: int = 0) -> None:
         self.shape, self.most, self.least = shape, most, least
@@ -161,17 +161,17 @@ class Listed(Shape):
 
 
 class Member(NamedTuple):
-    """A member of an object: its name, its kind, its meaning, and how to get it from the value that
-    is written; by default by the same name."""
+    """A member of a JSON object: its name, type and meaning. `getter` gets it from the value to
+    write; by default it is the attribute or item of the same name."""
 
     name: str
     shape: Shape
     meaning: str = ""
     getter: Callable[[Any], Any] | None = None
-    is_required: bool = True  # whether every object has it
+    is_required: bool = True  # whether every object has this member
 
     def to_json(self, value: Any) -> Any:
-        """Return the member of a value as it is written."""
+        """Return this member of a value in the form that is written to JSON."""
         if self.getter is not None:
             member = self.getter(value)
         else:
@@ -179,7 +179,7 @@ class Member(NamedTuple):
         return self.shape.to_json(member)
 
     def schema(self) -> Schema:
-        """Return the member in a schema, which allows nothing next to a reference."""
+        """Return the JSON schema of this member. No other key may be next to `$ref`."""
         known = self.shape.make_reference()
         if not self.meaning:
             return known
@@ -187,7 +187,7 @@ class Member(NamedTuple):
 
 
 class Record(Shape):
-    """An object with exactly these members. Each of `rules` has to fit, too."""
+    """A JSON object with exactly these members. It also has to fit each of `rules`."""
 
     def __init__(self, name: str, meaning: str, *members: Member,
                  rules: Sequence[Rules] = ()) -> None:
@@ -226,30 +226,30 @@ class Record(Shape):
 
 
 class Rules(NamedTuple):
-    """Alternatives for some members of an object; at least one has to fit."""
+    """Alternative types of some members of an object, at least one of which has to fit."""
 
     rows: Sequence[dict[str, Shape | Rules]]
 
     def find_misfit(self, value: Any) -> str | None:
-        """Return the first member of the first alternative, if none fits."""
+        """Return the path of the first member if no alternative fits; `None` if one fits."""
         is_one = any(all(shape.find_misfit(value[name]) is None for name, shape in row.items())
                      for row in self.rows)
         return None if is_one else f".{next(iter(self.rows[0]))}"
 
     def schema(self) -> Schema:
-        """Return all alternatives in a schema."""
+        """Return the JSON schema of the alternatives."""
         return {"anyOf": [{"properties": {name: shape.schema() for name, shape in row.items()}}
                           for row in self.rows]}
 
 
 def name_shape(name: str, shape: Shape, meaning: str = "") -> Shape:
-    """Name a kind, which is then defined once in a schema."""
+    """Give a type a name, under which it is defined once in the schema."""
     shape.name, shape.meaning = name, meaning
     return shape
 
 
 def make_definitions(shapes: Sequence[Shape]) -> Schema:
-    """Return the named kinds that some kinds contain, in order."""
+    """Return the schemas of all named types that are, or are contained in, some types."""
     known: Schema = {}
     waiting = [*shapes]
     while waiting:
@@ -263,10 +263,10 @@ def make_definitions(shapes: Sequence[Shape]) -> Schema:
     return known
 
 
-# Kinds of values that JSON results have in several places.
+# Types that occur in several places of JSON results
 
-Members = dict[str, Any]  # of a fault, cause or cell, by `results.schema`
-MAX_NUMBER = (1 << 53) - 1  # the greatest that every JSON reader keeps exactly
+Members = dict[str, Any]  # members of a fault, cause or cell, by name
+MAX_NUMBER = (1 << 53) - 1  # largest integer that every JSON parser reads exactly
 
 TIME = name_shape("time", Text(r"[0-9]{2}:[0-9]{2}:[0-9]{2}:[0-9]{2}"))
 COUNT = name_shape("count", Integer(0, MAX_NUMBER))

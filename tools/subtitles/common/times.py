@@ -1,4 +1,4 @@
-"""Times of the day, frames, PTS; spans of frames or of PES packets."""
+"""Times of day, frames and PTS, and spans of frames or of PES packets."""
 from __future__ import annotations
 
 import array
@@ -9,32 +9,32 @@ import re
 from typing import Callable, Iterable, Iterator, NamedTuple, Sequence, TypeVar
 
 
-# Times of the day, their frames at 25 a second, the PTS of a frame, and the frame of a PTS.
+# Times of day, frames at 25 a second, and PTS
 #
-# By default a PES packet has a frame only if its PTS is exactly that of the frame. With `check
-# --within N` a frame begins a quarter of a frame before its PTS, so that a PTS may be a little
-# early, and both fields are in one frame.
+# By default a PES packet belongs to a frame only if both have exactly the same PTS. With `check
+# --within N` a frame begins a quarter of a frame before its PTS, so that PES packets may be a
+# little early, and those of both fields belong to the same frame.
 
 FRAMES_A_SECOND = 25
 FRAMES_OF_A_DAY = 2_160_000
-CLOCK = 2**33  # a PTS has 33 bits
-TICKS = 3600  # of 90 kHz in a frame
-NO_FRAME = -1  # for a PTS without a frame; less than all frames
-EARLY_TICKS = TICKS // 4  # a PTS may be so early, with --within 1 or more
+CLOCK = 2**33  # number of ticks after which a PTS of 33 bits wraps around
+TICKS = 3600  # ticks of 90 kHz in a frame
+NO_FRAME = -1  # result for a PTS that belongs to no frame; less than every frame
+EARLY_TICKS = TICKS // 4  # most ticks by which a PTS may be early, with --within 1 or more
 
 
 class Between(NamedTuple):
-    """The frames from `begin` to before `end`; a subtitle is among them by its TCI."""
+    """The frames from `begin` up to `end`, exclusive. A subtitle belongs to its TCI's frame."""
 
     begin: int = 0
     end: int = FRAMES_OF_A_DAY
 
     def has(self, frame: int) -> bool:
-        """Return whether a frame is among them."""
+        """Return whether a frame is in this range."""
         return self.begin <= frame < self.end
 
     def words(self) -> list[str]:
-        """Return the options --from and --to for them, if they are not the whole day."""
+        """Return the options --from and --to for this range; none for the whole day."""
         return [*(["--from", time_of(self.begin)] if self.begin else []),
                 *(["--to", time_of(self.end)] if self.end < FRAMES_OF_A_DAY else [])]
 
@@ -43,14 +43,14 @@ ALL_DAY = Between()
 
 
 def frame_of(time: str) -> int | None:
-    """Return the frame of the day of HH:MM:SS:FF; `None` if it is no such time."""
+    """Return the frame of the day for a time HH:MM:SS:FF; `None` if the text is not valid."""
     if not re.fullmatch(r"\d\d:\d\d:\d\d:\d\d", time, re.ASCII):
         return None
     return frame_of_code(map(int, time.split(":")))
 
 
 def frame_of_code(code: Iterable[int]) -> int | None:
-    """Return the frame of the day of hours, minutes, seconds and frames; `None` if they are none.
+    """Return the frame of the day for hours, minutes, seconds and frames; `None` if out of range.
     """
     hours, minutes, seconds, frames = code
     if hours > 23 or minutes > 59 or seconds > 59 or frames > 24:
@@ -59,18 +59,18 @@ def frame_of_code(code: Iterable[int]) -> int | None:
 
 
 def time_of_code(code: bytes) -> str:
-    """Return HH:MM:SS:FF of four bytes of a TTI block, even if that is no time of the day."""
+    """Return four bytes of a TTI block as HH:MM:SS:FF, even if that is not a valid time of day."""
     return ":".join(f"{part:02}" for part in code)
 
 
 def time_of(frame: int) -> str:
-    """Return HH:MM:SS:FF of a frame; 24:00:00:00 follows the last frame of the day."""
+    """Return the time HH:MM:SS:FF of a frame; 24:00:00:00 follows the last frame of the day."""
     seconds, frames = divmod(frame, FRAMES_A_SECOND)
     return f"{seconds // 3600:02}:{seconds // 60 % 60:02}:{seconds % 60:02}:{frames:02}"
 
 
 def duration_text(frames: int) -> str:
-    """Return a length as `10 h 15 min`."""
+    """Return a duration in frames as text, such as `10 h 15 min`."""
     seconds, rest = divmod(frames, FRAMES_A_SECOND)
     parts = [(seconds // 3600, "h"), (seconds // 60 % 60, "min"), (seconds % 60, "s"),
              (rest, "frame" if rest == 1 else "frames")]
@@ -78,52 +78,52 @@ def duration_text(frames: int) -> str:
 
 
 def wrap_pts(ticks: int) -> int:
-    """Return ticks as a PTS has them, modulo 2^33."""
+    """Return ticks modulo 2^33, like a PTS."""
     return ticks % CLOCK
 
 
 def ticks_between(first: int, second: int) -> int:
-    """Return by how many ticks the second PTS is later; negative: earlier."""
+    """Return the ticks from the first PTS to the second; negative if the second is earlier."""
     return wrap_pts(second - first + CLOCK // 2) - CLOCK // 2
 
 
 def ticks_within(first: int, length: int, pts: int) -> int:
-    """Return by how many ticks a PTS is later than a first one; negative: earlier. PTS up to
-    `length` ticks later count as later, which may be more than half of the clock."""
+    """Return the ticks from the PTS `first` to another PTS; negative if that is earlier. A distance
+    of up to `length` ticks counts as later, even if it is more than 2^32."""
     before = (CLOCK - length) // 2
     return wrap_pts(pts - first + before) - before
 
 
 def ticks_after(origin: int, pts: int) -> int:
-    """Return how many ticks a PTS of a day is later than an origin; below 0 if it is up to an hour
-    before that."""
+    """Return the ticks from an origin to a PTS of the day after it; negative if the PTS is up to an
+    hour before the origin."""
     return ticks_within(origin, TICKS * FRAMES_OF_A_DAY, pts)
 
 
 def pts_of(frame: int, origin: int) -> int:
-    """Return the PTS of a frame of the day by the origin."""
+    """Return the PTS of a frame of the day; `origin` is the PTS of frame 0."""
     return wrap_pts(origin + TICKS * frame)
 
 
 def frame_in(pts: int, origin: int, within: int = 0) -> int:
-    """Return the frame of a PTS, also after the end of the day."""
+    """Return the frame in which a PTS lies, even if it is after the end of the day."""
     return wrap_pts(pts - origin + EARLY_TICKS * (within > 0)) // TICKS
 
 
 def time_in(pts: int, origin: int) -> str | None:
-    """The time of the frame in which a PTS lies; `None` after the day's end."""
+    """Return the time of the frame in which a PTS lies; `None` after the end of the day."""
     frame = frame_in(pts, origin)
     return time_of(frame) if frame < FRAMES_OF_A_DAY else None
 
 
 def frame_at(pts: int, origin: int, within: int = 0) -> int | None:
-    """Return the frame of the day of a PTS; `None` if it has none."""
+    """Return the frame of the day to which a PTS belongs; `None` if there is none."""
     frame = frames_at([pts], origin, within)[0]
     return None if frame == NO_FRAME else frame
 
 
 def frames_at(several: Sequence[int], origin: int, within: int = 0) -> Sequence[int]:
-    """Return the frame of the day of each PTS; `NO_FRAME` if it has none."""
+    """Return the frame of the day to which each PTS belongs, or `NO_FRAME` if there is none."""
     early = EARLY_TICKS * (within > 0)
     end, count = TICKS * FRAMES_OF_A_DAY, len(several)
     if count and several[-1] == several[0] + TICKS * (count - 1) and all(
@@ -138,8 +138,8 @@ def frames_at(several: Sequence[int], origin: int, within: int = 0) -> Sequence[
 
 
 def split_rising_rows(frames: Sequence[int]) -> list[tuple[int, Sequence[int]]]:
-    """Frames as rows in which none is before the one before it, each with the place of its first;
-    where one is `NO_FRAME` it is a row of its own."""
+    """Split frames into rows that never decrease, each with the index of its first frame. `NO_FRAME`
+    is a row of its own."""
     if isinstance(frames, range):
         return [(0, frames)]
     breaks = [at for at, (one, other) in enumerate(zip(frames, frames[1:]), 1)
@@ -148,14 +148,14 @@ def split_rising_rows(frames: Sequence[int]) -> list[tuple[int, Sequence[int]]]:
             if begin < end]
 
 
-# Spans of frames, or of PES packets, as few numbers.
+# Spans of frames or of PES packets
 
 Item = TypeVar("Item")
 
 
 def count_until(items: Sequence[Item], is_later: Callable[[Item], bool]) -> int:
-    """Return the number of items before the first later one, as `bisect.bisect_right` with a `key`
-    does since Python 3.10."""
+    """Return the number of items before the first for which `is_later` is true. `bisect_right` has
+    no `key` before Python 3.10."""
     low, high = 0, len(items)
     while low < high:
         middle = (low + high) // 2
@@ -164,14 +164,14 @@ def count_until(items: Sequence[Item], is_later: Callable[[Item], bool]) -> int:
 
 
 class Span(NamedTuple):
-    """Consecutive frames, or PES packets."""
+    """The first and the last number of consecutive frames or PES packets."""
 
     first: int
     last: int
 
 
 class Spans:
-    """Spans in their order of addition; neighbours become one."""
+    """A list of spans, in the order of addition. Adjacent or overlapping spans are joined."""
 
     def __init__(self, spans: Iterable[tuple[int, int]] = ()) -> None:
         self.begins, self.ends = array.array("I"), array.array("I")
@@ -185,7 +185,7 @@ class Spans:
         return len(self.begins)
 
     def add(self, begin: int, end: int) -> None:
-        """Add a span, usually after all others."""
+        """Add a span; join it with the last span if they touch."""
         if self.begins and self.begins[-1] <= begin <= self.ends[-1] + 1:
             self.ends[-1] = max(self.ends[-1], end)
         else:
@@ -193,16 +193,16 @@ class Spans:
             self.ends.append(end)
 
     def is_rising(self) -> bool:
-        """Return whether they rise."""
+        """Return whether the spans are in rising order."""
         return all(map(int.__le__, self.begins, self.begins[1:]))
 
     def between(self, begin: int, end: int) -> Iterator[Span]:
-        """Yield the spans that have an item from `begin` to before `end`; all have to rise."""
+        """Yield the spans that overlap `begin` up to `end`, exclusive. The spans must be rising."""
         first, last = bisect.bisect_left(self.ends, begin), bisect.bisect_left(self.begins, end)
         return map(Span, self.begins[first:last], self.ends[first:last])
 
     def without(self, others: Iterable[tuple[int, int]]) -> Spans:
-        """Return them without the items of others."""
+        """Return these spans without the numbers that are also in `others`."""
         found: list[tuple[int, int]] = [*self]
         for begin, end in others:
             parts = [part for first, last in found for part in (
@@ -211,11 +211,11 @@ class Spans:
         return Spans(found)
 
     def total(self) -> int:
-        """Return how many items they have."""
+        """Return the number of frames or PES packets in all spans."""
         return sum(last + 1 - first for first, last in self)
 
 
 def join_spans(several: Iterable[Spans]) -> Spans:
-    """Return all spans of several lists, in order."""
+    """Return the spans of several lists as one list in rising order."""
     rising = [each if each.is_rising() else Spans(sorted(each)) for each in several]
     return Spans(heapq.merge(*rising))
