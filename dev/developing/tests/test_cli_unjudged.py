@@ -86,7 +86,7 @@ class UnjudgedPairs(Case):
             other = self.runner()
             row = other.start(item)
             self.must("another call", row and not row.is_judged and other.in_use == {"one"} and
-                      "another call" in other.unwritten_results["one"]["reason"]
+                      "another run of qc" in other.unwritten_results["one"]["reason"]
                       and not other.running, row)
             if does == signal.pause:
                 calls.stop()

@@ -178,7 +178,7 @@ def dispatch(text: str, program_name: str, line: list[str]) -> int:
     refuse_options(make_parser(text), line, find_mode(make_parser(text).parse_args(line)))
     args = read_options(make_parser(text), line, {}, {}, is_typed=True)
     if args.is_kept and args.out is None:
-        raise Stop("--keep needs a folder for the recording: give -o DIR")
+        raise Stop("--keep needs -o DIR, the folder for the recording")
     args.out = args.out and make_safe_name(args.out)
     if args.collect is not None:
         from . import collection  # only loaded if needed
