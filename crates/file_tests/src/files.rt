@@ -194,8 +194,8 @@ const HEADER: &str =
 const HEADER_LINES: &str = "magazine 8 packet 0\npage 88 subcode 0000 control C4 C6 C7\n\
     text |                                |\n";
 
-const RECEIVED_PAGE: &str = "heard yes\nopen no\nrow 22 |                ...Hi..                
-    |\n";
+const RECEIVED_PAGE: &str =
+    "heard yes\nopen no\nrow 22 |                ...Hi..                 |\n";
 
 const SHOWN: &str = "00001 10:00:00:00 10:00:02:00 vp 22 jc 2 text 0d0b0b48690a0a\n1 subtitles\n";
 
