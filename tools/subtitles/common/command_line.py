@@ -45,8 +45,8 @@ def version() -> str:
 
 
 class ToolParser(argparse.ArgumentParser):
-    """An argument parser that raises `Stop` for wrong arguments. Its help begins with `text`; if that
-    is `None`, as for a line of a list, it has no --help."""
+    """An argument parser that raises `Stop` for wrong arguments. Its help begins with `text`; if
+    that is `None`, as for a line of a list, it has no --help."""
 
     def __init__(self, text: str | None) -> None:
         self.fields: dict[str, str] = {}  # names of the fields, by option

@@ -138,8 +138,8 @@ def frames_at(several: Sequence[int], origin: int, within: int = 0) -> Sequence[
 
 
 def split_rising_rows(frames: Sequence[int]) -> list[tuple[int, Sequence[int]]]:
-    """Split frames into rows that never decrease, each with the index of its first frame. `NO_FRAME`
-    is a row of its own."""
+    """Split frames into rows that never decrease, each with the index of its first frame.
+    `NO_FRAME` is a row of its own."""
     if isinstance(frames, range):
         return [(0, frames)]
     breaks = [at for at, (one, other) in enumerate(zip(frames, frames[1:]), 1)
