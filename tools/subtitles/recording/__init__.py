@@ -1,5 +1,5 @@
-"""A recording as it is read, from a file or from a pipe.
+"""Read a recording from a file or a pipe, and find anomalies.
 
-notices        what is strange of a recording, and a page that is announced and never sent
-recording      a recording: which PID it is, how the program reads it, a pipe copied to a file
+notices        warnings about a recording, and a page that is announced but never sent
+recording      find the PID of the page, read a recording, and copy a pipe to a file
 """

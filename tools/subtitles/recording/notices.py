@@ -1,4 +1,4 @@
-"""What is strange of a recording: warnings that break no rule, and a page that is never sent."""
+"""Find anomalies of a recording that break no rule, and an announced page that is never sent."""
 from __future__ import annotations
 
 import array
@@ -26,25 +26,25 @@ from ..stream.survey import (
     ANY, Announced, KINDS, ProgramMap, SUBTITLE_KINDS, Survey, language_names)
 
 
-# Anomalies of a recording that break no rule of `check`: warnings, which don't change the status.
+# Warnings about anomalies that break no rule of `check`. They don't change the exit status.
 
-TNB, TNS = slice(238, 243), slice(243, 248)  # fields of a GSI block: counts of blocks, subtitles
+TNB, TNS = slice(238, 243), slice(243, 248)  # fields of a GSI block
 
 
 class Notice(NamedTuple):
-    """A warning: what it is about, as a word for machines, its line, and its time."""
+    """A warning: its kind, as a word for result files, its message, and its time, if any."""
 
     kind: str
     line: str
     time: str | None = None
 
     def warning_text(self) -> str:
-        """Return the line of the warning."""
+        """Return the message with the prefix `warning: `."""
         return f"warning: {self.line}"
 
 
 def find_timing_notices(packets: Packets, origin: int) -> Iterator[Notice]:
-    """Yield warnings about PTS that do not agree with the PCR."""
+    """Yield warnings about PTS that do not match the PCR."""
     for strange in find_pts_anomalies(packets):
         time = time_in(strange.pts, origin)
         where = f"from {time} on" if time else f"from PTS {strange.pts} on"
@@ -55,7 +55,7 @@ def find_timing_notices(packets: Packets, origin: int) -> Iterator[Notice]:
 
 
 def find_jump_notices(packets: Packets, origin: int, first: int, last: int) -> Iterator[Notice]:
-    """Yield warnings about jumps of the clock without a missing packet, between two frames."""
+    """Yield warnings about clock jumps between two frames at which no packet is missing."""
     for jump in find_clock_jumps(packets):
         frame = FRAMES_OF_A_DAY if jump.before is None else frame_in(jump.before, origin)
         if first <= frame <= last:
@@ -66,7 +66,7 @@ def find_jump_notices(packets: Packets, origin: int, first: int, last: int) -> I
 
 
 def format_duration(ticks: int) -> str:
-    """Return ticks as hours, minutes and seconds, as `2:24:01`, or as seconds below a minute."""
+    """Return a duration in ticks as text: hours, minutes and seconds, or `12.34 s` if short."""
     seconds = round(ticks / SECOND)
     if seconds < 60:
         return f"{ticks / SECOND:.2f} s"
@@ -108,8 +108,8 @@ def find_page_notices(page_announcements: list[Announced], request: Request) -> 
 
 
 def find_option_notices(languages: list[str], request: Request) -> Iterator[Notice]:
-    """Yield a warning if no language that a PMT announces for the page can use the national option:
-    receivers may choose characters by that language."""
+    """Yield a warning if no language that a PMT announces for the page uses the national option.
+    Receivers may choose the character set by that language."""
     options = [option_for_track(one) for one in languages]
     is_other = [bool(option and option.word != request.option) or language in OTHER_REGIONS
                 for language, option in zip(languages, options)]
@@ -123,8 +123,8 @@ def find_option_notices(languages: list[str], request: Request) -> Iterator[Noti
 
 
 def find_character_set_notices(packets: Packets, request: Request) -> Iterator[Notice]:
-    """Yield warnings about packets that name another character set than that of the national
-    option."""
+    """Yield warnings about packets that select a different character set than the national option.
+    """
     for number, designation, region, option in packets.character_sets:
         if region is None or option is None:
             named = "an unreadable character set"
@@ -137,18 +137,18 @@ def find_character_set_notices(packets: Packets, request: Request) -> Iterator[N
 
 
 def format_pages(announced: list[Announced]) -> str:
-    """Return announced pages as text."""
+    """Return a list of announced pages as text."""
     return ", ".join(dict.fromkeys(one.line() for one in announced))
 
 
 def read_language_code(stl: str) -> str:
-    """Return the LC of a subtitle file."""
+    """Return the language code (LC) of a subtitle file."""
     return read_first_bytes(stl, LC.stop)[LC].decode("latin-1")
 
 
 def find_count_notices(subtitles: SubtitleFile) -> Iterator[Notice]:
-    """Yield warnings if the GSI block counts other blocks or subtitles than the file has, as after
-    a cut at the end of a block. Comments may be counted; a count that is not a number is ignored.
+    """Yield warnings if the file has more or fewer TTI blocks or subtitles than its GSI block says,
+    as if the file was cut off. TNS may include comments; ignore a field that is not a number.
     """
     expected = read_count(subtitles.data[TNB])
     there = subtitles.count()
@@ -162,17 +162,17 @@ def find_count_notices(subtitles: SubtitleFile) -> Iterator[Notice]:
 
 
 def read_count(digits: bytes) -> int | None:
-    """Return a count of a GSI block, or `None` if it is not a number."""
+    """Return the number in a field of a GSI block, or `None` if it is not a number."""
     return int(digits) if digits.isdigit() else None
 
 
 def format_presence(count: int) -> str:
-    """Return `there are N`."""
+    """Return the phrase `there is 1` or `there are N`."""
     return "there is 1" if count == 1 else f"there are {count:,}"
 
 
 def find_pause_notices(pts: Sequence[int], request: Request, origin: int) -> Iterator[Notice]:
-    """Yield warnings about frames without a PES packet, if nearly all other frames have one."""
+    """Yield warnings about gaps between the frames of PES packets, if such gaps are rare."""
     frames = array.array("i", (frame for frame in frames_at(pts, origin, request.within)
                                if frame != NO_FRAME))
     pauses = [(first + 1, second) for first, second in zip(
@@ -185,8 +185,8 @@ def find_pause_notices(pts: Sequence[int], request: Request, origin: int) -> Ite
 
 def find_repeat_notices(headers: Sequence[int], request: Request, origin: int,
                         times: list[tuple[int, int]]) -> Iterator[Notice]:
-    """Yield a warning if the page is repeated so often that `--every` would not notice a missing
-    repeat."""
+    """Yield a warning if the page is repeated so often that a missing repeat would not exceed
+    `--every`."""
     every = repeat_distance((frame_in(pts, origin, request.within) for pts in headers),
                             cue_frames(times))
     if every is not None and every * 2 < request.every:
@@ -195,13 +195,13 @@ def find_repeat_notices(headers: Sequence[int], request: Request, origin: int,
                      "to notice a missing repeat")
 
 
-# A page that the PMT announces and that is never sent on its PID.
+# A page that a PMT announces but that is never sent on its PID
 
-NEAR = 2 * SECOND  # ticks: a PMT has the time of the PCR before it, listed once a second
+NEAR = 2 * SECOND  # ticks; the time of a PMT is the PCR before it, which is listed once a second
 
 
 class NeverSent(Exception):
-    """A page is announced and never sent: that is a fault, and nothing more is judged."""
+    """Raised if a page is announced but never sent. This is a fault, so nothing else is judged."""
 
     def __init__(self, words: str) -> None:
         super().__init__(words)
@@ -209,8 +209,8 @@ class NeverSent(Exception):
 
 
 class Announcement(NamedTuple):
-    """The PIDs on which a PMT announces a page, and the programme; from which PCR on, and up to
-    which, that holds, `None` at the ends of the recording."""
+    """The PIDs on which a PMT announces a page, with the programme number. It applies from the PCR
+    `begin` to the PCR `end`, which are `None` at the ends of the recording."""
 
     number: int
     pids: frozenset[int]
@@ -218,7 +218,7 @@ class Announcement(NamedTuple):
     end: int | None
 
     def is_in(self, begin: int, end: int) -> bool:
-        """Return whether the announcement certainly holds between two PTS."""
+        """Return whether the announcement surely applies at a time between two PTS."""
         return (self.begin is None or ticks_between(self.begin, end) > NEAR) and (
             self.end is None or ticks_between(begin, self.end) > NEAR)
 
@@ -230,8 +230,8 @@ def find_announcing_pids(program_map: ProgramMap, page: Page) -> set[int]:
 
 
 def find_announcements(records: Sequence[ProgramMap], page: Page) -> Iterator[Announcement]:
-    """Return the announcements of a page in the PMTs of all programmes, in their order."""
-    ends: dict[int, int | None] = {}  # the PCR before the next PMT of a programme, by its number
+    """Return the announcements of a page in all PMTs, in the order of the PMTs."""
+    ends: dict[int, int | None] = {}  # last PCR before the next PMT, by programme number
     several: list[Announcement] = []
     for record in reversed(records):
         if pids := find_announcing_pids(record, page):
@@ -243,8 +243,8 @@ def find_announcements(records: Sequence[ProgramMap], page: Page) -> Iterator[An
 
 def find_unsent(announced: Sequence[Announcement], carriers: Collection[int], begin: int,
               end: int) -> Announcement | None:
-    """Return the first announcement between two PTS whose page is sent on other PIDs only: of the
-    programme that carries it, or of any programme if none announces those PIDs."""
+    """Return the first announcement between two PTS whose page is sent only on other PIDs. If some
+    programmes announce those PIDs, consider only their announcements."""
     carrying_programmes = {announcement.number for announcement in announced if announcement.pids &
                            {*carriers}}
     return next((announcement for announcement in announced
@@ -254,7 +254,7 @@ def find_unsent(announced: Sequence[Announcement], carriers: Collection[int], be
 
 
 def find_silent_pids(announced: Sequence[Announcement], carriers: Collection[int]) -> set[int]:
-    """Return the PIDs on which only programmes without the page announce it."""
+    """Return the PIDs of programmes that announce the page but never send it, if another does."""
     carrying_programmes = {announcement.number for announcement in announced if announcement.pids &
                            {*carriers}}
     others = {pid for announcement in announced if announcement.number not in carrying_programmes
@@ -264,8 +264,8 @@ def find_silent_pids(announced: Sequence[Announcement], carriers: Collection[int
 
 def is_page_expected(clock: tuple[int, int] | None, times: Sequence[tuple[int, int]],
               origin: int | None) -> bool:
-    """Return whether a page is expected between two PCR: the whole time of a subtitle by the
-    origin, or without one as much time as from the first TCI to the last TCO."""
+    """Return whether a page is expected between two PCR. By the origin, a complete subtitle lies
+    between them; without an origin, they are as far apart as the first TCI and the last TCO."""
     if clock is None or not times:
         return False
     length = wrap_pts(clock[1] - clock[0])
@@ -276,7 +276,7 @@ def is_page_expected(clock: tuple[int, int] | None, times: Sequence[tuple[int, i
 
 
 def has_unreadable(survey: Survey, pids: Collection[int]) -> bool:
-    """Return whether one of some PIDs has TS packets but no readable PES packet, as if scrambled.
+    """Return whether any of these PIDs has TS packets but no readable PES packet, as if scrambled.
     """
     packets = [survey.by_pid[pid] for pid in pids if pid in survey.by_pid]
     return any(not one.count and one.packets and explain_refusal(one) for one in packets)
@@ -284,7 +284,7 @@ def has_unreadable(survey: Survey, pids: Collection[int]) -> bool:
 
 def explain_never_sent(survey: Survey, page: Page, pids: Collection[int],
                        carriers: Collection[int] = ()) -> str:
-    """Return where the page is announced, and which PIDs have it."""
+    """Return a message with the PIDs that announce the page and the PIDs that send it."""
     names = " and ".join(map(format_pid, sorted(pids)))
     words = f"page {page_name(*page)} is announced on {names}, but never sent"
     none = [pid for pid in sorted(pids)
@@ -297,8 +297,8 @@ def explain_never_sent(survey: Survey, page: Page, pids: Collection[int],
 
 
 def refuse_unsent(request: Request, survey: Survey, times: Sequence[tuple[int, int]]) -> None:
-    """Raise `NeverSent` if the page is announced, on --pid if that is given, but never sent there
-    though a subtitle is expected."""
+    """Raise `NeverSent` if the page is announced but never sent, although a subtitle is expected.
+    If --pid is given, consider only that PID."""
     announced = find_announcements(survey.programmes, request.page)
     named = {pid for announcement in announced for pid in announcement.pids
              if request.pid in (None, pid)}
@@ -309,7 +309,7 @@ def refuse_unsent(request: Request, survey: Survey, times: Sequence[tuple[int, i
 
 
 def find_origin(request: Request, survey: Survey, pid: int) -> int | None:
-    """Return the given origin, or that of the first picture of a PID's programme."""
+    """Return the origin from --start and the first picture of a programme, or from --origin."""
     if request.start is not None:
         with contextlib.suppress(NoFirstPicture, Unclear):
             return wrap_pts(find_first_picture(survey, pid).pts - TICKS * read_start_frame(request))
@@ -318,10 +318,10 @@ def find_origin(request: Request, survey: Survey, pid: int) -> int | None:
 
 def refuse_dead_source(request: Request, survey: Survey, packets: Packets,
                 times: Sequence[tuple[int, int]]) -> None:
-    """Raise `NeverSent` if a dead source sends no row of the page up to the last TCO, though a
-    subtitle is expected in the recording. `times` are those of the subtitles with text. Without a
-    clock no row may come in the whole recording. A page of which no header comes may be the wrong
-    one; and if some PES packets can't be read, nobody knows."""
+    """Raise `NeverSent` if no row of the page is sent before the last TCO, although a subtitle is
+    expected in the recording. `times` has the frames of subtitles with text. Without an origin,
+    consider the whole recording. Do not raise it if no header of the page is sent, since the page
+    may be the wrong one, or if some PES packets can't be read."""
     origin, clock = find_origin(request, survey, packets.pid), find_recorded_time(survey, packets)
     if not packets.has_page or not is_all_read(packets) or \
             not is_page_expected(clock, times, origin):
@@ -352,7 +352,7 @@ def is_all_read(packets: Packets) -> bool:
 
 
 def find_recorded_time(survey: Survey, packets: Packets) -> tuple[int, int] | None:
-    """Return the first and the last PCR, or without these the first and the last PTS."""
+    """Return the first and the last PCR, or the first and the last PTS if there is no PCR."""
     clock = survey.clock_of(packets.pid) if packets.pid != PES else None
     if clock or not packets.runs or len(packets.time_bases()) > 1:
         return clock
@@ -361,8 +361,8 @@ def find_recorded_time(survey: Survey, packets: Packets) -> tuple[int, int] | No
 
 
 def refuse_other_pid(request: Request, survey: Survey, begin: int, end: int) -> None:
-    """Raise `NeverSent` if the PMT announces the page between two PTS on a PID where it is never
-    sent. A PID given by --pid is judged."""
+    """Raise `NeverSent` if the PMT announces the page between two PTS but never sends it on that
+    PID. If --pid is given, do nothing."""
     carriers = {pid for pid, packets in survey.by_pid.items() if packets.has_page}
     announced = [*find_announcements(survey.programmes, request.page)]
     announcement = find_unsent(announced, carriers, begin, end) if request.pid is None else None

@@ -1,4 +1,4 @@
-"""A recording: which PID it is, how the program reads it, a pipe copied to a file."""
+"""Read a recording, find the PID of the page, and copy a pipe to a file."""
 from __future__ import annotations
 
 import collections
@@ -26,10 +26,10 @@ from ..stream.survey import Survey, survey
 from .notices import Notice, find_announcements, refuse_unsent, find_silent_pids
 
 
-# A recording from a pipe is copied to a file, which is judged once it is complete.
+# A recording from a pipe is copied to a file, which is judged when it is complete.
 
-MAX_PAGES = 3  # other pages to propose
-MAX_PIPED = 32_000_000_000  # bytes: two hours of 35 Mbit/s
+MAX_PAGES = 3  # maximum number of other pages to suggest
+MAX_PIPED = 32_000_000_000  # most bytes to copy from a pipe: two hours of 35 Mbit/s
 
 
 def copy_piped(name: str, path: str, printer: Printer) -> SummedFile:
@@ -50,17 +50,17 @@ def copy_piped(name: str, path: str, printer: Printer) -> SummedFile:
     return SummedFile(name, count, digest.hexdigest())
 
 
-# The header of the first PES packet of a PID, if it is not a Teletext header.
+# The PES header of the first PES packet of a PID
 #
-# Teletext has PES headers of 45 bytes and PES packets of 184 N bytes (EN 300 472, PES packet).
+# In Teletext, a PES header has 45 bytes and a PES packet a multiple of 184 bytes (EN 300 472).
 
-OUTPUT = "/dev/stdout"  # as the program opens it
-# PES_header_data_length: its place, how many bytes it does not count, and what it is of Teletext.
+OUTPUT = "/dev/stdout"  # name of standard output for the program
+# PES_header_data_length: its index, the header bytes before those it counts, its Teletext value
 LENGTH_AT, FIXED, TELETEXT = 8, 9, 0x24
 
 
 def read_pes_header(program: str, path: str, pid: int, size: int) -> bytes:
-    """Return the first bytes that `extract` prints of a PID."""
+    """Return the fixed part of the first PES header of a PID, from the output of `extract`."""
     arguments = [program, "extract", *stream_options(pid, size), "--", path, OUTPUT]
     with subprocess.Popen(arguments, stdin=subprocess.DEVNULL, stdout=subprocess.PIPE,
                           stderr=subprocess.DEVNULL) as call:
@@ -71,8 +71,8 @@ def read_pes_header(program: str, path: str, pid: int, size: int) -> bytes:
 
 
 def check_pes_header(header: bytes, pid: int) -> str:
-    """Return what is wrong with the first PES header of a PID; nothing if it is a Teletext header
-    or there is none."""
+    """Return a message if the first PES header of a PID has a wrong length for Teletext; otherwise
+    an empty text."""
     if not header.startswith(START[:3]) or header[LENGTH_AT:FIXED] in (b"", bytes([TELETEXT])):
         return ""
     length, whose = header[LENGTH_AT], f" of {format_pid(pid)}" if pid != PES else ""
@@ -80,18 +80,18 @@ def check_pes_header(header: bytes, pid: int) -> str:
             f"{length:02X}), but EN 300 472 requires {FIXED + TELETEXT} ({TELETEXT:02X})")
 
 
-# A recording, as `subttx survey` describes it.
+# A recording, read from the output of `subttx survey`
 
 def is_recording(path: str) -> bool:
-    """Return whether a file begins as a recording does."""
+    """Return whether a file begins like a transport stream or a Teletext PES packet."""
     head = read_first_bytes(path, 209)
     return head.startswith(START) or any(
         head[at:at + size + 1:size] == b"GG" for at in (0, 4) for size in PACKET_SIZES)
 
 
 def refuse_files(request: Request) -> None:
-    """Raise `Unclear` if a file is missing, or subtitle file and recording are exchanged, before
-    anything is judged."""
+    """Raise `Unclear` if the subtitle file is missing or is a recording, and `OSError` if the
+    recording is missing."""
     if not os.path.isfile(request.stl_path):
         name = request.stl.removeprefix("./") if request.stl.startswith("./-") else request.stl
         raise Unclear(f"{name or 'an empty name'} does not exist or is not a file")
@@ -102,7 +102,7 @@ def refuse_files(request: Request) -> None:
 
 
 def refuse_stream(survey: Survey, name: str) -> None:
-    """Raise `Stop` or `Unclear` if a file is not a recording of Teletext."""
+    """Raise `Stop` or `Unclear` if a file is not a recording that can have Teletext."""
     head = survey.head
     if not head:
         raise Stop(f"{name} is empty")
@@ -116,14 +116,14 @@ def refuse_stream(survey: Survey, name: str) -> None:
 
 
 def find_unreadable_packets(survey: Survey) -> list[Packets]:
-    """Return the PIDs with TS packets but without readable PES packets, in order."""
+    """Return the PIDs that have TS packets but no readable PES packets, in order."""
     return [packets for _, packets in sorted(survey.by_pid.items())
             if not packets.count and packets.packets]
 
 
 class Recording:
-    """A recording that is read: `packets` are those of the PID with the page. What is judged is a
-    range of the recording itself; what comes through a pipe is copied to a file, at `path`."""
+    """A recording to judge. `packets` are the PES packets of the PID with the page. `path` is the
+    file, or the copy of a recording from a pipe."""
 
     def __init__(self, request: Request, command_paths: CommandPaths, names: OutputNames,
                  listener: Listener, times: Sequence[tuple[int, int]] = ()) -> None:
@@ -131,7 +131,7 @@ class Recording:
         self.request, self.command_paths = request, command_paths
         self.names, self.listener = names, listener
         self.name = request.recording
-        self.times = times  # of the subtitles, in frames
+        self.times = times  # in-cue and out-cue of each subtitle, in frames
         self.is_piped = self.name == STANDARD or not stat.S_ISREG(os.stat(self.name).st_mode)
         self.path = names.recording_path if self.is_piped else \
             names.make_utf_8_path(self.name, "given")
@@ -139,7 +139,7 @@ class Recording:
         self.file: SummedFile | None = None
 
     def read(self, is_summed: bool) -> None:
-        """Read the recording to its end, and survey it."""
+        """Read the whole recording with `survey`, and compute its SHA-256 if `is_summed`."""
         if self.is_piped:
             self.file = copy_piped(self.name, self.path, self.listener.printer)
         summed = BackgroundSum(self.name) if is_summed and not self.is_piped else None
@@ -151,11 +151,11 @@ class Recording:
         self.print_losses()
 
     def show_progress(self) -> None:
-        """Show on a terminal how much was read."""
+        """Show the progress of reading on a terminal."""
         self.listener.printer.show_progress(lambda: self.name)
 
     def find_packets(self) -> Packets:
-        """Return the requested PID, or the only one that carries the page."""
+        """Return the packets of the requested PID, or of the only PID that carries the page."""
         page, by_pid = self.request.page_name, self.survey.by_pid
         if self.survey.size == PES:
             return by_pid.setdefault(PES, Packets(PES))
@@ -183,7 +183,7 @@ class Recording:
 
     def refuse_silent(self, carriers: Collection[int]) -> None:
         """Raise `Unclear` if several programmes announce the page but some never send it: only the
-        broadcaster knows which one is meant."""
+        operator knows which of them to judge."""
         announced = [*find_announcements(self.survey.programmes, self.request.page)]
         silent = find_silent_pids(announced, carriers)
         if silent and self.request.pes is None:
@@ -194,7 +194,7 @@ class Recording:
                 *(self.suggest_call("--pid", f"0x{pid:X}") for pid in sorted({*carriers} | silent)))
 
     def print_choice(self, packets: Packets, why: str) -> None:
-        """Report which PID was chosen, with the evidence."""
+        """Report the chosen PID and the reason for the choice."""
         header = sum(run.length for run in packets.runs_with_pts() if HEADER in run.flags)
         line = f"{format_pid(packets.pid)}: page {self.request.page_name} has a header in " \
             f"{header} of {counted(packets.count, 'PES packet')}, {why}"
@@ -202,12 +202,12 @@ class Recording:
                                               packets.count))
 
     def unreadable_reasons(self) -> list[str]:
-        """Return why PIDs that should carry Teletext can't be read, as scrambled ones."""
+        """Return the reasons why some PIDs can't be read as Teletext, as if they are scrambled."""
         return [words for packets in find_unreadable_packets(self.survey)
                 for words in (explain_refusal(packets), self.header_problem(packets)) if words]
 
     def header_problem(self, packets: Packets) -> str:
-        """Return what is wrong with the PES header of a PID."""
+        """Return a message about a wrong first PES header of a PID, or an empty text."""
         if packets.pid != PES and not packets.packets:
             return ""
         header = self.survey.head if packets.pid == PES else read_pes_header(
@@ -215,7 +215,7 @@ class Recording:
         return check_pes_header(header, packets.pid)
 
     def print_losses(self) -> None:
-        """Report what was read, and the places where something is missing."""
+        """Report damage, skipped bytes, and the places where packets are missing."""
         packets = self.packets
         if packets.damage:
             self.listener.print_line(f"{self.name}: {packets.damage}; it was read up to there")
@@ -230,7 +230,7 @@ class Recording:
         for line in gap_marker_lines(packets):
             self.listener.print_line(line)
 
-    # What it is.
+    # Properties of the recording
 
     @property
     def is_stream(self) -> bool:
@@ -242,27 +242,27 @@ class Recording:
         return (self.packets.pid, self.survey.size or 0) if self.is_stream else None
 
     def program_options(self) -> list[str]:
-        """Return the options with which the program reads the recording."""
+        """Return the options for the program to read the recording."""
         stream = self.stream()
         return stream_options(*stream) if stream else []
 
     @property
     def display_name(self) -> str:
-        """Return the name of the recording as it was typed."""
+        """Return the name of the recording as typed, or of the copy if it came from a pipe."""
         if not self.is_piped:
             return self.name
         return self.names.display_path(KEPT_TS if self.is_stream else KEPT_PES)
 
     @property
     def kept_ending(self) -> str | None:
-        """Return the ending of the kept recording: everything from a pipe, or the PES packets of a
-        transport stream; `None` for a file of PES packets, which exists already."""
+        """Return the file name ending of the copy to keep: all data from a pipe, or the PES packets
+        of a transport stream. `None` for a PES file, which exists already."""
         if self.is_piped and self.is_stream:
             return KEPT_TS
         return KEPT_PES if self.is_piped or self.is_stream else None
 
     def read_kept_data(self) -> Iterator[bytes]:
-        """Yield the bytes of the recording to keep."""
+        """Yield the bytes for the copy to keep."""
         if self.is_piped:
             yield from read_chunks(self.path)
             return
@@ -271,28 +271,28 @@ class Recording:
                                "--",
                                self.path, pes_path], stdin=subprocess.DEVNULL,
                               stdout=subprocess.DEVNULL, check=False)
-        if done.returncode != 1:  # everything before a refused PES packet is kept
+        if done.returncode != 1:  # status 1: keep the PES packets before a refused one
             done.check_returncode()
         yield from read_chunks(pes_path)
 
     def list_losses(self, jumps: Iterable[PTSPair] = ()) -> list[LossPlace]:
-        """Return the places where packets are missing, including those that announced jumps of the
-        counter hide."""
+        """Return the places where packets are missing, including announced jumps of the continuity
+        counter, which may hide a loss."""
         return find_loss_places(self.packets, jumps)
 
     def recorded_range(self) -> tuple[int, int] | None:
-        """Return the PTS between which the PCR shows that everything was recorded."""
+        """Return the two PTS between which, by the PCR, all packets of the PID were recorded."""
         return find_recorded_range(self.survey, self.packets)
 
     def find_last_time(self) -> int | None:
-        """Return the last PTS, or the last PCR if it is later."""
+        """Return the last PTS or the last PCR, whichever is later."""
         clock, pts = self.survey.clock_of(self.packets.pid), self.packets.last_pts
         known = [one for one in (pts, clock and clock[1]) if one is not None]
         return max(known, default=None, key=functools.partial(ticks_between, known[0])) \
             if known else None
 
     def find_notices(self) -> list[Notice]:
-        """Return notices if it ends too early."""
+        """Return warnings if the recording is damaged or ends within a PES packet."""
         notices = list[Notice]()
         is_open = self.packets.is_cut and not self.packets.refusal
         if self.is_stream and is_open:
@@ -303,17 +303,17 @@ class Recording:
                                   "was read up to there"))
         return notices
 
-    # What is said.
+    # Messages and suggestions
 
     def other_pids(self) -> list[str]:
-        """Return the calls with other PIDs to type instead."""
+        """Return suggested commands with other PIDs."""
         known = [f"0x{pid:X}" for pid, packets in sorted(self.survey.by_pid.items())
                  if self.request.page_name in packets.header_counts]
         return [self.suggest_call("--pid", word)
                 for word in known or ["PID"] * bool(self.survey.by_pid)]
 
     def has_picture(self) -> bool:
-        """Return whether `--start` can give its clock."""
+        """Return whether the recording has a first picture for `--start`."""
         return self.is_stream and has_first_picture(self.survey, self.packets.pid)
 
     def no_picture_error(self, reason: NoFirstPicture) -> Unclear:
@@ -324,7 +324,7 @@ class Recording:
         return make_qc_command(self.request, self.command_paths, *more)
 
     def other_pages(self, several: Iterable[Packets]) -> Iterator[str]:
-        """Yield the calls for the other pages of some PIDs, those with the most headers first."""
+        """Yield suggested commands for the other pages of some PIDs, most headers first."""
         counts = collections.Counter[str]()
         for one in several:
             counts.update(one.header_counts)
@@ -332,7 +332,7 @@ class Recording:
         return (self.suggest_call("--page", name) for name, _ in counts.most_common(MAX_PAGES))
 
     def with_contents(self, reason: str) -> str:
-        """Return a reason, followed by what the recording has."""
+        """Return a reason, followed by a list of the Teletext pages in the recording."""
         if self.request.pid is not None:
             self.survey = survey(self.command_paths.program_path, self.path, self.request.page)
         return "\n".join([reason, *(self.survey.lines() or ["no PID has Teletext"])])
