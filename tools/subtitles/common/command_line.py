@@ -6,6 +6,7 @@ import contextlib
 import os
 import re
 import shlex
+import signal
 import sys
 import traceback
 from typing import Any, Callable, IO, Mapping, NamedTuple, NoReturn, Sequence, TextIO
@@ -319,7 +320,11 @@ def print_stderr(line: str) -> None:
 
 def run(main: Callable[[list[str]], int]) -> NoReturn:
     """Call `main` with the command-line arguments and exit with its status."""
-    sys.exit(run_main(main, sys.argv[1:]))
+    status = 2
+    with contextlib.suppress(KeyboardInterrupt):  # from a second signal
+        status = run_main(main, sys.argv[1:])
+        signal.signal(signal.SIGINT, signal.SIG_IGN)  # the exit must not end with another status
+    sys.exit(status)
 
 
 def run_main(main: Callable[[list[str]], int], words: Sequence[str]) -> int:
