@@ -63,6 +63,7 @@ class Video:
         self.lost = self.scrambled = 0
         self.kind = 0
         self.first: bytes | None = None  # payload of its first picture
+        self.header_left = 0  # bytes of that picture's PES header that are still to come
         self.form: str | None = None
 
     @property
@@ -94,7 +95,7 @@ class Video:
     def take_payload(self, packet: Packet) -> None:
         if packet.begins:
             self.is_next_flagged = self.is_flagged or packet.is_random_access
-            self.first, self.is_flagged = None, False
+            self.first, self.is_flagged, self.header_left = None, False, 0
             self.header = None if packet.is_wrong else b""
             if packet.is_scrambled and self.begin(None, None):
                 self.first = b""
@@ -104,7 +105,8 @@ class Video:
             self.header += packet.payload
             self.read_header(self.header)
         elif self.first is not None:
-            self.read_first(packet.payload)
+            self.read_first(packet.payload[self.header_left:])
+            self.header_left = max(0, self.header_left - len(packet.payload))
 
     def read_header(self, data: bytes) -> None:
         """Begin a picture when its header is complete up to its PTS and DTS."""
@@ -118,6 +120,7 @@ class Video:
         self.header = None
         if self.begin(pts, decoding):
             self.first = b""
+            self.header_left = max(0, 9 + data[8] - len(data))
             self.read_first(data[9 + data[8]:])
 
     def read_first(self, data: bytes) -> None:
