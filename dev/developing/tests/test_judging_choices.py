@@ -30,7 +30,7 @@ from .test_judging_reasons import KEEPING_HEADER
 
 TS = example("story.stl"), example("recording.ts")
 PES = example("story.stl"), example("story.pes")
-RECORDING_PID = "PID 0x101: page 888 has a header in 7 of 7 PES packets, on no other PID"
+RECORDING_PID = "PID 0x101: page 888 has a header in 7 of 7 PES packets, and on no other PID"
 AGREE = "clock: 5 of 5 cues match, 5 with the expected text; the file has 5; next best: "
 ORIGIN_OF_TS = "origin", "5000000000", 5, 5, 1, f"{AGREE}--origin 1678370000 with 2"
 CUT = "pes", "2-6", 5, 7, 1, "range: 5 of 7 PES packets, from 20:15:00:00 to 20:15:09:00"

@@ -135,7 +135,7 @@ class Recordings(Case):
         pes = example_bytes("story.pes")
         whole = stream_of_pids((TELETEXT_PID, pes))
         junk = whole[:188 * 20] + b"x" * 40 + whole[188 * 20:]
-        skipped, cut = " outside of TS packets skipped", "it was read up to there"
+        skipped, cut = " outside of TS packets skipped", "the recording was read up to this point"
         for data, size, count in ((whole, 188, ""), (with_packet_size(whole, 192), 192, ""),
                                   (with_packet_size(whole, 204), 204, ""), (junk, 188, "40 bytes")):
             for recording in (self.write("one.ts", data), write_pipe(self, data)):

@@ -26,7 +26,8 @@ class ExtractMessages(Case):
                 (7, 9, 1, 32, 2, "PID 0x7 has data other than PES packets of 184 to 1656 bytes "
                                  "from PES packet 2 on: refused 32 Length pes 2"),
                 (3, 0, 0, 0, 0, "PID 0x3 has no packets"), (8, 9, 0, 0, 1, None),
-                (2, 7, 0, 31, 0, "PID 0x2 has no PES packets of private_stream_1, as Teletext has"),
+                (2, 7, 0, 31, 0, "PID 0x2 has no PES packets of private_stream_1, which carry "
+                                 "Teletext"),
                 (1, 1, 0, 0, 0, "PID 0x1 has no complete PES packet in 1 TS packet")):
             one = Packets(pid, packets=packets, scrambled=scrambled, refusal=refusal)
             one.runs += [PacketRun(0, count, 0, 0, "", "")] * bool(count)

@@ -223,7 +223,8 @@ def find_part_packets(search: PartSearch, part: Part, listener: Listener) -> Ran
                                          cut.read,
                                   part.number))
     if damage and not cut.is_over:
-        listener.print_line(f"range: {recording.display_name}: {damage}; it was read up to there")
+        listener.print_line(f"range: {recording.display_name}: {damage}; the recording was read "
+                            "up to this point")
     if cut.range is None:
         raise Unclear("the recording has nothing of the page at the time of the subtitles",
                       recording.suggest_call("--origin", "T"),

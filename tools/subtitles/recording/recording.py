@@ -171,7 +171,7 @@ class Recording:
         pids = [by_pid[pid] for pid in sorted(by_pid) if by_pid[pid].has_page]
         self.refuse_silent({one.pid for one in pids})
         if len(pids) == 1:
-            self.print_choice(pids[0], "on no other PID")
+            self.print_choice(pids[0], "and on no other PID")
             return pids[0]
         if not pids:
             refuse_unsent(self.request, self.survey, self.times)
@@ -218,7 +218,8 @@ class Recording:
         """Report damage, skipped bytes, and the places where packets are missing."""
         packets = self.packets
         if packets.damage:
-            self.listener.print_line(f"{self.name}: {packets.damage}; it was read up to there")
+            self.listener.print_line(f"{self.name}: {packets.damage}; the recording was read up to "
+                                     "this point")
         if not self.is_stream:
             return
         why = explain_refusal(packets)
@@ -299,8 +300,8 @@ class Recording:
             notices.append(Notice("cut", f"{escape_hidden(self.name)} ends within a PES packet of "
                                   "the page's PID, which is not judged"))
         if self.packets.damage:
-            notices.append(Notice("cut", f"{escape_hidden(self.name)}: {self.packets.damage}; it "
-                                  "was read up to there"))
+            notices.append(Notice("cut", f"{escape_hidden(self.name)}: {self.packets.damage}; "
+                                  "the recording was read up to this point"))
         return notices
 
     # Messages and suggestions

@@ -146,7 +146,7 @@ def explain_refusal(packets: Packets) -> str | None:
     which = "PES packets of private_stream_1" if packets.refusal == 31 else \
         "PES packets of 184 to 1656 bytes"
     if not packets.count:
-        return f"{name} has no {which}, as Teletext has"
+        return f"{name} has no {which}, which carry Teletext"
     word = "Start" if packets.refusal == 31 else "Length"
     return f"{name} has data other than {which} from PES packet {packets.count} on: refused " \
         f"{packets.refusal} {word} pes {packets.count}"
