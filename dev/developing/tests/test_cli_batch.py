@@ -271,7 +271,7 @@ class ForkedPairs(Case):
         self.calls = PairRunner(self.command_paths, self.path("temporary"), self.path("out"), False)
 
     def item(self, kind: str, name: str = "one", *words: str) -> BatchItem:
-        """Return a pair whose subtitle file tells the script `CALL` how to end."""
+        """Return a pair whose subtitle file determines how the script `CALL` ends."""
         stl = self.write(f"{name}.stl", kind.encode())
         return BatchItem(name, request_for(stl, self.path("one.ts"), *words), None)
 

@@ -79,7 +79,7 @@ def optional_number(word: str) -> int | None:
 
 
 def parse_rows(word: str) -> Texts:
-    """Parse rows such as `22:2020..,23:..`; `-` stands for no rows."""
+    """Parse rows such as `22:2020..,23:..`; `-` means no rows."""
     return () if word == "-" else tuple(
         (int(row), bytes.fromhex(cells)) for row, _, cells in (
             one.partition(":") for one in word.split(",")))
