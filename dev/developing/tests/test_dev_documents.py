@@ -198,9 +198,8 @@ class GeneratedParts(unittest.TestCase):
             pages.replace_parts(text, {"two": ""})
 
 
-# Folders and packages listed in CONTRIBUTING.md, and the heading of each list.
-FOLDERS = [("tools", "subtitles", "Tools"),
-           ("dev", None, "For developers of this repository")]
+# Folders whose scripts CONTRIBUTING.md lists, and the heading of each list.
+FOLDERS = [("tools", "Tools"), ("dev", "For developers of this repository")]
 PACKAGES = [*(os.path.join("tools", "subtitles", name)
               for name in ("common", "formats", "request", "stream", "clock", "recording",
                            "judging", "results", "report", "cli", "air")),
@@ -219,16 +218,21 @@ def entries(folder: str) -> list[str]:
 
 
 class ModuleLists(Case):
-    def test_contributing_lists_all_scripts_and_packages(self) -> None:
+    def test_contributing_lists_all_scripts(self) -> None:
         contributing = read(os.path.join(TOP, "CONTRIBUTING.md")) or ""
-        for name, package, heading in FOLDERS:
-            folder = os.path.join(TOP, name)
+        for name, heading in FOLDERS:
             rows = re.findall(r"`(.+?)`", " ".join(ROW.findall(
                 contributing.partition(f"## {heading}\n")[2].partition("\n## ")[0])))
-            inside = entries(os.path.join(folder, package)) if package else []
-            wanted = [entry for entry in [*entries(folder), *inside]
+            wanted = [entry for entry in entries(os.path.join(TOP, name))
                       if entry not in ("subtitles/", "developing/")]
             self.must(name, sorted(rows) == sorted(wanted), set(rows) ^ set(wanted))
+
+    def test_the_tools_list_their_packages(self) -> None:
+        folder = os.path.join(TOP, "tools", "subtitles")
+        listed = (read(os.path.join(folder, "__init__.py")) or "").partition("To find")[0]
+        rows = re.findall(r"^([a-z]+)  +\S", listed, re.M)
+        wanted = [one.rstrip("/") for one in entries(folder)]
+        self.must("packages", sorted(rows) == wanted, set(rows) ^ set(wanted))
 
     def test_each_package_lists_its_modules(self) -> None:
         for name in PACKAGES:
