@@ -257,7 +257,7 @@ class ModuleLists(Case):
         unknown = find_unknown_clauses(text, Library(TOP))
         self.must("docs/CLAUSES.md", not unknown, unknown)
         self.must("rows", "sub_check/check_files.accepted" in list_indexed_clauses(text)
-                  and len(list_indexed_clauses(text)) > 80, len(list_indexed_clauses(text)))
+                  and len(list_indexed_clauses(text)) > 60, len(list_indexed_clauses(text)))
 
     def test_a_reading_list_describes_each_crate(self) -> None:
         about = import_script("reading-list").first_paragraph
