@@ -261,13 +261,11 @@ class CommandLine(Case):
 | Number | Name | Means | Do | Accepted with |
 |---|---|---|---|---|
 | 10 | One | first | mend it |
-| 11 | Two | second | the same |
-| 12 | Three | third | the same, twice | [a](b) |
+| 11 | Two | second | replace it | [a](b) |
 """)
         with mock.patch.object(listing, "REFUSALS_PATH", path):
             self.assertEqual(listing.read_meanings(), {
-                10: ("One", "first", "mend it"), 11: ("Two", "second", "mend it"),
-                12: ("Three", "third", "mend it, twice")})
+                10: ("One", "first", "mend it"), 11: ("Two", "second", "replace it")})
         with mock.patch.object(listing, "REFUSALS_PATH", self.path("none")):
             self.assertEqual(listing.read_meanings(), {})
         self.assertTrue({50, 72} <= {*listing.read_meanings()} and

@@ -189,16 +189,13 @@ class Meaning(NamedTuple):
 def read_meanings() -> dict[int, Meaning]:
     """Return the manual's rows by fault number; no rows if the manual is not installed."""
     by_number: dict[int, Meaning] = {}
-    last = ""
     if not os.path.isfile(REFUSALS_PATH):
         return by_number
     with open(REFUSALS_PATH, encoding="utf-8") as file:
         for line in file:
             cells = [cell.strip() for cell in line.strip().strip("|").split("|")]
             if len(cells) >= 4 and cells[0].isdecimal():
-                name, meaning, remedy = cells[1:4]  # the fifth cell lists options
-                last = remedy.replace("the same", last) if remedy.startswith("the same") else remedy
-                by_number[int(cells[0])] = Meaning(name, meaning, last)
+                by_number[int(cells[0])] = Meaning(*cells[1:4])  # the fifth cell lists options
     return by_number
 
 
