@@ -203,15 +203,15 @@ OPTIONS: tuple[Option, ...] = (
            "(#the-clock-by-the-first-picture); `tcp`: use the TCP of the GSI block",
            MEASURED_PAIRS, "estimated", field="start", read=parse_start, is_in_profile=True,
            shape=Maybe(Text())),
-    Option("--relative", None, "exit with status 0 for [`relative`](#verdicts-and-exit-status): "
-           "a delay of all subtitles is not checked", PAIRS, "status 3",
-           field="is_relative_allowed", default=False, is_in_profile=True, shape=Flag()),
+    Option("--relative", None, "exit with status 0, not 3, for [`relative`]"
+           "(#verdicts-and-exit-status)", PAIRS, "status 3", field="is_relative_allowed",
+           default=False, is_in_profile=True, shape=Flag()),
     Option("--within", "N", "accept pages that are complete at most N frames after their cues",
            MEASURED_PAIRS, "0", field="within", default=0, read=parse_within, check_default=0,
            is_in_profile=True, shape=Integer(0, MAX_WITHIN)),
-    Option("--late", "SHARES", "choose the likeliest clock by the usual delays of the inserter: "
-           "how many in-cues, and after the slash out-cues, are 0, 1 .. frames late, as "
-           "`0:31,1:40,2:29/0:100`; only with `--within`",
+    Option("--late", "SHARES", "choose the likeliest clock by the shares of in-cues and, after "
+           "the slash, out-cues that are usually 0, 1 .. frames late, as `0:31,1:40,2:29/0:100`; "
+           "only with `--within`",
            PAIRS, "none", field="late", read=parse_lateness, write=format_lateness,
            is_in_profile=True,
            shape=Maybe(Text()), result_value=lambda late: late and format_lateness(late)),
