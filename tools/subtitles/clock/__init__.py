@@ -1,7 +1,7 @@
-"""Estimate the origin of the clock, or compute it from `--start`.
+"""Estimate the origin (the PTS of the subtitle file's 00:00:00:00), or compute it from `--start`.
 
-alignment      match subtitles with the transmission: origins, delays and drift
+alignment      compare cues with page changes: origins, delays and drift
 stretches      find the parts between breaks, and repeated airings
-origin         estimate the origin of a recording, and describe it
-start          the clock of a part: given, estimated, or by the first picture
+origin         estimate the origin of a recording, and report on it
+start          the clock of a part, and the clock that `--start` sets
 """

@@ -1,4 +1,9 @@
-"""Match subtitles with the transmission: origins, delays and drift."""
+"""Compare the cues of subtitles with the changes of the transmitted page.
+
+A cue is a frame at which the expected page changes. The origin is the PTS of the subtitle file's
+00:00:00:00. Given an origin, a cue matches a page change in the same frame. With --within N it
+matches only a change to the expected text, up to N frames later.
+"""
 from __future__ import annotations
 
 import bisect
@@ -16,21 +21,19 @@ from ..common.command_line import Lateness
 from ..common.times import EARLY_TICKS, TICKS, wrap_pts
 from ..stream.packets import HEADER, Packets, PageChange, Range, Texts
 
-
-# A cue is a frame at which the expected page changes. By an origin, a cue matches a change of the
-# transmitted page in the same frame; with --within N, also a change to the expected text up to N
-# frames later.
-
-VOTES = 1_000_000  # most pairs of cues and page changes to compare
-REPEATED = 20  # most cues with the same text to compare by their text
-TRIED = 64  # most origins to compare with all cues
-MAX_CUE_OFFSET = 50  # most frames of delay between in-cues and out-cues
-MAX_BASES = 32  # most time bases to search
-MAX_ERASED = 5  # most frames between erasing a page and repeating its text
+VOTES = 1_000_000  # maximum number of pairs of a cue and a page change to compare
+REPEATED = 20  # a text is not compared if more cues share it
+TRIED = 64  # maximum number of origins to compare with all cues
+MAX_CUE_OFFSET = 50  # maximum difference between the delays of in-cues and out-cues, in frames
+MAX_BASES = 32  # maximum number of time bases to search
+MAX_ERASED = 5  # a text that is sent again within this number of frames was not erased
 
 
 class ExpectedSubtitle(NamedTuple):
-    """A subtitle from frame `begin` to before `end`: its appearance and its characters."""
+    """A subtitle that is shown from frame `begin` and erased at frame `end`.
+
+    `look` has its text, row and justification, and `letters` only its characters.
+    """
 
     begin: int
     end: int
@@ -39,7 +42,9 @@ class ExpectedSubtitle(NamedTuple):
 
 
 class ExpectedCue(NamedTuple):
-    """A change of the expected page: its frame, the new characters, and whether a subtitle begins.
+    """A change of the expected page: its frame and the new characters.
+
+    `is_begin` is true for an in-cue and false for an out-cue.
     """
 
     frame: int
@@ -48,12 +53,13 @@ class ExpectedCue(NamedTuple):
 
 
 class OriginFit(NamedTuple):
-    """An origin and the number of cues that match by it.
+    """An origin and the number of cues that match.
 
-    `content_matches` counts cues with the expected page, `text_matches` those with a text,
-    `exact_matches` those without a distance in ticks, and `total` all cues while the page was sent.
-    `first_text` is the frame of the first text match, `first_unmatched` that of the first cue
-    without a match, and `start` the frame at the first PTS. `delays` has a delay for each match.
+    `total` counts the cues during the recording, and `matches` those that match a page change.
+    `content_matches` counts the matches with the expected page, `text_matches` those of them that
+    are no erasures, and `exact_matches` the matches at the start of a frame. `first_text` is the
+    frame of the first text match, and `first_unmatched` the frame of the first cue without a match.
+    `start` is the frame of the first PTS. With --within N, `delays` has the delay of each match.
     """
 
     origin: int
@@ -68,14 +74,18 @@ class OriginFit(NamedTuple):
     delays: Sequence[int] = ()
 
     def score(self, counts_erasures: bool = True) -> int:
-        """Return the score of an origin. Cues with the expected page count twice; erasures only if
-        `counts_erasures`."""
+        """Return the score of an origin. Cues with the expected page count twice.
+
+        If `counts_erasures` is false, an erasure counts once.
+        """
         return self.matches + (self.content_matches if counts_erasures else self.text_matches)
 
 
 class CueOffset(NamedTuple):
-    """A delay of in-cues against out-cues, or of out-cues against in-cues: `delay` frames, which
-    `matches` of `total` cues have."""
+    """A delay of in-cues relative to out-cues if `is_begin` is true; otherwise the reverse.
+
+    `matches` of `total` cues have this delay.
+    """
 
     is_begin: bool
     delay: int
@@ -84,8 +94,10 @@ class CueOffset(NamedTuple):
 
 
 class MatchedChange(NamedTuple):
-    """A page change that matches a cue: its delay in frames, its characters, and its distance from
-    a whole frame in ticks."""
+    """A page change: its delay after the cue in frames, and the characters of the new page.
+
+    `ticks` is the distance of its PTS from the start of its frame.
+    """
 
     delay: int
     letters: bytes
@@ -106,7 +118,10 @@ def find_expected_cues(subtitles: Sequence[ExpectedSubtitle]) -> list[ExpectedCu
 
 
 class TimeBase:
-    """A part of a recording in which PTS rise: its page changes, by frames after its first header.
+    """A part of a recording in which PTS increase, and its page changes.
+
+    `changes` has the page changes by the number of frames since the first header. `packets` is the
+    range of PES packets, and `within` the allowed delay in frames.
     """
 
     def __init__(self, cues: Sequence[ExpectedCue], changes: Sequence[PageChange], first: int,
@@ -130,7 +145,7 @@ class TimeBase:
         self.length = self.split_distance(last)[0]
 
     def changes_by_frame(self, changes: Sequence[PageChange]) -> Iterator[PageChange]:
-        """Yield the last change in each frame, if the page differs from the one before."""
+        """Yield the last change in each frame, unless it leaves the page as it was before."""
         before: Texts | None = None
         for change in {self.split_distance(one.pts)[0]: one for one in changes}.values():
             if change.rows != before or not change.letters:
@@ -138,13 +153,14 @@ class TimeBase:
             before = change.rows
 
     def split_distance(self, pts: int) -> tuple[int, int]:
-        """Return the whole frames from the first PTS to another, and the remaining ticks."""
+        """Return the number of whole frames from the first PTS to `pts`, and the remaining ticks.
+        """
         early = EARLY_TICKS if self.within else TICKS // 2
         frames, ticks = divmod(wrap_pts(pts - self.first + early), TICKS)
         return frames, ticks - early
 
     def copy_between(self, cues: Sequence[ExpectedCue], low: int, high: int) -> TimeBase:
-        """Return a copy with other cues, and with the changes between two frame numbers."""
+        """Return a copy with the cues `cues`, and only the page changes between two frames."""
         base = copy.copy(self)
         base.__dict__.pop("fits", None)
         base.cues, base.frames = cues, [cue.frame for cue in cues]
@@ -152,7 +168,10 @@ class TimeBase:
         return base
 
     def find_match(self, cue: ExpectedCue, start: int) -> MatchedChange | None:
-        """Return the change that matches a cue if the first PTS is at frame `start`, or `None`."""
+        """Return the page change that matches a cue, or `None` if there is none.
+
+        `start` is the assumed frame of the first PTS.
+        """
         if not self.within:
             return self.changes.get(cue.frame - start)
         for delay in range(self.within + 1):
@@ -163,10 +182,10 @@ class TimeBase:
 
     @functools.cached_property
     def fits(self) -> list[OriginFit]:
-        """Return the best origins by their points, best first.
+        """Return the most likely origins, in descending order of their scores.
 
-        Origins with equal points are sorted by their texts; the first is the one with the earliest
-        text.
+        If scores are equal, an origin with more text matches is first. If these are equal too, the
+        origin whose first text match is earliest is the first of all.
         """
         if not self.cues or not self.changes:
             return []
@@ -189,15 +208,17 @@ class TimeBase:
             fit is not first, -fit.score(), -fit.text_matches, fit.start))
 
     def votes(self) -> collections.Counter[int]:
-        """Count the pairs of a cue and a change by the start frame at which they would match. If
-        there are too many pairs, use only every n-th change."""
+        """Return, for each start frame, the number of cues that match a page change.
+
+        If there are too many cues and page changes to compare, use only every n-th page change.
+        """
         places = sorted(self.changes)
         voting = places[::len(places) * len(self.cues) // VOTES + 1]
         return collections.Counter(itertools.starmap(operator.sub, itertools.product(
             self.frames, voting)))
 
     def count_equal_texts(self) -> collections.Counter[int]:
-        """Count the pairs of a cue and a change with the same text by their start frame."""
+        """Return, for each start frame, the number of cues that match a change to the same text."""
         frames = collections.defaultdict(list)
         for cue in self.cues:
             frames[cue.letters].append(cue.frame)
@@ -206,18 +227,21 @@ class TimeBase:
             if letters and len(frames[letters]) <= REPEATED for frame in frames[letters])
 
     def has_text_at(self, cue: ExpectedCue, start: int) -> bool:
-        """Return whether the expected characters of a cue come in its frame."""
+        """Return whether the expected characters of a cue are received in its frame."""
         change = self.changes.get(cue.frame - start)
         return change is not None and change.letters == cue.letters
 
     def fit(self, start: int) -> OriginFit:
-        """Match the cues by a start frame, moved so that the least delay is 0."""
+        """Compare the cues with the page changes, like `compare`, but with a smallest delay of 0.
+
+        If all matching cues are late, use a later origin.
+        """
         fit = self.compare(start)
         least = min(fit.delays, default=0)
         return self.fit(start - least) if least else fit
 
     def compare(self, start: int) -> OriginFit:
-        """Match the cues by a start frame."""
+        """Compare the cues with the page changes if the first PTS is at frame `start`."""
         inside = self.cues[bisect.bisect_left(self.frames, start):
                            bisect.bisect_right(self.frames, start + self.length)]
         pairs = [(cue, change) for cue in inside if (change := self.find_match(cue, start))]
@@ -234,7 +258,10 @@ class TimeBase:
                          next(unmatched, None) if len(pairs) < len(inside) else None, start, delays)
 
     def find_cue_offset(self, fit: OriginFit) -> CueOffset | None:
-        """Return a constant delay between in-cues and out-cues, or `None`."""
+        """Return the constant delay of in-cues relative to out-cues, or the reverse.
+
+        Return `None` if there is no constant delay.
+        """
         for is_begin in (True, False):
             before_offset = self.count_delayed(fit, is_begin, 0)
             if before_offset.total and before_offset.matches * 2 >= before_offset.total:
@@ -242,14 +269,15 @@ class TimeBase:
             best = max((self.count_delayed(fit, is_begin, delay)
                         for delay in range(-MAX_CUE_OFFSET, MAX_CUE_OFFSET + 1)),
                        key=lambda cue_offset: (cue_offset.matches, -abs(cue_offset.delay)))
-            least = 1 if is_begin or fit.text_matches else 2  # any page may be erased
+            # A single erasure is no evidence: it may belong to another subtitle.
+            least = 1 if is_begin or fit.text_matches else 2
             if abs(best.delay) > self.within and best.matches >= least and \
                     best.matches * 10 >= best.total * 9:
                 return best
         return None
 
     def count_delayed(self, fit: OriginFit, is_begin: bool, delay: int) -> CueOffset:
-        """Count the in-cues or the out-cues with a delay of `delay` frames."""
+        """Count the in-cues (or out-cues) whose page is sent `delay` frames after their frame."""
         expected_texts = [(at, cue.letters) for cue in self.cues if cue.is_begin == is_begin
                           and 0 <= (at := cue.frame - fit.start + delay) <= self.length]
         matches = sum(at in self.changes and self.changes[at].letters == letters
@@ -257,13 +285,19 @@ class TimeBase:
         return CueOffset(is_begin, delay, matches, len(expected_texts))
 
     def align_in_cues(self, fit: OriginFit) -> OriginFit:
-        """Return the origin of the in-cues if the out-cues have another one, or else `fit`."""
+        """Return the origin of the in-cues if it differs from the origin of the out-cues.
+
+        Otherwise return `fit`.
+        """
         cue_offset = self.find_cue_offset(fit)
         return self.fit(fit.start - cue_offset.delay) if cue_offset and cue_offset.is_begin else fit
 
 
 def skip_repeats(changes: Sequence[PageChange], most: int) -> Iterator[PageChange]:
-    """Yield the page changes, except an erasure if the same text follows within `most` frames."""
+    """Yield the page changes without erasures that are soon followed by the same text.
+
+    If a text is erased and sent again within `most` frames, skip the erasure and the repeat.
+    """
     at = 0
     while at < len(changes):
         yield changes[at]
@@ -274,8 +308,10 @@ def skip_repeats(changes: Sequence[PageChange], most: int) -> Iterator[PageChang
 
 
 def find_repeat(changes: Sequence[PageChange], at: int, most: int) -> int | None:
-    """Return the index of the change that repeats a text within `most` frames after its erasure, or
-    `None`."""
+    """Return the index of the change that repeats the text of `changes[at]` after its erasure.
+
+    Return `None` if there is no repeat within `most` frames.
+    """
     text, after = changes[at], changes[at + 1:at + 26]
     if not text.letters or not after or after[0].letters:
         return None
@@ -288,7 +324,10 @@ def find_repeat(changes: Sequence[PageChange], at: int, most: int) -> int | None
 
 def find_time_bases(subtitles: Sequence[ExpectedSubtitle], packets: Packets, within: int,
                     inside: Range | None = None) -> list[TimeBase]:
-    """Return the time bases of the PES packets `inside` in which the page changes."""
+    """Return the time bases in which the page changes.
+
+    `inside` is the range of PES packets to use; `None` means all.
+    """
     cues, bases = find_expected_cues(subtitles), []
     run_starts = [run.first for run in packets.runs]
     for base, changes in select_time_bases(packets, inside or (0, packets.count - 1)):
@@ -302,8 +341,11 @@ def find_time_bases(subtitles: Sequence[ExpectedSubtitle], packets: Packets, wit
 
 
 def select_time_bases(packets: Packets, inside: Range) -> list[tuple[range, Sequence[PageChange]]]:
-    """Return the ranges of PES packets in which the page changes, each with its changes. If PTS go
-    back too often, return those with the most changes."""
+    """Return the ranges of PES packets between jumps back of the PTS, with their page changes.
+
+    Ranges without a page change are omitted. If there are more than `MAX_BASES` ranges, return
+    those with the most page changes.
+    """
     numbers = [change.number for change in packets.changes]
     candidates = []
     for base_numbers in packets.time_bases():
@@ -316,22 +358,26 @@ def select_time_bases(packets: Packets, inside: Range) -> list[tuple[range, Sequ
     return [candidate for candidate in candidates if candidate[0] in selected]
 
 
-# The clock by the delays of cues
+# Estimating the clock from the delays of cues
 #
 # With --within N the estimated clock must not depend on a few early subtitles, nor on an inserter
-# that is late for most. So unless delays are configured, use the earliest usual delay of in-cues
-# or out-cues; rows need time, an erasure does not. A few cues before that clock are early
-# subtitles. If there are many, the inserter may be late for all others: then ask for the clock.
+# that delays most subtitles. So the clock is set to the shortest usual delay of in-cues or
+# out-cues, unless --late gives the delays. Out-cues are often the earliest, because an erasure
+# takes no time to send. If a few cues are earlier than that clock, the subtitles are early. If
+# there are many, the inserter may delay all other subtitles; then the operator must give the clock.
 
-COMMON = 2  # a usual delay has at least 1/2 as many cues as the commonest delay
-FEW_CUES = 3  # and at least 3 cues, if the commonest delay has 3
-FEW_ENDS = 10  # ignore out-cues if they are less than 1/10 of all cues
-RARE = 20  # cues before the clock are early subtitles if they are less than 1/20 of all
-UNSEEN_SHARE = 0.002  # share of cues without a match, and of delays without a configured share
+COMMON = 2  # a usual delay has at least 1/2 of the number of cues with the most common delay
+FEW_CUES = 3  # a usual delay has at least 3 cues, unless no delay has 3
+FEW_ENDS = 10  # out-cues are ignored if they are less than 1/10 of all cues
+RARE = 20  # minimum share of early cues (1/20) for which the operator must give the clock
+UNSEEN_SHARE = 0.002  # minimum probability of a delay, and probability of a cue without a match
 
 
 class EarlyCues(NamedTuple):
-    """Cues before the chosen clock: how many of how many, and the most frames that one is early."""
+    """The number of early cues among `total` matching cues.
+
+    `frames` is the maximum number of frames by which a cue is early.
+    """
 
     early_count: int
     total: int
@@ -339,15 +385,16 @@ class EarlyCues(NamedTuple):
 
     @property
     def is_common_delay(self) -> bool:
-        """Return whether early cues are so many that the inserter may be late for the others."""
+        """Return whether there are so many early cues that the inserter may delay the others."""
         return self.early_count * RARE >= self.total
 
 
 def choose_clock(base: TimeBase, fit: OriginFit,
                  lateness: Lateness | None) -> tuple[OriginFit, EarlyCues | None]:
-    """Return the intended clock near an estimated one, and the cues before it.
+    """Correct the estimated clock `fit` by the usual delay, or by `lateness` (the option --late).
 
-    Use the configured shares of delays, or else the usual delay.
+    Return the corrected clock and its early cues. The second value is `None` if no cue is early, or
+    if `lateness` is given.
     """
     if not base.within or not fit.matches:
         return fit, None
@@ -365,7 +412,7 @@ def choose_clock(base: TimeBase, fit: OriginFit,
 
 def count_delays(base: TimeBase, fit: OriginFit) -> tuple[collections.Counter[int],
                                                           collections.Counter[int]]:
-    """Count the in-cues, and the out-cues, by their delay in frames."""
+    """Return the number of in-cues, and the number of out-cues, with each delay in frames."""
     kinds: tuple[collections.Counter[int], collections.Counter[int]] = (
         collections.Counter(), collections.Counter())
     for cue in base.cues:
@@ -375,7 +422,10 @@ def count_delays(base: TimeBase, fit: OriginFit) -> tuple[collections.Counter[in
 
 
 def find_usual_delay(begins: Mapping[int, int], ends: Mapping[int, int]) -> int:
-    """Return the earliest usual delay of in-cues or out-cues; 0 if there is none."""
+    """Return the shortest usual delay of in-cues or out-cues, or 0 if there is none.
+
+    `begins` and `ends` have the number of in-cues and of out-cues with each delay.
+    """
     count = sum(begins.values()) + sum(ends.values())
     kinds = [kind for kind in (begins, ends) if kind and (
         kind is begins or sum(kind.values()) * FEW_ENDS >= count)]
@@ -385,7 +435,8 @@ def find_usual_delay(begins: Mapping[int, int], ends: Mapping[int, int]) -> int:
 
 
 def find_likeliest_clock(base: TimeBase, fit: OriginFit, lateness: Lateness) -> OriginFit:
-    """Return the clock near an estimated one by which the delays are likeliest."""
+    """Return the clock near the estimated clock `fit` that makes the observed delays most likely.
+    """
     near = range(-base.within, 2 * base.within + 1)
     patterns = collections.Counter(
         (cue.is_begin, tuple(by for by in near if base.has_text_at(cue, fit.start - by)))
@@ -394,7 +445,7 @@ def find_likeliest_clock(base: TimeBase, fit: OriginFit, lateness: Lateness) -> 
               for delay, share in kind.items()} for kind in lateness]
 
     def likelihood(by: int) -> float:
-        """Return the log-likelihood of the clock `by` frames later."""
+        """Return the log-likelihood of a clock that is `by` frames later."""
         return sum(count * math.log(next((
             kinds[not is_begin].get(delay - by, UNSEEN_SHARE) for delay in delays
             if 0 <= delay - by <= base.within), UNSEEN_SHARE))
@@ -403,17 +454,22 @@ def find_likeliest_clock(base: TimeBase, fit: OriginFit, lateness: Lateness) -> 
     return base.compare(fit.start - max(range(base.within, -base.within - 1, -1), key=likelihood))
 
 
-# Drift: delays grow or shrink steadily, as if by another frame rate
+# Drift: delays that steadily grow or shrink, as in a recording with another frame rate
 
-FEW_TEXTS = 6  # least number of texts that are expected once and sent once
-LEAST_DRIFT = 2  # frames
-NEAR_LINE = 1.5  # most frames between a delay and the line
+FEW_TEXTS = 6  # minimum number of texts that are expected once and sent once
+LEAST_DRIFT = 2  # minimum drift, in frames
+NEAR_LINE = 1.5  # maximum distance in frames between a delay and the regression line
 MAX_OFF = 10  # at most 1/10 of the delays may be farther from the line
-MAX_LEFT = 5  # most variance around the line: 1/5 of all; a single step would leave 1/4
+# The line must explain all but 1/5 of the variance of the delays. A line through delays that
+# change only once leaves at least 1/4.
+MAX_LEFT = 5
 
 
 class Drift(NamedTuple):
-    """A change of the delay by `frames` between two frames; negative: subtitles come earlier."""
+    """A steady change of the delay by `frames` from frame `first` to frame `last`.
+
+    `frames` is negative if the subtitles become early.
+    """
 
     first: int
     last: int
@@ -421,8 +477,11 @@ class Drift(NamedTuple):
 
 
 def find_drift(cues: Sequence[ExpectedCue], changes: Mapping[int, MatchedChange]) -> Drift | None:
-    """Return the drift by texts that are expected once and sent once, or `None` if delays do not
-    change steadily. `changes` are by frames after the first PTS."""
+    """Return the drift of the delays, or `None` if they do not change steadily.
+
+    Only texts that are expected once and sent once are compared. The keys of `changes` are numbers
+    of frames since the first PTS.
+    """
     due = find_single_texts((cue.frame, cue.letters) for cue in cues)
     sent = find_single_texts((at, change.letters) for at, change in changes.items())
     frames = sorted(frame for letters, frame in due.items() if letters in sent)
@@ -444,7 +503,7 @@ def find_drift(cues: Sequence[ExpectedCue], changes: Mapping[int, MatchedChange]
 
 
 def select_near_line(delays: Sequence[tuple[int, int]]) -> list[tuple[int, int]]:
-    """Return the pairs of frame and delay that lie near one line."""
+    """Return the pairs of frame and delay that are close to a common straight line."""
     half = len(delays) // 2
     slope = statistics.median((late - early) / (last - first) for (first, early), (last, late)
                               in zip(delays, delays[half:]))
@@ -454,7 +513,7 @@ def select_near_line(delays: Sequence[tuple[int, int]]) -> list[tuple[int, int]]
 
 
 def find_single_texts(several: Iterable[tuple[int, bytes]]) -> dict[bytes, int]:
-    """Return the frame of each text that occurs once."""
+    """Return the frame of each text that occurs exactly once."""
     places_of: dict[bytes, list[int]] = {}
     for at, letters in several:
         if letters:

@@ -1,4 +1,8 @@
-"""Estimate the origin of a recording, and describe it."""
+"""Estimate the origin of a recording, and report on it.
+
+A part is a range of the subtitle file with one origin; a file has several parts if the recording
+has breaks.
+"""
 from __future__ import annotations
 
 import dataclasses
@@ -19,17 +23,17 @@ from .stretches import (
     select_other_origins, split_at_breaks)
 
 
-NEAR = 10 * FRAMES_A_SECOND  # most frames from origin 0 at which the distance is printed
-NAMED = 5  # most origins or pages to list
-LISTED = 20  # most changes of the delay to list
+NEAR = 10 * FRAMES_A_SECOND  # maximum distance from origin 0 that is printed
+NAMED = 5  # maximum number of origins or pages to list
+LISTED = 20  # maximum number of changes of the delay to list
 
 
 class OriginSearch(NamedTuple):
-    """A request to find the origin by the subtitles of a file and a page of a recording.
+    """A request to estimate the origin from the subtitles of a file and a page of a recording.
 
-    `origin` is the known origin, `within` the allowed delay in frames, and `breaks` the number of
-    breaks. Only the PES packets `inside` are used, and only subtitles that begin `between` two
-    frames and whose positions are not in `left_out`.
+    `origin` is the known origin, if any. `within` is the allowed delay in frames, and `breaks` the
+    number of breaks. `inside` is the range of PES packets to use, and `between` the range of frames
+    in which subtitles begin. `left_out` has the positions of subtitles to ignore.
     """
 
     stl: str
@@ -42,13 +46,16 @@ class OriginSearch(NamedTuple):
     inside: Range | None = None
     between: Between = ALL_DAY
     left_out: Collection[int] = ()
-    lateness: Lateness | None = None  # the shares of delays, if configured
-    has_picture: bool = False  # whether `--start` can be used
+    lateness: Lateness | None = None  # the option --late
+    has_picture: bool = False  # whether the operator may use `--start`
 
 
 class PartOrigin(NamedTuple):
-    """The origin of a part: its PES packets if PTS go back, its first and last frame if there are
-    several parts, the number of cues that match, and the line that says so."""
+    """The origin of a part, and the number of its cues that match.
+
+    `packets` is its range of PES packets, if PTS go back somewhere in the recording. `frames` has
+    its first and last frame, if there are several parts. `line` reports how many cues match.
+    """
 
     origin: int
     packets: Range | None = None
@@ -60,13 +67,15 @@ class PartOrigin(NamedTuple):
 
 @dataclasses.dataclass
 class OriginEstimate:
-    """The estimated origin: its parts if it is clear (`status` 0).
+    """The result of an estimate.
 
-    `airings` are the PES packets of each airing if there are several; `breaks` is the number of
-    breaks in the recording if it differs from --breaks. `ticks_late` is the delay of the first part
-    by the known origin. `has_all_cues` says whether all its cues match, if need be with a constant
-    delay between in-cues and out-cues. The delay first changes at frame `first_shift`; lines
-    `shift_texts` list the changes. `printed` and `lines` are the output.
+    `status` is 0 if the origin is unambiguous; `parts` then has the origin of each part. `airings`
+    has the PES packets of each airing of the programme, if there are several. `breaks` is the
+    number of breaks in the recording, if it differs from --breaks. `ticks_late` is the delay of the
+    first part relative to the known origin. `has_all_cues` is true if all cues of the first part
+    match, or if all its in-cues or out-cues have the same delay. `first_shift` is the first frame
+    with another delay, and `shift_texts` lists the changes of the delay. `printed` has the options
+    for standard output, and `lines` the messages.
     """
 
     status: int = 1
@@ -75,7 +84,7 @@ class OriginEstimate:
     breaks: int | None = None
     ticks_late: int | None = None
     has_all_cues: bool = True
-    matches_every_cue: bool = False  # every cue of the file matches, with its text
+    matches_every_cue: bool = False  # whether every cue of the file matches the expected page
     first_shift: int | None = None
     shift_texts: list[str] = dataclasses.field(default_factory=list)
     printed: list[str] = dataclasses.field(default_factory=list)
@@ -84,7 +93,10 @@ class OriginEstimate:
 
 def subtitles_between(path: str, option: str, between: Between,
                       left_out: Collection[int] = ()) -> list[ExpectedSubtitle]:
-    """Return the subtitles of a file that begin `between` two frames and end within the day."""
+    """Return the subtitles that begin in the range `between` and end on the same day.
+
+    Leave out the subtitles at the positions `left_out`.
+    """
     shown = []
     for place, stored in enumerate(read_until_damage(path, read_stl(path)), 1):
         begin, end = subtitle_times(stored)
@@ -98,7 +110,7 @@ def subtitles_between(path: str, option: str, between: Between,
 
 
 def estimate_origin(search: OriginSearch, packets: Packets) -> OriginEstimate:
-    """Estimate the origin of a recording, or explain why it is not clear."""
+    """Estimate the origin of a recording, or explain why it is ambiguous."""
     origin = OriginEstimate()
     subtitles = subtitles_between(search.stl, search.option, search.between, search.left_out)
     if not report_sent_pages(packets, search, origin.lines):
@@ -129,8 +141,11 @@ def estimate_origin(search: OriginSearch, packets: Packets) -> OriginEstimate:
 
 
 def report_sent_pages(packets: Packets, search: OriginSearch, lines: list[str]) -> bool:
-    """Return whether the page was sent, and add lines about PES packets that are not used and about
-    other pages."""
+    """Return whether the page was sent.
+
+    Append messages about skipped PES packets to `lines`; if the page was not sent, also about the
+    pages that were.
+    """
     count, marks = packets.count, len(packets.gap_markers)
     timed = sum(run.length for run in packets.runs_with_pts())
     if packets.damage:
@@ -157,7 +172,7 @@ def report_sent_pages(packets: Packets, search: OriginSearch, lines: list[str]) 
 
 def store_first_part(origin: OriginEstimate, search: OriginSearch, bases: Sequence[TimeBase],
                      row: Sequence[Stretch], parts: Sequence[EstimatedPart]) -> None:
-    """Store the origin of the first part if it is clear, and lines about its delays."""
+    """Store the origin of the first part if it is unambiguous, and messages about its delays."""
     if not parts:
         origin.lines.append("no cue matches at any origin")
         return
@@ -183,10 +198,14 @@ def store_first_part(origin: OriginEstimate, search: OriginSearch, bases: Sequen
 
 
 def prefer_known_origin(part: EstimatedPart, known: int | None) -> EstimatedPart:
-    """Return a part with the known origin if by the estimated one only the first page matches. If a
-    recording begins within a subtitle, its first header looks like a late in-cue."""
+    """Return a part with the known origin if the estimated origin matches only the first page.
+
+    The first page is no evidence: if a recording begins during a subtitle, its first header looks
+    like a late in-cue.
+    """
+    # The page changes without the first one, which is at frame 0.
     sent = part.time_base.copy_between(part.time_base.cues, 0, part.time_base.length +
-                                       1)  # without its first page
+                                       1)
     if known is None or sent.compare(part.best.start).matches:
         return part
     start = round(ticks_after(known, sent.first) / TICKS)
@@ -199,7 +218,7 @@ def prefer_known_origin(part: EstimatedPart, known: int | None) -> EstimatedPart
 
 def store_parts(origin: OriginEstimate, search: OriginSearch, bases: Sequence[TimeBase],
                 parts: Sequence[EstimatedPart]) -> None:
-    """Store all parts if their number agrees with --breaks and all their origins are clear."""
+    """Store the parts if their number matches --breaks and all their origins are unambiguous."""
     if len(parts) != search.breaks + 1:
         origin.breaks = max(len(parts) - 1, 0)
         breaks = counted(origin.breaks, "break") if origin.breaks else "no break"
@@ -225,7 +244,10 @@ def store_parts(origin: OriginEstimate, search: OriginSearch, bases: Sequence[Ti
 
 def add_part(origin: OriginEstimate, part: EstimatedPart, packets: Range | None,
              frames: tuple[int, int] | None, count: int) -> None:
-    """Store a part whose origin is clear; `count` is the number of cues in the file."""
+    """Store a part whose origin is unambiguous, and its command-line options.
+
+    `count` is the number of cues in the file.
+    """
     between = f"--from {time_of(frames[0])} --to {time_of(frames[1])} " if frames else ""
     pes = f"--pes {packets[0]}-{packets[1]} " if packets else ""
     best = part.best
@@ -235,8 +257,10 @@ def add_part(origin: OriginEstimate, part: EstimatedPart, packets: Range | None,
 
 
 def compare_with_known(origin: OriginEstimate, known: int | None, part: EstimatedPart) -> None:
-    """Store whether all cues of the first part match, and its distance from the known origin or
-    from 0."""
+    """Store whether all cues of the first part match, and its delay relative to the known origin.
+
+    Without a known origin, report the delay relative to --origin 0 if it is short.
+    """
     best, cue_offset = part.best, part.time_base.find_cue_offset(part.best)
     origin.has_all_cues = best.matches == best.total or bool(
         cue_offset and cue_offset.matches == cue_offset.total)
@@ -248,10 +272,11 @@ def compare_with_known(origin: OriginEstimate, known: int | None, part: Estimate
                             else f"it is {which}")
 
 
-# ---- text
-
 def explain_mismatch(packets: Packets, page: Page) -> Iterator[str]:
-    """Yield reasons why cues may not match: rows while the page was not open, or sub-pages."""
+    """Yield reasons why cues may not match.
+
+    These are rows that were sent while the page was not open, and sub-pages.
+    """
     name = page_name(*page)
     if packets.stray_rows:
         count = sum(run.length for run in packets.runs if STRAY in run.flags)
@@ -269,8 +294,11 @@ def offset_text(ticks: int) -> str:
 
 
 def find_equal_origins(part: EstimatedPart) -> list[OriginFit]:
-    """Return the origins that are as good as the best one of a part. Ignore the origin of its
-    out-cues if they have a constant delay, and origins by which only erasures match."""
+    """Return the origins that are as likely as the best origin of a part.
+
+    If its in-cues or out-cues have a constant delay, ignore nearby origins, and origins at which
+    only erasures match.
+    """
     best, cue_offset = part.best, part.time_base.find_cue_offset(part.best)
     ways = (True,) if best.matches >= LEAST_ROW else (True, False)
     return [fit for fit in part.others if any(fit.score(one) >= best.score(one) for one in ways)
@@ -279,15 +307,18 @@ def find_equal_origins(part: EstimatedPart) -> list[OriginFit]:
 
 
 def is_clear(part: EstimatedPart, is_known: bool = False) -> bool:
-    """Return whether the origin of a part is clear. If the origin is known, any number of cues may
-    be early."""
+    """Return whether the origin of a part is unambiguous.
+
+    If `is_known` is false, too many early cues make it ambiguous.
+    """
     is_open = part.early is not None and part.early.is_common_delay and not is_known
     return not find_equal_origins(part) and not is_open and (
         part.best.matches * 2 >= part.best.total or bool(part.time_base.find_cue_offset(part.best)))
 
 
 def format_match(part: EstimatedPart, count: int) -> str:
-    """Return the line on how many cues of a part match; `count` is the number in the file."""
+    """Return a line with the number of cues that match; `count` is the number of all cues in the
+    file."""
     best, others, cues = part.best, part.others, len(part.time_base.cues)
     following = f"--origin {others[0].origin} with {others[0].matches}" if others else "none"
     return (f"{best.matches} of {counted(best.total, 'cue')} "
@@ -297,7 +328,8 @@ def format_match(part: EstimatedPart, count: int) -> str:
 
 
 def format_part(part: EstimatedPart, count: int, has_picture: bool = False) -> Iterator[str]:
-    """Yield the lines on the origin of a part; `count` is the number of cues in the file."""
+    """Yield the report lines about the origin of a part; `count` is the number of cues in the file.
+    """
     best = part.best
     yield format_match(part, count)
     if part.time_base.within:
@@ -328,7 +360,7 @@ def format_part(part: EstimatedPart, count: int, has_picture: bool = False) -> I
 
 
 def early_line(early: EarlyCues, has_picture: bool) -> str:
-    """Return the line on cues before the chosen clock, with a question if there are many."""
+    """Return a line that reports early cues. If there are many, it asks for the clock."""
     count = f"{early.early_count} of {counted(early.total, 'cue')} " \
         f"{'is' if early.early_count == 1 else 'are'} up to {counted(early.frames, 'frame')} " \
         "early compared with the others"
@@ -338,7 +370,7 @@ def early_line(early: EarlyCues, has_picture: bool) -> str:
 
 
 def drift_line(drift: Drift) -> str:
-    """Return the line on a drift of the transmission."""
+    """Return a line that reports a drift of the delays."""
     way = "later and later" if drift.frames > 0 else "earlier and earlier"
     by = counted(abs(drift.frames), "frame")
     return f"from {time_of(drift.first)} to {time_of(drift.last)} subtitles come {way}, by {by}: " \
@@ -346,7 +378,7 @@ def drift_line(drift: Drift) -> str:
 
 
 def shift_lines(row: Sequence[Stretch], parts: Sequence[EstimatedPart], known: int) -> list[str]:
-    """Return a line for each change of the delay by a known origin."""
+    """Return a line for each change of the delay, which is relative to the origin `known`."""
     lines = []
     for stretch, before, part in zip(row[1:], parts, parts[1:]):
         distance = ticks_between(known, part.origin)
@@ -363,7 +395,8 @@ def shift_lines(row: Sequence[Stretch], parts: Sequence[EstimatedPart], known: i
 
 
 def format_breaks(parts: Sequence[EstimatedPart]) -> Iterator[str]:
-    """Yield a line for each later part: its begin, and the length of the break before it."""
+    """Yield a line for each part but the first: its start, and the length of the break before it.
+    """
     for number, (previous, part) in enumerate(zip(parts, parts[1:]), 2):
         frames, rest = divmod(abs(gap_ticks := ticks_between(previous.origin, part.origin)), TICKS)
         length = time_of(frames) + (f" and {counted(rest, 'tick')}" if rest else "")
@@ -374,8 +407,8 @@ def format_breaks(parts: Sequence[EstimatedPart]) -> Iterator[str]:
 
 def find_airing_packets(airings: Sequence[Airing], number: int, bases: Sequence[TimeBase],
                         packets: Packets) -> Range:
-    """Return the PES packets from the last change of the airing before to the first change of the
-    next airing."""
+    """Return the PES packets after the last page change of the previous airing and before the first
+    page change of the next airing."""
     first, last = bases[0].packets[0], bases[-1].packets[1]
     if number:
         first = find_packet_number(airings[number - 1].last, bases, packets) + 1
@@ -385,7 +418,7 @@ def find_airing_packets(airings: Sequence[Airing], number: int, bases: Sequence[
 
 
 def find_packet_number(place: tuple[int, int], bases: Sequence[TimeBase], packets: Packets) -> int:
-    """Return the number of the PES packet at a place, in a time base of any length."""
+    """Return the number of the first PES packet at or after a place in a time base."""
     base = bases[place[0]]
     length, least = TICKS * base.length, TICKS * place[1] - TICKS // 2
 

@@ -1,4 +1,4 @@
-"""The clock of a part: given, estimated, or by the first picture (`--start`)."""
+"""The clock of a part: given, estimated, or computed from `--start` and the first picture."""
 from __future__ import annotations
 
 import collections
@@ -15,8 +15,6 @@ from ..stream.packets import Packets, Range
 from ..stream.survey import Survey
 
 
-# The clock of a part
-
 RECORDING, GIVEN, START, TCP = "recording", "given", "start", "tcp"
 SOURCES = {RECORDING: "estimated", GIVEN: "given", START: "by the first picture",
            TCP: "by the first picture, TCP"}
@@ -26,13 +24,12 @@ ESTIMATED_LATER_NOTE = "the clock after a break was estimated, so a delay that a
 
 
 class Clock(NamedTuple):
-    """An origin and its source.
+    """An origin and its source, which is a key of `SOURCES`.
 
-    `source`: estimated from the recording, given by `--origin`, or by `--start` as a time or the
-    TCP of the GSI block. `delay_frames` is the delay of the cues by that clock, or `None` if it was
-    estimated, since it then includes the delay. `is_delay_of_all`: every cue of the file has that
-    delay. `evidence` says how the clock was estimated. If the time code belongs to another picture,
-    the clock is later by `picture_offset` frames.
+    `delay_frames` is the delay of the cues, or `None` if the clock was estimated from the cues and
+    so includes the delay. If `is_delay_of_all` is true, every cue of the file has this delay.
+    `evidence` explains an estimated clock. `picture_offset` is the number of frames by which the
+    clock would be later if the time code of `--start` belonged to another picture.
     """
 
     origin: int
@@ -43,22 +40,24 @@ class Clock(NamedTuple):
     is_delay_of_all: bool = False
 
     def get_selection(self, part: int | None) -> Selection | None:
-        """Return the estimated clock as a choice for a part, or `None` if it was given."""
+        """Return the `Selection` to report for an estimated clock, or `None` for other clocks."""
         evidence = self.evidence or Selection(ORIGIN_CHOICE, str(self.origin), ESTIMATED_NOTE)
         return evidence._replace(part=part) if self.is_estimated else None
 
     @property
     def is_estimated(self) -> bool:
-        """Return whether the clock was estimated from the recording that it judges."""
+        """Return whether the clock was estimated from the recording."""
         return self.source == RECORDING
 
     def words(self) -> str:
-        """Return the origin and its source."""
+        """Return the origin and its source as text."""
         return f"origin {self.origin}, {SOURCES[self.source]}"
 
     def question(self) -> str:
-        """Ask whether the time code belongs to another picture if the delay is the distance to that
-        picture; return an empty text otherwise."""
+        """Return the question whether the time code belongs to another picture.
+
+        Return an empty string unless the delay equals the distance to that picture.
+        """
         if not self.picture_offset or self.delay_frames != self.picture_offset:
             return ""
         return "is the time code from the GOP header? That belongs to the first picture in " \
@@ -68,8 +67,11 @@ class Clock(NamedTuple):
 
 
 class TimedPart(NamedTuple):
-    """A part that is judged by one clock: its frames, its PES packets if PTS go back, and the
-    frames in which its subtitles begin."""
+    """A part of the subtitle file that is judged with one clock.
+
+    `begin` and `end` are its frames. `packets` is its range of PES packets, if PTS go back
+    somewhere in the recording. `between` is the range of frames in which its subtitles begin.
+    """
 
     begin: int
     end: int
@@ -82,29 +84,32 @@ class TimedPart(NamedTuple):
         return self.clock.origin
 
 
-# The clock by the time code of the first picture, `--start`
-
-NAMES = {0x01: "MPEG-1", 0x02: "MPEG-2", 0x1B: "H.264", 0x24: "HEVC"}  # stream_type
-# Video that is not supported.
+# Names of the supported video formats, by stream_type.
+NAMES = {0x01: "MPEG-1", 0x02: "MPEG-2", 0x1B: "H.264", 0x24: "HEVC"}
+# Video formats that are not supported.
 OTHERS = {0x10: "MPEG-4 part 2", 0x1E: "MPEG-C", 0x1F: "SVC", 0x20: "MVC", 0x21: "JPEG 2000",
           0x25: "HEVC sub-bitstream", 0x32: "JPEG XS", 0x33: "VVC", 0x35: "EVC", 0x42: "AVS",
           0xD1: "Dirac", 0xD2: "AVS2", 0xD4: "AVS3", 0xEA: "VC-1"}
-TCP_PLACE = slice(256, 264)  # in the GSI block
-FRAMES_NEAR = 25  # most frames from the last PCR to the last picture
-MAX_SAMPLES = 1000  # most PTS of Teletext to compare with the first picture
-REORDERED = 16  # most pictures that are sent before a picture that is shown earlier
-LONGEST = 10 * 90_000  # most ticks of pictures to compare
-CLOSED = "closed"  # a closed group of pictures
+TCP_PLACE = slice(256, 264)  # the bytes of the TCP in the GSI block
+FRAMES_NEAR = 25  # maximum number of frames from the last PTS to the end of the last subtitle
+MAX_SAMPLES = 1000  # maximum number of PTS of Teletext to compare with the first picture
+REORDERED = 16  # maximum number of pictures that are sent before a picture shown earlier
+LONGEST = 10 * 90_000  # longest span of pictures to compare, in ticks
+CLOSED = "closed"  # `Video.form` of a group whose pictures can all be decoded
 
 
 class NoFirstPicture(Exception):
-    """The first picture is missing or not clear; the text gives the reason."""
+    """Raised if the first picture is missing or ambiguous; the message gives the reason."""
 
 
 class FirstPicture(NamedTuple):
-    """The first picture of a recording: its video PID and stream type, its PTS, and the number of
-    PES packets skipped before it. If the picture with the random_access_indicator is not the one
-    with the smallest PTS of its group, `other` is the PTS of the one that was not chosen."""
+    """The first picture of a recording.
+
+    `pid` and `kind` are the video PID and its stream_type. `skipped` is the number of PES packets
+    of video before the picture. Two pictures may be the first: the one with the
+    random_access_indicator, and the one with the smallest PTS of the same group of pictures. `pts`
+    is the PTS of the chosen picture. If there are two, `other` is the PTS of the other picture.
+    """
 
     pid: int
     kind: int
@@ -114,7 +119,7 @@ class FirstPicture(NamedTuple):
 
     @property
     def picture_offset(self) -> int:
-        """Return the number of frames from the first picture to the other picture."""
+        """Return the number of frames from the chosen picture to the other picture, or 0."""
         return 0 if self.other is None else round(ticks_between(self.pts, self.other) / TICKS)
 
     def line(self) -> str:
@@ -130,7 +135,7 @@ class FirstPicture(NamedTuple):
 
 
 class StartClock(NamedTuple):
-    """The clock by the first picture, lines about it, and the frame of that picture."""
+    """The clock that `--start` sets, the report lines about it, and the first picture's frame."""
 
     clock: Clock
     lines: list[str]
@@ -138,8 +143,10 @@ class StartClock(NamedTuple):
 
 
 def find_video(survey: Survey, teletext: int) -> tuple[int, int]:
-    """Return the only video PID for a Teletext PID and its stream type; raise `NoFirstPicture` if
-    there is none or more than one."""
+    """Return the video PID that belongs to a Teletext PID, and its stream_type.
+
+    Raise `NoFirstPicture` if there is not exactly one, or if its format is not supported.
+    """
     programmes = survey.programmes_of(teletext)
     if not programmes:
         raise NoFirstPicture(f"no PMT names {format_pid(teletext)}")
@@ -158,10 +165,11 @@ def find_video(survey: Survey, teletext: int) -> tuple[int, int]:
 
 
 def find_first_picture(survey: Survey, teletext: int) -> FirstPicture:
-    """Return the first picture for a Teletext PID; raise `NoFirstPicture` if it is not clear.
+    """Return the first picture that can be decoded, from the video that belongs to a Teletext PID.
 
-    It is the first picture with the random_access_indicator, or the one with the smallest PTS of
-    its group if pictures that are shown before it can be decoded.
+    It is the picture with the smallest PTS in the first group of pictures. In an open group, it is
+    the picture with the random_access_indicator: pictures shown earlier can't be decoded. Raise
+    `NoFirstPicture` if the first picture is missing or ambiguous.
     """
     pid, kind = find_video(survey, teletext)
     name, video = f"{NAMES[kind]} of {format_pid(pid)}", survey.videos.get(pid)
@@ -192,8 +200,11 @@ def find_first_picture(survey: Survey, teletext: int) -> FirstPicture:
 
 
 def count_skipped(pts: list[int], is_cut: bool) -> int:
-    """Count the frames that the PTS of pictures skip. If the recording is cut, ignore the last
-    pictures, since pictures shown between them may be missing."""
+    """Return the number of frames without a picture, from the PTS of the first pictures.
+
+    If the recording is cut off, ignore the last pictures: pictures shown between them may be
+    missing.
+    """
     shown_at = sorted(ticks_between(pts[0], one) for one in pts)
     if is_cut or shown_at[-1] - shown_at[0] > LONGEST:
         del shown_at[-REORDERED:]
@@ -202,7 +213,7 @@ def count_skipped(pts: list[int], is_cut: bool) -> int:
 
 
 def has_first_picture(survey: Survey, teletext: int) -> bool:
-    """Return whether `--start` can give the clock of a Teletext PID."""
+    """Return whether `--start` can set the clock of a Teletext PID."""
     try:
         find_first_picture(survey, teletext)
     except NoFirstPicture:
@@ -211,15 +222,19 @@ def has_first_picture(survey: Survey, teletext: int) -> bool:
 
 
 def clock_advice(has_picture: bool) -> str:
-    """Return advice on the options that give the clock of a recording."""
+    """Return advice on the options that set the clock of a recording."""
     return "add --start TIME (the time code of the recording's first picture, on the subtitle " \
         "file's own clock, or `tcp`) or --origin PTS" if has_picture else \
         "add --origin PTS (the PTS of the subtitle file's 00:00:00:00)"
 
 
 def find_frame_offset(packets: Packets, pts: int, within: int) -> int:
-    """Return the commonest distance, 0 to 3599 ticks, from the frames of a picture's PTS to the PTS
-    of Teletext. With `within`, prefer distances near 0: fields have two PTS."""
+    """Return the most common distance in ticks (0 to 3599) from the start of a frame to the PTS of
+    Teletext.
+
+    A frame starts at the PTS `pts` of a picture. If `within` is not 0, prefer distances near a
+    whole frame: Teletext may have a PTS for each of the two fields of a frame.
+    """
     ticks: collections.Counter[int] = collections.Counter()
     for _, (sent, _) in zip(range(MAX_SAMPLES), ((sent, 0) for sent in packets.pts())):
         ticks[ticks_after(pts, sent) % TICKS] += 1
@@ -229,7 +244,7 @@ def find_frame_offset(packets: Packets, pts: int, within: int) -> int:
 
 
 def read_start_frame(request: Request) -> int:
-    """Return the time code of the first picture as a frame, from --start or the GSI block (TCP)."""
+    """Return the frame of the first picture: the value of --start, or the TCP of the GSI block."""
     if request.start != TCP:
         frame = frame_of(request.start or "")
         assert frame is not None  # the command line was checked
@@ -244,7 +259,7 @@ def read_start_frame(request: Request) -> int:
 
 
 def compute_start_clock(request: Request, survey: Survey, packets: Packets) -> StartClock:
-    """Return the clock by the first picture, moved to the nearest PTS of Teletext."""
+    """Return the clock that `--start` sets, moved to the nearest PTS of Teletext."""
     first, frame = find_first_picture(survey, packets.pid), read_start_frame(request)
     after = find_frame_offset(packets, first.pts, request.within)
     if after * 2 == TICKS:
@@ -263,8 +278,10 @@ def compute_start_clock(request: Request, survey: Survey, packets: Packets) -> S
 
 def refuse_outside(request: Request, began: StartClock, begin: int, end: int,
                    last: int | None) -> None:
-    """Raise `Unclear` if subtitles lie outside of a recording that begins at the TCP of the
-    subtitle file; `last` is the last PTS."""
+    """Raise `Unclear` if subtitles lie outside the recording, assuming that it begins at the TCP.
+
+    `begin` and `end` are the frames of the subtitles, and `last` is the last PTS.
+    """
     if begin < began.frame:
         raise Unclear(f"the first subtitle of {request.stl} begins at {time_of(begin)}, before "
                       f"its TCP {time_of(began.frame)}, at which the recording would begin")
@@ -274,19 +291,18 @@ def refuse_outside(request: Request, began: StartClock, begin: int, end: int,
                       f"the recording ends at {time_of(over)}")
 
 
-# PTS that are not whole frames from the origin (61)
-
-MILLISECOND = 90  # ticks
-MAX_PTS = 100_000  # most PTS to compare
+MILLISECOND = 90  # in ticks
+MAX_PTS = 100_000  # maximum number of PTS to compare
 
 
 def find_largest_offset(several: Sequence[int], origin: int) -> int:
-    """Return the largest distance in ticks from a PTS to its nearest frame."""
+    """Return the largest distance in ticks from a PTS to the start of the nearest frame."""
     rests = (ticks_after(origin, pts) % TICKS for pts in several[:MAX_PTS])
     return max((min(rest, TICKS - rest) for rest in rests), default=0)
 
 
 def largest_offset_text(most: int) -> str:
-    """Return the largest distance from a frame as text, or an empty text if it is 0."""
+    """Return the largest distance of PTS from their frames as text, or an empty string if it is 0.
+    """
     return f"PTS are up to {counted(most, 'tick')} ({most / MILLISECOND:.2f} ms) off their frames" \
         if most else ""

@@ -1,4 +1,8 @@
-"""Find the parts between breaks, and repeated airings, each with its own origin."""
+"""Find the parts of a programme between breaks, and its repeated airings.
+
+A stretch is a sequence of consecutive cues with one origin. A place is a frame in the recording:
+the number of a time base, and the number of frames since its first PTS.
+"""
 from __future__ import annotations
 
 import collections
@@ -13,21 +17,24 @@ from .alignment import (
     EarlyCues, ExpectedCue, ExpectedSubtitle, OriginFit, TRIED, TimeBase, choose_clock,
     find_expected_cues)
 
-LEADERS = 8  # best sequences of tracks that may change track at a cue
-LEAST_ROW = 5  # consecutive cues that must match by another origin
+LEADERS = 8  # number of the best sequences of tracks that may change track at a cue
+LEAST_ROW = 5  # number of consecutive cues that must match at another origin
 NEW_TRACK = LEAST_ROW - 1  # cost of a change of track, in points
-LEAST_BREAK = 5 * FRAMES_A_SECOND  # shortest break; anything shorter is a delay
-LEAST_GAP = 60 * FRAMES_A_SECOND  # shortest jump of the file's time codes at a break
-TEXT_POINTS = 3  # points of a cue whose expected text comes
-MAX_COMPARED = 500  # most cues to compare with each other
-TRIED_TIMES = 8  # most origins to compare by the times of cues alone
-LEAST_CUES = 10  # fewest cues of an airing by times alone; twice as many with --within N
-Place = tuple[int, int]  # number of a time base, and frames after its first PTS
+LEAST_BREAK = 5 * FRAMES_A_SECOND  # length of the shortest break; a shorter one is a delay
+LEAST_GAP = 60 * FRAMES_A_SECOND  # minimum jump of the time codes in the file at a break
+TEXT_POINTS = 3  # points of a cue whose expected text is sent
+MAX_COMPARED = 500  # maximum number of cues to compare with each other
+TRIED_TIMES = 8  # maximum number of origins to try if texts are ignored
+LEAST_CUES = 10  # minimum number of cues if texts are ignored; twice as many with --within N
+Place = tuple[int, int]
 
 
 class Track:
-    """A possible origin in the time base number `base`, with the place and the points of each cue:
-    1 if the page changes, 2 if it is erased as expected, 3 if the expected text comes."""
+    """A possible origin in a time base; `base` is the number of the time base.
+
+    `places` has the frame of each cue in the time base. `points` has 3 for each cue whose expected
+    text is sent, 2 for an erasure as expected, 1 for another page change, and 0 for no change.
+    """
 
     def __init__(self, number: int, start: int, base: TimeBase) -> None:
         self.base, self.start, self.within, self.cues = number, start, base.within, base.cues
@@ -40,37 +47,44 @@ class Track:
 
     @functools.cached_property
     def row_lengths(self) -> list[int]:
-        """Return for each cue how many consecutive cues match from it on."""
+        """Return, for each cue, the number of consecutive matching cues that begin with it."""
         rows = itertools.accumulate(reversed(self.points), lambda row, one: row + 1 if one else 0,
                                     initial=0)
         return list(rows)[:0:-1]
 
     def rank(self) -> tuple[int, int, int]:
-        """Return the sort key, best first: by points, delay, and first text."""
+        """Return a sort key: descending points, then ascending delay and place of the first text.
+        """
         first = self.points.index(TEXT_POINTS) if TEXT_POINTS in self.points else len(self.cues)
         return -sum(self.points), self.total_delay, first
 
     def may_follow(self, previous: Track, frames: int) -> bool:
-        """Return whether a cue that is expected `frames` later is also sent later."""
+        """Return whether a cue on this track is sent after a cue on the track `previous`.
+
+        `frames` is the expected distance between the cues.
+        """
         return self.base > previous.base or \
             self.base == previous.base and frames > self.start - previous.start
 
 
 class Stretch(NamedTuple):
-    """The cues from number `first` to before `end`, and their track."""
+    """The cues with the numbers `range(first, end)`, and their track."""
 
     track: Track
     first: int
     end: int
 
     def matching_places(self) -> list[int]:
-        """Return the places of the cues that match."""
+        """Return the frames in the time base of the cues that match."""
         return [self.track.places[at] for at in range(self.first, self.end)
                 if self.track.points[at]]
 
 
 def find_stretches(bases: Sequence[TimeBase]) -> list[Stretch]:
-    """Return the stretches of all cues, or none if no origin has five consecutive matches."""
+    """Divide all cues into stretches.
+
+    Return an empty list if five consecutive cues never match at the same origin.
+    """
     candidates = [(number, base) for number, base in enumerate(bases)
                   if len(base.changes) >= LEAST_ROW]
     for number, base in candidates:
@@ -93,8 +107,11 @@ def find_stretches(bases: Sequence[TimeBase]) -> list[Stretch]:
 
 
 class TrackSequence(NamedTuple):
-    """A sequence of tracks up to a cue. `nearness` falls with the distance between its tracks;
-    `turns` has the first cue of each track."""
+    """A sequence of tracks for the cues up to a certain cue.
+
+    `turns` has each track with its first cue. `points` is the sum of the points of the cues, less
+    the cost of the changes of track. `nearness` is higher if the origins of the tracks are closer.
+    """
 
     points: int
     nearness: int
@@ -102,11 +119,11 @@ class TrackSequence(NamedTuple):
 
     @property
     def rank(self) -> tuple[int, int]:
-        """Return the points and the nearness, by which sequences are compared."""
+        """Return the sort key: the points, and the nearness if points are equal."""
         return self[:2]
 
     def switch_track(self, cue: int, track: Track) -> TrackSequence:
-        """Return the sequence that continues with another track from a cue on."""
+        """Return the sequence that changes to another track at a cue."""
         previous = self.turns[-1][1]
         distance = abs(track.start - previous.start) + \
             FRAMES_OF_A_DAY * (track.base - previous.base)
@@ -115,14 +132,14 @@ class TrackSequence(NamedTuple):
 
 
 def find_best_stretches(cues: Sequence[ExpectedCue], tracks: Sequence[Track]) -> list[Stretch]:
-    """Return the stretches of the sequence of tracks with the most points, or of equals the one
-    with the nearest tracks.
+    """Return the stretches of the best sequence of tracks.
 
-    A change of track needs five consecutive matches. At each cue, keep the best sequence that ends
-    with each track, and let only the best of these change track. Where two stretches meet, the
-    second gets as many cues as match in it.
+    The best sequence has the highest `rank`. To change track, five consecutive cues must match on
+    the new track. At each cue, keep the best sequence for each last track, and consider a change of
+    track only for the `LEADERS` best sequences. Finally move the borders between stretches to the
+    best cues.
     """
-    best: dict[Track, TrackSequence] = {}  # by its last track
+    best: dict[Track, TrackSequence] = {}  # the best sequence for each last track
     for at, cue in enumerate(cues):
         gap = cue.frame - cues[at - 1].frame if at else 0
         leaders = heapq.nlargest(LEADERS, best.items(), key=lambda item: item[1].rank)
@@ -148,8 +165,10 @@ def find_best_stretches(cues: Sequence[ExpectedCue], tracks: Sequence[Track]) ->
 
 
 def find_border(cues: Sequence[ExpectedCue], previous: Stretch, following: Stretch) -> int:
-    """Return the number of the first cue of the second of two stretches. A cue that matches in
-    neither belongs to the first."""
+    """Return the number of the cue at which `following` should begin.
+
+    This is its first cue, or an earlier cue if this gives more points.
+    """
     best, most, gained = following.first, 0, 0
     for border in range(following.first - 1, previous.first + LEAST_ROW - 1, -1):
         gained += following.track.points[border] - previous.track.points[border]
@@ -159,11 +178,13 @@ def find_border(cues: Sequence[ExpectedCue], previous: Stretch, following: Stret
     return best
 
 
-# ---- parts of a programme
-
 class EstimatedPart(NamedTuple):
-    """A part: the first TCI and the last TCO of its subtitles, its best and other origins, and its
-    time base. `overlapping` subtitles reach into the next part; `early` cues are before the origin.
+    """A part of a programme with its own origin.
+
+    `begin` is its first TCI and `end` its last TCO. `best` is the best origin, and `others` has the
+    other possible origins. `base` is the number of its time base, and `time_base` has its cues and
+    page changes. `overlapping` has its subtitles that end in the next part. `early` has the number
+    of early cues.
     """
 
     begin: int
@@ -183,8 +204,11 @@ class EstimatedPart(NamedTuple):
 def fit_parts(subtitles: Sequence[ExpectedSubtitle], bases: Sequence[TimeBase],
               row: Sequence[Stretch],
               lateness: Lateness | None = None) -> list[EstimatedPart]:
-    """Return the parts of a sequence of stretches. Without stretches, return one part with all
-    subtitles, or none if no cue matches. `lateness` are the shares of delays, if configured."""
+    """Return a part for each of the stretches `row`.
+
+    If there is only one stretch or none, return one part with all subtitles. Return an empty list
+    if no cue matches. `lateness` is the value of --late.
+    """
     if len(row) > 1:
         return [fit_part(subtitles, bases, row, number, lateness) for number in range(len(row))]
     number = row[0].track.base if row else max(
@@ -201,7 +225,7 @@ def fit_parts(subtitles: Sequence[ExpectedSubtitle], bases: Sequence[TimeBase],
 
 
 def select_other_origins(base: TimeBase, *starts: int) -> list[OriginFit]:
-    """Return the origins of a time base except those near some starts."""
+    """Return the origins of a time base that are not near any of the start frames `starts`."""
     return [fit for fit in base.fits if all(
         abs(fit.start - start) > base.within for start in starts)]
 
@@ -209,7 +233,10 @@ def select_other_origins(base: TimeBase, *starts: int) -> list[OriginFit]:
 def fit_part(subtitles: Sequence[ExpectedSubtitle], bases: Sequence[TimeBase],
              row: Sequence[Stretch],
              number: int, lateness: Lateness | None) -> EstimatedPart:
-    """Return one of several parts, from the page changes between those of its neighbours."""
+    """Return the part of stretch `number`, if there are several.
+
+    Leave out the page changes that match cues of the neighbouring stretches.
+    """
     track, first, end = row[number]
     whole = bases[track.base]
     begin = whole.cues[first].frame if number else 0
@@ -221,7 +248,8 @@ def fit_part(subtitles: Sequence[ExpectedSubtitle], bases: Sequence[TimeBase],
         high = row[number + 1].matching_places()[0]
     inside = [shown for shown in subtitles if begin <= shown.begin and shown.end <= stop]
     overlapping = [shown for shown in subtitles if begin <= shown.begin < stop < shown.end]
-    # The last subtitle is erased even if the first one of the next part adjoins it.
+    # `find_expected_cues` adds an out-cue at the end of the part, even if the first subtitle of the
+    # next part follows without a pause.
     own = whole.copy_between(find_expected_cues(inside) or whole.cues[first:end], low, high)
     best, early = choose_clock(own, own.fit(track.start), lateness)
     return EstimatedPart(min((shown.begin for shown in inside), default=begin),
@@ -231,11 +259,11 @@ def fit_part(subtitles: Sequence[ExpectedSubtitle], bases: Sequence[TimeBase],
 
 
 def split_at_breaks(row: Sequence[Stretch]) -> list[Stretch]:
-    """Join the stretches between which there is no break.
+    """Join stretches if there is no break between them.
 
-    At a break PTS go back, the origin is at least five seconds later than at the begin of the part
-    and in the stretch before, or the file's time codes jump forward. Shorter delays, and subtitles
-    that are early for a while, stay in their part.
+    There is a break if PTS go back, if the time codes of the file jump forward, or if the origin is
+    at least five seconds later than in the previous stretch and in the first stretch of the part. A
+    shorter delay, or subtitles that are early for a while, are no break.
     """
     parts = list(row[:1])
     for previous, stretch in zip(row, row[1:]):
@@ -249,26 +277,24 @@ def split_at_breaks(row: Sequence[Stretch]) -> list[Stretch]:
     return parts
 
 
-# ---- the programme more than once
-
 class Airing(NamedTuple):
-    """An airing of the programme: the places of its first and last change."""
+    """An airing of the programme: the places of its first and last page change."""
 
     first: Place
     last: Place
 
 
 def find_airings(bases: Sequence[TimeBase], has_clock: bool = False) -> list[Airing]:
-    """Return the airings of the programme, in order.
+    """Return the airings of the programme, in order of time.
 
-    Begin with the airing in which most cues match. Each other airing lies outside of its time and
-    has enough matching texts, or enough changes at the times of cues: all its texts may be wrong.
-    Times alone do not count if the clock is known or cues are regular, since then they match
-    anywhere.
+    First find the airing in which most cues match. Then search the recording before and after it
+    for repeats. A repeat has enough texts of the cues. All its texts may be wrong, so enough page
+    changes at the times of cues are also a repeat, but only if the clock is unknown and the cues
+    are irregular. Regular cues match anywhere.
     """
     row = find_stretches(bases)
     uses_times = not has_clock and not have_equal_steps([cue.frame for cue in bases[0].cues])
-    if len(row) > 1:  # the end of another airing may look like that of the first
+    if len(row) > 1:  # the sequence of stretches may end in another airing
         whole, *others = sorted((Stretch(track, 0, row[-1].end) for track in dict.fromkeys(
             stretch.track for stretch in row)), key=lambda one: -sum(one.track.points))
         if places := find_text_places([whole]):
@@ -296,22 +322,23 @@ def find_airings(bases: Sequence[TimeBase], has_clock: bool = False) -> list[Air
 
 
 def find_text_places(row: Sequence[Stretch]) -> dict[int, Place]:
-    """Return the places of the cues whose expected page comes."""
+    """Return, by cue number, the places at which the expected page is sent."""
     return {at: (stretch.track.base, stretch.track.places[at]) for stretch in row
             for at in range(stretch.first, stretch.end) if stretch.track.points[at] > 1}
 
 
 def make_airing(places: Mapping[int, Place]) -> Airing:
-    """Return the airing from the first to the last of some places."""
+    """Return the airing that lasts from the first to the last of the given places."""
     return Airing(min(places.values()), max(places.values()))
 
 
 def is_repeated_airing(bases: Sequence[TimeBase], first: dict[int, Place],
                        again: dict[int, Place]) -> bool:
-    """Return whether cues outside of the first airing are a repeat of the programme.
+    """Return whether the cues that match outside the first airing are a repeat of the programme.
 
-    Half of all cues and half of the texts must match, or a quarter of the texts, spread over half
-    of the programme. Most of them must match in the first airing too.
+    Half of all cues must match, and half of those with a text. Alternatively, a quarter of the cues
+    with a text must match, if they extend over half of the programme. In both cases, half of these
+    texts must also match in the first airing.
     """
     cues = bases[0].cues
     texts = [at for at in again if cues[at].letters]
@@ -323,7 +350,11 @@ def is_repeated_airing(bases: Sequence[TimeBase], first: dict[int, Place],
 
 
 def have_equal_steps(frames: Sequence[int]) -> bool:
-    """Return whether half of the first frames have another frame at the same distance."""
+    """Return whether the frames are regular.
+
+    They are regular if at least half as many pairs as there are frames have the same distance. Only
+    the first `MAX_COMPARED` frames are compared.
+    """
     frames = frames[:MAX_COMPARED]
     counts = collections.Counter(second - first for first, second in itertools.combinations(
         frames, 2))
@@ -331,8 +362,11 @@ def have_equal_steps(frames: Sequence[int]) -> bool:
 
 
 def find_changes_by_time(bases: Sequence[TimeBase], count: int) -> dict[int, Place]:
-    """Return the places of page changes with any text at nine in ten of `count` cues and three
-    quarters of all cues, or an empty result."""
+    """Return, by cue number, the places of page changes at the times of cues, whatever their text.
+
+    The number of page changes must be 90 % of `count` and 75 % of the number of cues. Otherwise
+    return an empty dictionary.
+    """
     for number, base in enumerate(bases):
         if not base.changes or count < LEAST_CUES * (2 if base.within else 1):
             continue
@@ -344,7 +378,10 @@ def find_changes_by_time(bases: Sequence[TimeBase], count: int) -> dict[int, Pla
 
 
 def find_changes(base: TimeBase, number: int, start: int) -> dict[int, Place]:
-    """Return for each cue the place of a change within the allowed delay."""
+    """Return, by cue number, the places of page changes within the allowed delay after the cues.
+
+    `number` is the number of the time base, and `start` the assumed frame of its first PTS.
+    """
     return {at: (number, place) for at, cue in enumerate(base.cues)
             for place in [next((place for place in range(
                 cue.frame - start, cue.frame - start + base.within + 1)
@@ -352,7 +389,8 @@ def find_changes(base: TimeBase, number: int, start: int) -> dict[int, Place]:
 
 
 def limit_bases(bases: Sequence[TimeBase], low: Place, high: Place) -> list[TimeBase]:
-    """Return the time bases with only the changes between two places."""
+    """Return copies of the time bases without the page changes outside the places `low` to `high`.
+    """
     return [base.copy_between(base.cues,
                          -1 if number > low[0] else low[1] if number == low[0] else base.length + 1,
                          base.length + 1 if number < high[0] else high[1] if number == high[0]
