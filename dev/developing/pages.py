@@ -8,6 +8,7 @@ hand.
 """
 from __future__ import annotations
 
+import itertools
 import json
 import os
 import re
@@ -228,7 +229,8 @@ PREFIXES = {"verdict": "", "fault": "", "request": "", "subtitle": "subtitle_", 
 
 
 def make_results_parts() -> dict[str, str]:
-    """Return a list of keys for each object in JSON results, marked if a CSV column has them."""
+    """Return a list of keys for each object in JSON results, marked if a CSV column has them.
+    Consecutive keys with the same description, or none, share a line."""
     lines = list[str]()
     for record in filter(needs_table, list_records(VERDICT)):
         lines += ["", f"## {to_title(record)}", ""]
@@ -238,10 +240,11 @@ def make_results_parts() -> dict[str, str]:
             names = ", ".join(format_key(record, member) for member in record.members)
             lines += [textwrap.fill(f"{names}.", WIDTH, break_on_hyphens=False)]
             continue
-        for member in record.members:
-            words = [format_key(record, member), describe_member(member)]
-            lines += textwrap.wrap(": ".join(filter(None, words)), WIDTH, initial_indent="- ",
-                                   subsequent_indent="  ", break_on_hyphens=False)
+        for meaning, members in itertools.groupby(record.members, describe_member):
+            names = ", ".join(format_key(record, member) for member in members)
+            lines += textwrap.wrap(": ".join(filter(None, [names, meaning])), WIDTH,
+                                   initial_indent="- ", subsequent_indent="  ",
+                                   break_on_hyphens=False)
     return {"results": "\n".join(lines) + "\n"}
 
 

@@ -28,92 +28,85 @@ FIRST_FAULT, LAST_FAULT = 10, 79  # fault numbers
 CODE_TIME = name_shape("code_time", Text(r"[0-9]{2,3}(:[0-9]{2,3}){3}"))
 DATE = name_shape("date", Text(r"[0-9]{4}-[0-9]{2}-[0-9]{2}T[0-9]{2}:[0-9]{2}:[0-9]{2}Z"))
 PART = name_shape("part_number", Integer(1, MAX_NUMBER))
-STATUS = name_shape("status", OneOf(*sorted({*STATUSES.values()})), "The exit status.")
+STATUS = name_shape("status", OneOf(*sorted({*STATUSES.values()})))
 WORD = name_shape("word", OneOf(*STATUSES))
 
 FILE_AT_START = Record(
     "file_at_start", "",
-    Member("size", COUNT, "The size in bytes."),
+    Member("size", COUNT),
     Member("modified", Text(r"[0-9-]{10,20}T[0-9:]{8}[.][0-9]{9}Z"),
-           "The time of the last change, in UTC."))
+           "The time of the last change in UTC."))
 
 FILE = Record(
     "file", "",
-    Member("name", Maybe(Text()), "The file name as typed; null if the PES packets "
-           "were not stored."),
-    Member("size", COUNT, "The size in bytes."),
+    Member("name", Maybe(Text()), "Null if the PES packets were not stored."),
+    Member("size", COUNT),
     Member("sha256", CHECKSUM))
 
 SUBTITLE = Record(
     "subtitle", "",
-    Member("position", COUNT, "The position in the subtitle file, or in the part, from 1. A "
-           "comment or user data has the position of the previous subtitle."),
+    Member("position", COUNT, "The position in the subtitle file or part, from 1. A comment "
+           "or user data has the position of the previous subtitle."),
     Member("number", Integer(0, 65535), "The SN."),
     Member("begin", CODE_TIME, "The TCI."),
     Member("end", CODE_TIME, "The TCO."))
 
 CAUSE_NAME = name_shape("cause_name", OneOf(*CAUSE_NAMES))
+OTHER_SUBTITLE = "The subtitle with the received text."
 CAUSE_MEMBERS = (
     Member("subtitle", SUBTITLE),
-    Member("name", CAUSE_NAME, "The name of the cause."),
+    Member("name", CAUSE_NAME),
     Member("frames", Maybe(Integer(1, FRAMES_OF_A_DAY)),
            "The number of frames by which the subtitle is late or early."),
-    Member("expected_text", Text(), "The subtitle's text, with a slash between rows."),
-    Member("decoded_text", Maybe(Text()), "The received text."),
-    Member("other_number", Maybe(Integer(0, 65535)),
-           "The number (SN) of the subtitle with the received text."),
-    Member("other_position", Maybe(Integer(1, MAX_NUMBER)),
-           "That subtitle's position in the file, from 1."),
-    Member("line", Text(), "The cause as printed."))
-CAUSE = Record("cause", "A cause says why the content of a subtitle differs from the expected "
-               "content. All faults 72 of a subtitle have the same cause.", *CAUSE_MEMBERS)
+    Member("expected_text", Text(), "A slash separates the rows."),
+    Member("decoded_text", Maybe(Text())),
+    Member("other_number", Maybe(Integer(0, 65535)), OTHER_SUBTITLE),
+    Member("other_position", Maybe(Integer(1, MAX_NUMBER)), OTHER_SUBTITLE),
+    Member("line", Text()))
+CAUSE = Record("cause", "All faults 72 of a subtitle have the same cause.", *CAUSE_MEMBERS)
 LISTED_CAUSE = Record("listed_cause", "",
                       Member("part", PART), *CAUSE_MEMBERS)
 
 CELL = Record(
     "cell", "",
     Member("code", Text(r"[0-7][0-9A-F]"), "The 7-bit code, in hexadecimal."),
-    Member("character", Maybe(Text()), "The character; null for a spacing attribute."))
+    Member("character", Maybe(Text())))
 
 FAULT = Record(
     "fault", "",
     Member("part", PART),
     Member("line", Text(r"refused [ -~]+", 200), "The line that check --all prints."),
-    Member("number", Maybe(Integer(FIRST_FAULT, LAST_FAULT)),
-           "The fault number; null if the fault has none."),
-    Member("name", Text(r"[A-Za-z]+( [a-z]+)?", 40), "The name that check prints."),
-    Member("severity", OneOf("error", "warning"), "The severity that --severity gives."),
-    Member("file", OneOf("stl", "pes"), "The faulty file: stl, or pes for the recording."),
+    Member("number", Maybe(Integer(FIRST_FAULT, LAST_FAULT))),
+    Member("name", Text(r"[A-Za-z]+( [a-z]+)?", 40)),
+    Member("severity", OneOf("error", "warning"), "error, or warning for a waived fault."),
+    Member("file", OneOf("stl", "pes"), "stl, or pes for the recording."),
     Member("block", Maybe(COUNT), "The TTI block, from 1; 0 for the GSI block."),
     Member("subtitle", Maybe(SUBTITLE),
            "The subtitle of the block, or the expected subtitle at the frame."),
-    Member("byte", Maybe(Text(r"[0-9A-F]{2}")), "For faults 50 and 51, the byte in "
+    Member("byte", Maybe(Text(r"[0-9A-F]{2}")), "The refused byte of faults 50 and 51, in "
            "hexadecimal."),
-    Member("character", Maybe(Text()), "The character of this byte, with its accent if any; null "
-           "for a control code."),
-    Member("text_offset", Maybe(COUNT), "For faults 50 and 51, the offset of this byte in the "
-           "text; for faults 52 to 55, the line. Both count from 0."),
+    Member("character", Maybe(Text()), "The character of this byte."),
+    Member("text_offset", Maybe(COUNT), "The offset of this byte in the text, or for faults 52 to "
+           "55 the line, from 0."),
     Member("pes", Maybe(COUNT), "The PES packet, from 0 (in a feed: from the start of the judged "
            "part); null if the fault is between PES packets."),
-    Member("pes_pts", Maybe(PTS), "The PTS of this PES packet."),
-    Member("pes_time", Maybe(TIME), "The time of this PTS."),
+    Member("pes_pts", Maybe(PTS)),
+    Member("pes_time", Maybe(TIME)),
     Member("packet", Maybe(COUNT), "The Teletext packet in the frame, from 0."),
     Member("frame", Maybe(Integer(0, FRAMES_OF_A_DAY - 1)), "The frame, counted from "
            "midnight."),
-    Member("time", Maybe(TIME), "The time of the frame."),
-    Member("row", Maybe(Integer(1, 24)), "The row, 1 to 24."),
-    Member("column", Maybe(Integer(0, 39)), "The column, 0 to 39."),
-    Member("expected", Maybe(CELL), "For fault 72, the expected code."),
-    Member("decoded", Maybe(CELL), "For fault 72, the decoded code; null if the row was "
-           "not sent."),
+    Member("time", Maybe(TIME)),
+    Member("row", Maybe(Integer(1, 24)), "1 to 24."),
+    Member("column", Maybe(Integer(0, 39)), "0 to 39."),
+    Member("expected", Maybe(CELL)),
+    Member("decoded", Maybe(CELL), "Null if the row was not sent."),
     Member("last_time", Maybe(TIME),
            "For faults 72, 73, 77, 78 and 79, the last frame with the fault."),
     Member("last_pes", Maybe(COUNT),
            "For faults 33 to 40, 45 and 61, the last skipped PES packet."),
-    Member("meaning", Text(), "The manual's text about what is wrong."),
-    Member("remedy", Text(), "The manual's text about what to do."),
-    Member("cause", Maybe(CAUSE), "The cause of a fault 72, or of a fault 63 or 74 "
-           "if the recording does not begin or end there."))
+    Member("meaning", Text()),
+    Member("remedy", Text()),
+    Member("cause", Maybe(CAUSE)))
 
 REQUEST = Record(
     "request", "",
@@ -124,10 +117,10 @@ REQUEST = Record(
 CLOCK_OF_PART = Record(
     "clock", "",
     Member("origin", PTS, "The PTS of 00:00:00:00."),
-    Member("source", OneOf(*SOURCES), "How the clock was found: recording (estimated), origin "
-           "(--origin), start (--start TIME) or tcp (--start tcp)."),
+    Member("source", OneOf(*SOURCES), "recording (estimated), given (--origin), start (--start "
+           "TIME) or tcp (--start tcp)."),
     Member("delay_frames", Maybe(Integer(-FRAMES_OF_A_DAY, FRAMES_OF_A_DAY)), "The number of "
-           "frames by which cues are later than this clock; null if it is unknown."))
+           "frames by which cues are later than this clock."))
 
 
 class PartResult(NamedTuple):
@@ -145,127 +138,113 @@ class PartResult(NamedTuple):
 
 JUDGED_PART = Record(
     "part", "",
-    Member("part", PART, "The number of the part, from 1.", lambda of: of.part.number),
-    Member("stl", Text(), "The subtitle file, as typed.", lambda of: of.part.request.stl),
-    Member("origin", Maybe(PTS), "The PTS of 00:00:00:00.", lambda of: of.part.origin),
-    Member("from", Maybe(TIME), "The first judged time.", lambda of: of.part.time_codes()[0]),
-    Member("to", Maybe(TIME), "The last judged time.", lambda of: of.part.time_codes()[1]),
-    Member("verdict", OneOf("accepted", "refused", "not judged"), "The verdict; not judged if a "
-           "signal ended the call. The result then has the faults up to this signal.",
+    Member("part", PART, getter=lambda of: of.part.number),
+    Member("stl", Text(), getter=lambda of: of.part.request.stl),
+    Member("origin", Maybe(PTS), getter=lambda of: of.part.origin),
+    Member("from", Maybe(TIME), getter=lambda of: of.part.time_codes()[0]),
+    Member("to", Maybe(TIME), getter=lambda of: of.part.time_codes()[1]),
+    Member("verdict", OneOf("accepted", "refused", "not judged"), "not judged means that a signal "
+           "ended the call after the listed faults.",
            lambda of: of.part.check_output.verdict),
     Member("line", Text(), "The last line of check without --all.",
            lambda of: of.part.check_output.line),
-    Member("frames", Maybe(COUNT), "The number of judged frames.",
-           lambda of: of.part.check_output.frames),
-    Member("transmissions", Maybe(COUNT), "The number of page transmissions.",
-           lambda of: of.part.check_output.transmissions),
-    Member("fault_count", COUNT, "The number of faults in the part.",
-           lambda of: of.part.check_output.fault_count),
-    Member("pid", Maybe(PID), "The judged PID; null for PES packets.",
-           lambda of: (of.part.stream or (None, None))[0]),
-    Member("packet_size", OneOf(*PACKET_SIZES, None), "The packet size in bytes; null for PES "
-           "packets.", lambda of: (of.part.stream or (None, None))[1]),
-    Member("pes", Maybe(Text(r"[0-9]+-[0-9]+", 40)), "The first and the last judged PES packet, as "
-           "for --pes; null if all of a feed was judged.", lambda of: of.part.pes_argument),
-    Member("pace", Maybe(Integer(1, MAX_EVERY)), "The longest allowed PES interval in frames; "
-           "null if it is not checked.", lambda of: of.part.request.pace),
+    Member("frames", Maybe(COUNT), getter=lambda of: of.part.check_output.frames),
+    Member("transmissions", Maybe(COUNT), getter=lambda of: of.part.check_output.transmissions),
+    Member("fault_count", COUNT, getter=lambda of: of.part.check_output.fault_count),
+    Member("pid", Maybe(PID), getter=lambda of: (of.part.stream or (None, None))[0]),
+    Member("packet_size", OneOf(*PACKET_SIZES, None),
+           getter=lambda of: (of.part.stream or (None, None))[1]),
+    Member("pes", Maybe(Text(r"[0-9]+-[0-9]+", 40)), "The judged PES packets, as for --pes; null "
+           "if all of a feed was judged.", lambda of: of.part.pes_argument),
+    Member("pace", Maybe(Integer(1, MAX_EVERY)),
+           getter=lambda of: of.part.request.pace),
     Member("judged_file", Maybe(FILE), "The judged PES packets of a feed."),
     Member("clock", Maybe(CLOCK_OF_PART), getter=lambda of: of.part.clock))
 
+AROUND_LOSS = "The time of the PES packet before or after the loss."
 LOSS = Record(
     "loss", "",
-    Member("from", Maybe(TIME), "The time of the previous PES packet.", lambda gap: gap.after),
-    Member("to", Maybe(TIME), "The time of the next PES packet.", lambda gap: gap.before),
-    Member("from_pts", Maybe(PTS), "The PTS of the previous PES packet.",
-           lambda gap: gap.place.before),
-    Member("to_pts", Maybe(PTS), "The PTS of the next PES packet.", lambda gap: gap.place.after),
-    Member("gap_marker", Maybe(COUNT), "The number of the gap marker (45) among the PES packets; "
-           "null if only the PCR shows the loss.", lambda gap: gap.place.gap_marker),
-    Member("lost_ts_packets", COUNT, "The number of lost TS packets by the counters, which do "
-           "not show multiples of 16.",
+    Member("from", Maybe(TIME), AROUND_LOSS, lambda gap: gap.after),
+    Member("to", Maybe(TIME), AROUND_LOSS, lambda gap: gap.before),
+    Member("from_pts", Maybe(PTS), AROUND_LOSS, lambda gap: gap.place.before),
+    Member("to_pts", Maybe(PTS), AROUND_LOSS, lambda gap: gap.place.after),
+    Member("gap_marker", Maybe(COUNT), "The number of the gap marker among the PES packets.",
+           lambda gap: gap.place.gap_marker),
+    Member("lost_ts_packets", COUNT, "The continuity counters do not show multiples of 16.",
            lambda gap: gap.place.lost),
-    Member("scrambled_ts_packets", COUNT, "The number of scrambled TS packets.",
-           lambda gap: gap.place.scrambled),
-    Member("missing_ticks", COUNT, "The length of the loss by the PCR, in 90 kHz ticks; 0 if the "
-           "PCR does not show it.", lambda gap: gap.place.missing),
-    Member("judged", Flag(), "Whether the verdict covers the frames between these times.",
+    Member("scrambled_ts_packets", COUNT, getter=lambda gap: gap.place.scrambled),
+    Member("missing_ticks", COUNT, "The length in 90 kHz ticks; 0 if the PCR does not show the "
+           "loss.", lambda gap: gap.place.missing),
+    Member("judged", Flag(), "Whether the verdict covers this time.",
            lambda gap: gap.is_judged))
 
 WARNING = Record(
     "warning", "",
     Member("kind", OneOf(
         "pts_behind", "pts_early", "pts_changed", "page", "type", "language", "option",
-        "character_set", "repeat", "clock_jump", "pause", "blocks", "subtitles", "cut", "hidden"),
-           "The kind: pts_behind, pts_early, pts_changed (against the PCR); page, type, language, "
-           "option (of the PMT); character_set (X/28, M/29); repeat (interval); clock_jump; pause "
-           "(frames without a PES packet); blocks, subtitles (TNB, TNS); cut (within a PES "
-           "packet); hidden (part of a row, by some receivers)."),
-    Member("line", Text(), "The warning as printed."),
+        "character_set", "repeat", "clock_jump", "pause", "blocks", "subtitles", "cut", "hidden")),
+    Member("line", Text()),
     Member("time", Maybe(TIME), "The time of the first occurrence."))
 
 TRUSTED = Record("trusted_frames", "", Member("part", PART),
-                 Member("from", TIME, "The first frame."), Member("to", TIME, "The last frame."))
+                 Member("from", TIME), Member("to", TIME, "The last trusted frame."))
 
 DELAY = Maybe(Integer(-FRAMES_OF_A_DAY, FRAMES_OF_A_DAY))
 CUE = Record(
     "cue", "",
     Member("part", PART),
-    Member("position", Integer(1, MAX_NUMBER), "The position in the subtitle file, from 1."),
-    Member("number", Integer(0, 65535), "The SN."),
-    Member("recording_offset", Maybe(Text(r"[0-9]+:[0-9]{2}:[0-9]{2}")), "The TCI, "
-           "counted from the recording's beginning, as H:MM:SS."),
-    Member("expected_in", CODE_TIME, "The TCI."),
-    Member("expected_out", CODE_TIME, "The TCO."),
+    Member("position", Integer(1, MAX_NUMBER)),
+    Member("number", Integer(0, 65535)),
+    Member("recording_offset", Maybe(Text(r"[0-9]+:[0-9]{2}:[0-9]{2}")), "The TCI "
+           "from the recording's beginning, as H:MM:SS."),
+    Member("expected_in", CODE_TIME),
+    Member("expected_out", CODE_TIME),
     Member("actual_in", Maybe(TIME), "The first frame at whose end a receiver has the page, or "
-           "another page in its place; null if there is none."),
+           "another page in its place."),
     Member("actual_out", Maybe(TIME), "The first frame at whose end a receiver no longer has "
            "the page."),
-    Member("delay_in", DELAY, "The number of frames by which the in-cue is late; negative if it is "
-           "early."),
-    Member("delay_out", DELAY, "The same number for the out-cue."),
-    Member("expected_text", Maybe(Text()), "The subtitle's text, with a slash between rows; null "
-           "if the subtitle is refused."),
-    Member("decoded_text", Maybe(Text()), "The received text."),
-    Member("verdict", OneOf(RIGHT, WRONG, WAIVED, NOT_KNOWN), "The verdict: waived if all its "
-           "faults are warnings, not known if the subtitle can't be judged."),
-    Member("reason", Maybe(Text()), "The reason why the subtitle is not right."),
+    Member("delay_in", DELAY, "The delay in frames; negative if the in-cue is early."),
+    Member("delay_out", DELAY),
+    Member("expected_text", Maybe(Text()), "A slash separates the rows."),
+    Member("decoded_text", Maybe(Text())),
+    Member("verdict", OneOf(RIGHT, WRONG, WAIVED, NOT_KNOWN), "right, wrong, waived (all faults "
+           "are warnings) or not known (it could not be judged)."),
+    Member("reason", Maybe(Text())),
     Member("complete_after", Maybe(COUNT), "The number of frames from the TCI until the page was "
-           "complete, and with --complete closed; null if it was not, or if this is unknown."))
+           "complete, and with --complete closed."))
 
 CHOICE = Record(
     "choice", "",
-    Member("part", Maybe(PART), "The part; null for all parts."),
-    Member("option", OneOf(*CHOICES), "The option that sets this value, without dashes.",
-           lambda choice: choice.option),
-    Member("value", Maybe(Text()), "The chosen value; null if there is none."),
-    Member("matches", Maybe(COUNT), "How many agree with the value: for pid, PES packets with a "
-           "header of the page; for origin, cues; for pes, PES packets between the first and the "
-           "last subtitle; for pace, positions at which a loss would exceed the pace.",
+    Member("part", Maybe(PART), "Null for all parts."),
+    Member("option", OneOf(*CHOICES), getter=lambda choice: choice.option),
+    Member("value", Maybe(Text()), "Null if qc chose no value."),
+    Member("matches", Maybe(COUNT), "The number of PES packets (for pid and pes), cues (origin) or "
+           "positions (pace) that match the value.",
            lambda choice: choice.match_count),
     Member("total", Maybe(COUNT), "The number that could match.",
            lambda choice: choice.total_count),
-    Member("line", Text(), "The evidence as printed."))
+    Member("line", Text()))
 
 PROGRAM = Record(
     "program", "",
-    Member("version", Text(), "The version."),
+    Member("version", Text()),
     Member("sha256", CHECKSUM),
-    Member("proof", Maybe(Text()), "The prover's line, if it is installed with the program.",
+    Member("proof", Maybe(Text()), "The line of the prover.",
            lambda program: program.proved))
 
 SPREAD = Record(
     "spread", "",
-    Member("minimum", COUNT, "The fewest frames.", lambda delays: delays.minimum),
-    Member("median", COUNT, "The median, in frames.", lambda delays: delays.median),
-    Member("maximum", COUNT, "The most frames.", lambda delays: delays.maximum),
-    Member("never_complete", COUNT, "The number of subtitles that were never complete.",
+    Member("minimum", COUNT, getter=lambda delays: delays.minimum),
+    Member("median", COUNT, getter=lambda delays: delays.median),
+    Member("maximum", COUNT, getter=lambda delays: delays.maximum),
+    Member("never_complete", COUNT, "The number of subtitles, not of frames.",
            lambda delays: delays.never_complete))
 
 COUNTS = Record(
     "counts", "",
-    Member("judged", COUNT, "The number of judged subtitles."),
-    Member("refused", COUNT, "The number of these that were refused, or that overlap the next "
-           "subtitle or come after it."))
+    Member("judged", COUNT),
+    Member("refused", COUNT, "The count includes the subtitle before a subtitle with fault 56 or "
+           "57."))
 
 FORMAT = 7
 MAX_LISTED = 20_000  # maximum number of items in a list
@@ -315,11 +294,11 @@ def sum_parts(known: ResultSource, name: str) -> int | None:
 
 
 FILES_AT_START = Record(
-    "files_at_start", "The files when judging began, which --resume and --watch compare.", *(
+    "files_at_start", "The files when judging began.", *(
         Member(name, Maybe(FILE_AT_START)) for name in ("stl", "recording", "severity")))
 INPUTS = Record("inputs", "The files as they were read.",
                 Member("stl", Maybe(FILE)), Member("recording", Maybe(FILE)))
-CAUSE_COUNTS = Record("cause_counts", "The number of causes for each name.", *(
+CAUSE_COUNTS = Record("cause_counts", "", *(
     Member(name, COUNT) for name in CAUSE_NAMES))
 
 # Allowed combinations of verdict, status, last line and reason
@@ -340,68 +319,57 @@ TIMED = Rules([
 
 # The lists, which are written item by item. The member `omitted` counts their missing items.
 LISTS = (
-    Member("parts", Listed(JUDGED_PART, MAX_LISTED), "The parts. Each has its own clock "
-           "and verdict. Frames between parts are not judged.",
+    Member("parts", Listed(JUDGED_PART, MAX_LISTED), "Frames between parts are not judged.",
            lambda known: (PartResult(part, known.verdict.is_kept) for part in known.verdict.parts)),
-    Member("losses", Listed(LOSS, MAX_LISTED), "The losses in the recording.",
-           lambda known: known.verdict.gaps),
+    Member("losses", Listed(LOSS, MAX_LISTED), getter=lambda known: known.verdict.gaps),
     Member("notes", Listed(Text(), MAX_LISTED),
-           "The notes as printed.",
-           lambda known: known.verdict.list_notes()),
-    Member("hints", Listed(Text(), MAX_LISTED), "The hints as printed, about the first fault with "
-           "some numbers.",
-           lambda known: known.verdict.hints),
-    Member("warnings", Listed(WARNING, MAX_LISTED), "Unusual values in the files.",
-           lambda known: known.verdict.warnings),
-    Member("commands", Listed(Text(), MAX_LISTED), "The check commands that qc ran.",
-           lambda known: known.verdict.commands),
-    Member("choices", Listed(CHOICE, MAX_LISTED), "The values that qc chose, in order.",
-           lambda known: known.verdict.selections),
-    Member("trusted_frames", Listed(TRUSTED, MAX_LISTED), "Frames without a fault; "
-           "with --within N, frames that become right within N frames.", list_trusted_frames),
-    Member("faults", Listed(FAULT, MAX_LISTED), "The faults: first those without a number, then "
-           "the others in the order of check --all.",
+           getter=lambda known: known.verdict.list_notes()),
+    Member("hints", Listed(Text(), MAX_LISTED), getter=lambda known: known.verdict.hints),
+    Member("warnings", Listed(WARNING, MAX_LISTED),
+           getter=lambda known: known.verdict.warnings),
+    Member("commands", Listed(Text(), MAX_LISTED), getter=lambda known: known.verdict.commands),
+    Member("choices", Listed(CHOICE, MAX_LISTED),
+           getter=lambda known: known.verdict.selections),
+    Member("trusted_frames", Listed(TRUSTED, MAX_LISTED), "The list is empty if check "
+           "accepts the part.", list_trusted_frames),
+    Member("faults", Listed(FAULT, MAX_LISTED), "Faults without a number come first.",
            lambda known: make_faults(known.verdict)),
-    Member("causes", Listed(LISTED_CAUSE, MAX_LISTED), "The cause for each subtitle with a fault "
-           "72, and for the first and last subtitle with a fault 63 or 74. Each cause also has a "
-           "key part.", list_cause_rows),
-    Member("subtitles", Listed(CUE, MAX_SUBTITLES), "All subtitles, including refused subtitles. "
-           "A fault between two subtitles belongs to neither.",
+    Member("causes", Listed(LISTED_CAUSE, MAX_LISTED), "Each cause also has a key part.",
+           list_cause_rows),
+    Member("subtitles", Listed(CUE, MAX_SUBTITLES), "The list includes refused "
+           "subtitles. A fault between two subtitles belongs to neither.",
            lambda known: list_subtitle_rows(known.verdict)))
 OMITTED = Record("omitted", "The number of items omitted from each list.", *(
     Member(one.name, COUNT) for one in LISTS))
 
 VERDICT = Record(
     "verdict", "",
-    Member("format", OneOf(FORMAT), "The format number.", lambda _: FORMAT),
+    Member("format", OneOf(FORMAT), getter=lambda _: FORMAT),
     Member("verdict", WORD, getter=lambda known: known.verdict.word),
     Member("status", STATUS, getter=lambda known: known.verdict.status),
     Member("line", Maybe(Text()), "The last line on standard output.",
            lambda known: known.verdict.line),
-    Member("worst_fault", Maybe(Text()), "The last line, but with the worst fault that is not "
-           "waived.", lambda known: known.verdict.worst_line),
-    Member("sentence", Text(), "The verdict in one sentence.",
-           lambda known: known.verdict.sentence),
+    Member("worst_fault", Maybe(Text()), "The last line, but with the worst fault instead of "
+           "the first.", lambda known: known.verdict.worst_line),
+    Member("sentence", Text(), getter=lambda known: known.verdict.sentence),
     Member("reason", Maybe(Text()), "The reason why the pair was not judged.",
            lambda known: known.verdict.unjudged_reason),
     Member("scope", OneOf("transmission", "subtitle file"),
-           "Whether a transmission or a subtitle file alone was judged.",
+           "subtitle file if no recording was judged, otherwise transmission.",
            lambda known: "subtitle file" if known.verdict.request.recording is None
            else "transmission"),
-    Member("frames", Maybe(COUNT), "The number of judged frames.",
-           lambda known: sum_parts(known, "frames")),
-    Member("transmissions", Maybe(COUNT), "The number of page transmissions.",
-           lambda known: sum_parts(known, "transmissions")),
-    Member("fault_count", COUNT, "The number of all faults, including omitted faults.",
+    Member("frames", Maybe(COUNT), getter=lambda known: sum_parts(known, "frames")),
+    Member("transmissions", Maybe(COUNT),
+           getter=lambda known: sum_parts(known, "transmissions")),
+    Member("fault_count", COUNT, "The count includes omitted faults.",
            lambda known: known.verdict.fault_count),
     Member("subtitle_counts", Maybe(COUNTS), getter=lambda known: known.verdict.subtitle_counts),
     Member("request", REQUEST, getter=lambda known: known.verdict.request),
     Member("files_at_start", FILES_AT_START, getter=lambda known: known.verdict.files_at_start),
     Member("inputs", INPUTS, getter=lambda known: known.verdict),
     Member("program", PROGRAM),
-    Member("date", DATE, "The time of judging, in UTC.", lambda known: known.verdict.date),
-    Member("seconds", Number(MAX_SECONDS), "The time that judging took.",
-           lambda known: known.verdict.seconds),
+    Member("date", DATE, "The time of judging in UTC.", lambda known: known.verdict.date),
+    Member("seconds", Number(MAX_SECONDS), getter=lambda known: known.verdict.seconds),
     Member("cause_counts", CAUSE_COUNTS, getter=lambda known: count_causes(
         part.causes for part in known.verdict.parts if part.causes)),
     Member("complete_after", Maybe(SPREAD),
