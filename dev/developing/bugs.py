@@ -159,9 +159,10 @@ SKIPPED = ("annotation", "returns", "decorator_list", "exc", "cause", "msg")  # 
 
 def find_places(node: ast.AST, names: str = "", inside: str = MODULE
                 ) -> Iterator[tuple[ast.AST, str, int | None, str]]:
-    """Yield each place where a mutant can differ: a node, its field, an index, and the function.
+    """Yield the places in a syntax tree whose nodes a mutant may change.
 
-    Type hints, raised exceptions and constant text are skipped.
+    Each place is a parent node, the name of its field, the index if the field is a list, and the
+    name of the function. Type hints, raised exceptions and constant text are skipped.
     """
     for name in node._fields:
         value = getattr(node, name, None)
@@ -196,7 +197,7 @@ def list_nested_codes(code: CodeType) -> Iterator[CodeType]:
 
 
 def compile_comparable(text: str) -> list[tuple[bytes, str]] | None:
-    """Compile source text to a list that can be compared. Return `None` if the text is invalid."""
+    """Return the bytecode, constants and names in source text, or `None` if it does not compile."""
     try:
         made = list_nested_codes(compile(text, "", "exec"))
         return [(code.co_code, repr([value for value in code.co_consts

@@ -19,9 +19,9 @@ from .proved import parse_proved
 DOCUMENTS = {"docs/HEADLINE.md": "", "docs/ASSURANCE.md": "", "docs/CLAUSES.md": "",
              "docs/DECISIONS.md": "", "docs/GLOSSARY.md": "",
              "docs/ARCHITECTURE.md": "|"}
-# A table row: a promise, its name, and the size of the definitions on which it depends.
+# A table row: a law, its name, and the numbers of definitions and lines that a reader must know.
 ROW = re.compile(r"^\| (.*) \| `(\S+)` \| (\d+) \| (\d+) \|$", re.M)
-# The maximum number of lines that a reader must read for each promise.
+# The maximum number of lines of definitions that each law may need.
 MAX_LINES = {"run_in_memory.headline": 450, "run_in_memory.acceptance": 800}
 # Patterns that find the line counts of promises in README.
 IN_README = {"run_in_memory.headline": re.compile(r"\[(\d+)\s+lines\]")}
@@ -50,7 +50,8 @@ class SourceNames:
                 self.add_path(top, os.path.relpath(os.path.join(place, name), top))
 
     def add_path(self, top: str, path: str) -> None:
-        """Add a file or folder: its paths below the top and below its crate, and its words."""
+        """Add the path of a file or folder, below the top and below its crate, and the words in it.
+        """
         parts = path.split(os.sep)
         for start in {0, *((1, 2) if parts[0] == "crates" else ())}:
             self.paths |= {"/".join(parts[start:]), os.path.splitext("/".join(parts[start:]))[0]}
@@ -61,7 +62,7 @@ class SourceNames:
             self.read(os.path.join(top, path))
 
     def read(self, path: str) -> None:
-        """Add the words of a file, except comments. For a mutant, add only the file name."""
+        """Add the words in a file, except comments. Skip mutants."""
         ending = os.path.splitext(path)[1]
         if ending != ".edit":
             with open(path, encoding="utf-8", errors="replace") as file:
@@ -92,7 +93,8 @@ class SourceNames:
 
 
 def find_unknown_names(top: str) -> dict[str, list[str]]:
-    """Return `DOCUMENT:LINE: NAME` for each quoted name that is not in the sources, by document."""
+    """Return the quoted names in each document that are not in the sources, as `FILE:LINE: NAME`.
+    """
     sources = SourceNames(top)
     found: dict[str, list[str]] = {}
     for name, start in DOCUMENTS.items():
@@ -110,7 +112,7 @@ def find_unknown_names(top: str) -> dict[str, list[str]]:
 
 
 def correct_count_rows(top: str) -> Iterator[tuple[str, str]]:
-    """Yield each row of ASSURANCE with the line count of a promise, and the corrected row."""
+    """Yield each table row of docs/ASSURANCE.md with line counts, and the corrected row."""
     with open(os.path.join(top, "docs", "ASSURANCE.md"), encoding="utf-8") as file:
         rows, library = list(ROW.finditer(file.read())), Library(top)
     for row in rows:
@@ -128,7 +130,7 @@ def correct_readme_counts(top: str) -> Iterator[tuple[str, str]]:
 
 
 def find_long_readings(top: str, most_lines: Mapping[str, int]) -> Iterator[Optional[str]]:
-    """Yield for each promise a message if it needs more than the allowed lines, else `None`."""
+    """Yield for each law a message if its definitions have too many lines, else `None`."""
     library = Library(top)
     for name, most in most_lines.items():
         lines = count_lines_to_read(*library.list_reading(name))[1]

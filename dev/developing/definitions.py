@@ -29,7 +29,8 @@ CLAUSE = re.compile(r"^ *ensures (\w+)? ?\{", re.M)
 
 
 class Definition:
-    """A definition: its comment, and its text with comments, starting at `line`."""
+    """A definition: its leading comment, and the lines of its source text, which begins at `line`.
+    """
 
     def __init__(self, file: SpecsFile, line: int, comment: list[str], first: str) -> None:
         self.file, self.line, self.comment, self.text = file, line, comment, [first]
@@ -43,7 +44,10 @@ class Definition:
         return [line for line in self.text if not line.lstrip().startswith("--")]
 
     def parts(self) -> list[str]:
-        """Return the scopes of bound names: the type and each equation, or a complete record."""
+        """Return the parts of the text that bind names separately.
+
+        These are the type and each equation of a function. A record is a single part.
+        """
         chunks: list[str] = []
         for line in self.code():
             if chunks and not (self.is_function and re.match(r"[^\s})]", line)):
@@ -174,7 +178,7 @@ class Library:
         return self.resolve(*file.names[name]) if name in file.names else None
 
     def list_uses(self, file: File, text: str, bound: set[str]) -> list[Meaning]:
-        """Return the meanings of the unbound names in a text from a file, in order."""
+        """Return the definitions and external names to which the unbound names in `text` refer."""
         found = (self.resolve(source, name) if source else self.resolve_in(file, name)
                  for source, name in list_names(file, file.definitions, text, bound))
         return [meaning for meaning in found if meaning]
@@ -225,8 +229,10 @@ class Library:
                 and place in ("", f"{file.crate}/{file.module.split('.specs.')[1]}")]
 
     def find_roots(self, name: str) -> list[Meaning]:
-        """Return the definition that an argument names, or the meanings in the clauses that it
-        names."""
+        """Return the definitions to which the argument `name` of a script refers.
+
+        If `name` is a function or a clause, return what its clauses refer to.
+        """
         found = self.find_definitions(name)
         if len(found) > 1:
             places = ", ".join(f"{definition.file.crate}/"
@@ -283,7 +289,10 @@ class Library:
         return sorted(reversed(last_first), key=lambda definition: ranks[definition.file.crate])
 
     def list_reading(self, name: str) -> tuple[list[Definition], list[ExternalName]]:
-        """Return the definitions on which a name depends, lowest first, and the external names."""
+        """Return the definitions on which a name depends, and the external names.
+
+        Each definition comes after the definitions that it uses.
+        """
         used = self.find_dependencies(name)
         needs = {definition: {meaning for meaning in names if isinstance(meaning, Definition)}
                  for definition, names in used.items() if isinstance(definition, Definition)}
@@ -323,9 +332,10 @@ class Library:
 
 def list_names(file: File, own: Iterable[str], text: str, bound: Iterable[str] = ()
              ) -> Iterator[tuple[str | None, str]]:
-    """Yield the unbound names in a text from a file, each with the module of its alias, if any.
+    """Yield the names in a text that refer to definitions or imports.
 
-    `own` contains the names that the file defines.
+    A name is yielded with its module if an alias of the module qualifies it, otherwise with `None`.
+    `own` contains the names that the file defines, `bound` the names of parameters and variables.
     """
     tokens = [token.lstrip("λ") for token in TOKEN.findall(text)]
     for before, token, after in zip(["", *tokens], tokens, [*tokens[1:], ""]):

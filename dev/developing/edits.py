@@ -47,7 +47,7 @@ class Edit(NamedTuple):
 
 
 def list_edits(folder: str) -> list[Edit]:
-    """Return the edits of all crates in folders with this name."""
+    """Return the edits in the subfolder `folder` of every crate."""
     found = []
     for crate in sorted(os.listdir(CRATES)):
         place = os.path.join(CRATES, crate, folder)
@@ -69,7 +69,8 @@ def read_edit(path: str) -> Lines:
 
 
 def find_test(name: str, lines: Lines) -> str | None:
-    """Return the test in the `test:` line of the edit `name`, if any."""
+    """Return the test in the `test:` line of an edit, or `None`. `name` is used in error messages.
+    """
     names = [rest.strip() for kind, rest in lines if kind == "test"]
     if len(names) > 1:
         raise Stop(f"{name}: more than one line `test:`")
@@ -82,7 +83,7 @@ def read_test(edit: Edit) -> str | None:
 
 
 def apply_edit(edit: Edit) -> dict[str, str]:
-    """Return the files that the edit changes, with their new text, by path in the crate."""
+    """Return the new text of each file that the edit changes, by its path in the crate."""
     return edit_texts(str(edit), read_edit(edit.path()), os.path.join(CRATES, edit.crate), PARTS)
 
 
@@ -107,10 +108,7 @@ def replace_files(top: str, texts: dict[str, str]) -> Iterator[None]:
 
 
 def edit_texts(name: str, lines: Lines, top: str, parts: tuple[str, ...]) -> dict[str, str]:
-    """Return the files that an edit changes, with their new text, by path below `top`.
-
-    Each path must begin with a string in `parts`.
-    """
+    """Return the new text of each file that an edit changes, by its path below `top`."""
     path: str | None = None
     old: str | None = None
     texts: dict[str, str] = {}
@@ -158,7 +156,8 @@ def find_stored_tests() -> dict[str, tuple[str, str]]:
 
 
 def count_applicable_edits() -> tuple[int, int]:
-    """Print the edits that cannot be applied. Return how many can and how many cannot be."""
+    """Print the edits that can't be applied. Return the numbers of applicable and of other edits.
+    """
     edits = [edit for folder in FOLDERS for edit in list_edits(folder)]
     tests = find_stored_tests()
     failed = 0

@@ -31,7 +31,7 @@ def make_codes(rng: Random, most: int, some: list[int]) -> str:
 
 
 def make_layout(rng: Random) -> str:
-    """Return a random layout option, rarely an invalid one."""
+    """Return a random layout option, occasionally an invalid option."""
     if rng.random() < 0.04:
         return rng.choice(WRONG_LAYOUTS)
     items = [name for name in FLAGS if rng.random() < 0.2]
@@ -70,7 +70,8 @@ def make_part_options(rng: Random, stl: bytes) -> list[str]:
 
 
 def mark_as_open(stl: bytes, rng: Random) -> bytes:
-    """Change the display code of a subtitle file to open subtitles, rarely to another value."""
+    """Set the display code of a subtitle file to open subtitles, or occasionally to another value.
+    """
     return stl[:DISPLAY_CODE] + rng.choice([b"0", b"0", b" ", b"3"]) + stl[DISPLAY_CODE + 1:]
 
 
@@ -118,7 +119,10 @@ def change_page_body(rng: Random, teletext: list[bytes]) -> None:
 
 
 def keep_pages(rng: Random, pes: bytes) -> bytes:
-    """Clear C4 in headers, usually of repeated pages. Rarely change rows or the subcode too."""
+    """Clear C4 in random headers, usually of repeated pages.
+
+    Occasionally change rows and the subcode too.
+    """
     packets: list[bytes] = []
     previous_packets: list[bytes] = []
     repeats = RepeatSettings(rng.choice([0.3, 0.9, 1.0]), rng.choice([0, 0, 0, 0.08, 1.0]),

@@ -11,7 +11,7 @@ from subtitles.common.times import CLOCK, FRAMES_OF_A_DAY, TICKS
 from subtitles.formats.teletext import CODE_WORDS
 
 PACKET_OFFSET = 4  # offset of the Teletext packet in a data unit
-MAX_PACKETS = 16  # maximum number of Teletext packets in a made PES packet
+MAX_PACKETS = 16  # maximum number of Teletext packets in a generated PES packet
 LETTERS = b"ABCDEFGHIJKLMNOPQRSTUVWXYZabcdefghijklmnopqrstuvwxyz 0123456789.,?!'"
 
 

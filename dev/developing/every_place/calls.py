@@ -1,4 +1,4 @@
-"""Calls of the program, and their expected output from the second implementation."""
+"""Calls of the program, and their expected output, which the second implementation computes."""
 from __future__ import annotations
 
 import shlex
@@ -22,7 +22,10 @@ class Answer(NamedTuple):
 
 
 class Call(NamedTuple):
-    """A command with its input files and arguments. Reading the last file may fail at its end."""
+    """A command with its input files and arguments.
+
+    If `is_failing` is true, reading the last file fails at its end.
+    """
 
     name: str
     command: str
@@ -82,7 +85,7 @@ def extract_items(data: bytes, options: Options, is_failing: bool) -> Answer:
 
 
 def define_answer(call: Call) -> Answer:
-    """Return the output of a call according to the second implementation."""
+    """Return the output of a call that the second implementation computes."""
     arguments, data = [word for word in call.options if word not in (ALL, SERIAL)], call.files[-1]
     try:
         if call.command == "extract" and "--pid" not in parse_arguments(arguments):

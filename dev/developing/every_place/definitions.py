@@ -19,9 +19,9 @@ from .arguments import Options
 
 
 class Transmission:
-    """The PES packets and gap markers of a file, in order, and their faults.
+    """The PES packets and gap markers (the items) of a file in order, and their faults.
 
-    `first` is the index of the first item in its file.
+    `first` is the index in the file of the first item.
     """
 
     def __init__(self, due: ExpectedPages, options: Options, first: int) -> None:
@@ -30,15 +30,15 @@ class Transmission:
         self.frames: list[int] = []  # frames of the readable PES packets
         self.packets: list[Packet] = []
         self.headers: list[int] = []  # frames with a header of the page
-        # The PES packets of the current frame: the index of the last one, the number of their
-        # Teletext packets, and whether this frame is the first.
+        # State of the current frame: the index of its last PES packet, the number of Teletext
+        # packets in its PES packets, and whether it is the first frame.
         self.sending: int | None = None
         self.count, self.is_first = 0, True
         # The last run of unreadable items: their fault, and the first and last index.
         self.skipped: tuple[int, int, int] | None = None
 
     def describe_place(self, pes: int) -> str:
-        """Return the printed position of an item."""
+        """Return the position of the item with the index `pes`, as printed."""
         return f"pes {self.first + pes}"
 
     def report_fault(self, number: int, place: str, pes: int | None,
@@ -60,7 +60,7 @@ class Transmission:
             self.skipped = number, pes, pes
 
     def end_skipped(self) -> None:
-        """Report the end of several consecutive unreadable items."""
+        """Report the end of consecutive unreadable items."""
         if self.skipped and self.skipped[1] < self.skipped[2]:
             number, _, last = self.skipped
             self.event_log.events.append(Event(format_ended(number, self.describe_place(last)),
@@ -68,7 +68,8 @@ class Transmission:
         self.skipped = None
 
     def receive(self, pes: int, frame: int, teletext: list[bytes]) -> None:
-        """Process a PES packet. If pages may be late, PES packets of one frame belong together."""
+        """Process a PES packet. If pages may be late, process all PES packets of a frame together.
+        """
         if self.options.within == 0 or self.frames[-1:] != [frame]:
             self.end_current_frame()
             self.begin_frame(pes, frame)
@@ -119,7 +120,8 @@ class Transmission:
         self.end_frames(pes, [frame])
 
     def end_frames(self, pes: int, frames: Iterable[int]) -> None:
-        """End the frame of a PES packet, or the empty frames before a PES packet."""
+        """Process the ends of frames: the frame of the PES packet, or the empty frames before it.
+        """
         decoded, ends = decode(self.packets, self.options), self.ends
         for frame in frames:
             for number, line in ends.at(frame, decoded, self.headers, self.frames):
@@ -129,7 +131,10 @@ class Transmission:
                     FrameEnd(frame, bool(ends.active), ends.incomplete_since, ends.is_late))
 
     def end_file(self, end_fault: int | None, pes: int) -> None:
-        """End the file after `pes` items. `end_fault` is the fault in the remaining bytes."""
+        """Process the end of the file after `pes` items.
+
+        `end_fault` is the fault in the remaining bytes, or `None`.
+        """
         self.end_current_frame()
         self.end_skipped()
         for number, line in self.ends.list_final_lines():

@@ -19,7 +19,7 @@ class FrameEnds:
     def __init__(self, due: ExpectedPages, options: Options) -> None:
         self.due, self.options = due, options
         self.first = self.frame = 0  # first and previous frame
-        self.active: dict[int, int] = {}  # cell or NO_CELL of each active fault
+        self.active: dict[int, int] = {}  # number of each active fault: its cell, or NO_CELL
         # The first frame of the current run of frames with an incomplete page.
         self.incomplete_since: int | None = None
         self.is_late = False  # whether the page is late
@@ -53,7 +53,10 @@ class FrameEnds:
                 for number, is_so in found.items() if is_so}
 
     def list_allowed_frames(self, frame: int) -> list[int]:
-        """Return the frame and the earlier frames whose expected page is still allowed."""
+        """Return the frames whose expected pages are allowed at `frame`.
+
+        These are the frame and as many frames before it as --within allows.
+        """
         return [frame, *range(max(self.first, frame - self.options.within), frame)]
 
     def is_overdue(self, frame: int) -> bool:
@@ -67,9 +70,9 @@ class FrameEnds:
             for begin in self.due.list_starts(frame + 1)))
 
     def find_unexpected_cell(self, page: bytes, frame: int) -> int | None:
-        """Return the first cell that is not a space and differs from all allowed pages.
+        """Return the index of the first cell that differs from a space and from all allowed pages.
 
-        Return `None` if an allowed page is unknown.
+        Return `None` if there is no such cell, or if an allowed page is unknown.
         """
         frames = self.list_allowed_frames(frame)
         if any(map(self.due.is_undecided, frames)):
@@ -82,7 +85,10 @@ class FrameEnds:
 
     def at(self, frame: int, decoded: Decoded, headers: list[int], sent: list[int]
            ) -> Iterator[tuple[int, str]]:
-        """Yield the number and the line of each fault that begins or ends at a frame."""
+        """Yield the number and the printed line of each fault that begins or ends at a frame.
+
+        `headers` and `sent` are the frames with a header of the page and with a PES packet.
+        """
         found = self.find_active_faults(frame, decoded, headers, sent)
         for number in (72, 73, 77, 78, 79):
             now, before = found.get(number), self.active.get(number)

@@ -89,7 +89,11 @@ EARLY_WRONG = ["refused 72 Content frame 09:59:59:24 row 22 column 16",
 
 
 def make_stl_file(*texts: tuple[int, int, int, bytes]) -> bytes:
-    """Return a subtitle file. Each subtitle has TCI and TCO after 10:00:00:00, row and text."""
+    """Return a subtitle file.
+
+    For each subtitle, `texts` contains TCI and TCO in frames after 10:00:00:00, the row and the
+    text.
+    """
     return HELLO[:GSI] + b"".join(
         make_subtitle_blocks(number, FIRST + tci, FIRST + tco, row, 2, text)
         for number, (tci, tco, row, text) in enumerate(texts))
@@ -111,7 +115,7 @@ OPEN_NINTH = replace_bytes(make_subtitle_blocks(8, FIRST, FIRST + 50, 22, 2, HI)
 
 
 def add_blocks_after_eight(name: str, blocks: bytes, *last: str) -> KnownCall:
-    """Return a call for the eight subtitles and more blocks, with its expected lines."""
+    """Return a call that checks eight subtitles followed by `blocks`, with its expected lines."""
     return make_pair(f"eight subtitles and {name}", SENT, *BLOCKS_OF_EIGHT, *last,
                      stl=EIGHT_SUBTITLES + blocks)
 
@@ -121,16 +125,16 @@ TEXTS = [add_blocks_after_eight("no more", b""),
 
 
 def make_pes_at(*frames: tuple[int, list[bytes]]) -> bytes:
-    """Return PES packets at frames counted from 10:00:00:00."""
+    """Return PES packets. Each item has a frame after 10:00:00:00, and Teletext packets."""
     return b"".join(make_pes_packet((FIRST + frame) * TICKS, packets) for frame, packets in frames)
 
 
 def break_every_rule() -> bytes:
     """Return PES packets that together break every rule.
 
-    The first PES packet is late and has no header of the page. The second has the same frame: its
-    header has a wrong bit, C4 clear and C11 set; its row has a wrong bit in the address and another
-    in a letter; a different row and packet 26 follow.
+    The first PES packet is late and has no header of the page. The second is in the same frame. Its
+    header has a wrong bit, C4 clear and C11 set. Its row has a wrong bit in the address and another
+    in a letter. Another row and a packet X/26 follow.
     """
     header = replace_bytes(HEADER, {3: 0xD1, 5: 0x15, 9: 0x02})
     row = replace_bytes(ROW, {1: 0x9A, 21: 0x48})
@@ -139,7 +143,7 @@ def break_every_rule() -> bytes:
 
 
 def make_unfinished_page() -> bytes:
-    """Return an open page with two wrong rows, and a PES packet whose PTS is in no frame."""
+    """Return an open page with two wrong rows, and a PES packet whose PTS belongs to no frame."""
     changes = {19: 0x0B, 20: 0x0B, 21: 0x0D, 23: 0x8A, 24: 0x8A}
     return make_pes_at((0, [HEADER, ROW]), (24, [replace_bytes(make_packet("15 8C"),
                                                                {**changes, 22: 0xC1})]),

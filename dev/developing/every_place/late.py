@@ -44,7 +44,10 @@ def spread_page(rng: Random, part: Part, most: int) -> list[Part]:
 
 
 def send_pages(rng: Random, parts: list[Part], most: int) -> list[Part]:
-    """Split all pages. Packets of a late page come before the next page, or between its packets."""
+    """Split each page into parts that are sent at different times.
+
+    Parts of a late page are sent before the next page, or between its parts.
+    """
     seed = rng.random() if rng.random() < 0.5 else None
     made: list[Part] = []
     for part in parts:
@@ -57,7 +60,7 @@ def send_pages(rng: Random, parts: list[Part], most: int) -> list[Part]:
 
 
 def move_parts(rng: Random, parts: list[Part]) -> None:
-    """Move each PTS inside its frame, rarely to another frame."""
+    """Move each PTS within its frame, or occasionally to another frame."""
     first, last = rng.choice([(EARLIEST, LATEST)] * 6 + [(EARLIEST - 1, LATEST + 1), (-2000, 0)])
     for at, part in enumerate(parts):
         ticks = rng.choice([first, last, rng.randrange(first, last + 1)])
@@ -82,7 +85,7 @@ def add_accident(rng: Random, parts: list[Part]) -> None:
     elif way == "open":  # a page without its closing header
         at = rng.choice([-1, rng.randrange(count)])
         parts[at] = parts[at]._replace(packets=parts[at].packets[:-1])
-    elif way == "hold back":  # shift by some frames, rarely with all later parts
+    elif way == "hold back":  # shift by a few frames, occasionally with all later parts
         at, by = rng.randrange(count), TICKS * rng.choice([1, 1, 2, 3, 4, 5, 6, -1, -2])
         end = count if rng.random() < 0.2 else at + 1
         parts[at:end] = [part._replace(time=part.time + by) for part in parts[at:end]]
@@ -133,7 +136,7 @@ def split_parts(data: bytes) -> list[Part]:
 
 
 def join_parts(parts: list[Part], first: int) -> list[bytearray]:
-    """Return the PES packets of all parts. The PTS of time 0 is `first`."""
+    """Return the PES packets of all parts. `first` is the PTS at time 0."""
     return [bytearray(make_pes_packet((first + part.time) % CLOCK, part.packets[:MAX_PACKETS]))
             for part in parts]
 

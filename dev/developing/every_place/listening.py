@@ -1,4 +1,4 @@
-"""Compute the lines of `packets` and `listen`, simply and slowly."""
+"""Compute the output of `packets` and `listen` with a simple, slow algorithm."""
 from __future__ import annotations
 
 from typing import Iterator, NamedTuple
@@ -50,7 +50,7 @@ def list_packets_lines(data: bytes, options: Options, is_failing: bool) -> Itera
 
 
 class ListenOptions(NamedTuple):
-    """The options that only `listen` has."""
+    """The options of `listen` that other commands do not have."""
 
     last: int
     skip: int
@@ -81,7 +81,10 @@ def parse_listen_options(arguments: list[str]) -> ListenOptions:
 
 
 class Receiver:
-    """A receiver. `decoded` is the page in its memory, `shown` the page on its screen, if any."""
+    """A model of a Teletext receiver.
+
+    `decoded` is the page in its memory. `shown` is the page on its screen, or `None`.
+    """
 
     def __init__(self, options: Options, kind: str) -> None:
         self.page, self.kind = options.page, kind

@@ -16,8 +16,9 @@ ALL_BITS = {12, 13, 14}
 SAME_IN_ALL = (*range(0x01, 0x0E), 0x1C, 0x1D, *range(0x20, 0x23), *range(0x25, 0x40),
                *range(0x41, 0x5B), *range(0x61, 0x7B))
 
-# The bytes in a text for each cell that differs between sub-sets: a byte, several bytes, or a pair.
-# Each sub-set has 13 such cells. Some English and German cells have no such bytes.
+# For each cell that differs between sub-sets, the bytes in a text that give it: a byte, several
+# alternatives, or a pair. Each sub-set has 13 such cells; some English and German cells have no
+# such bytes.
 CELL_TEXTS = """
 23  A3     23     23     A3     C2.65  CB.63  23
 24  24,A4  24,A4  A8     24,A4  C8.69  24,A4  CA.75
@@ -36,7 +37,7 @@ CELL_TEXTS = """
 
 
 def map_cells_by_option() -> dict[str, dict[bytes, int]]:
-    """Return a table from the bytes in a text to cells for each sub-set."""
+    """Return for each sub-set a dictionary from the bytes in a text to the cell."""
     found = {option: {bytes([code]): code for code in SAME_IN_ALL} for option in BITS}
     for line in CELL_TEXTS.split("\n")[1:-1]:
         cell, *columns = line.split()

@@ -128,9 +128,9 @@ def is_plain_subtitle_header(control: set[int], option: str) -> bool:
 
 
 def is_repeat(packet: Packet, before: Sequence[Packet], is_open: bool, options: Options) -> bool:
-    """Return whether a header may keep the page.
+    """Return whether a header may be a repeated header, which keeps the page.
 
-    It must have the subcode of the previous header. With --complete the page must also be closed.
+    Its subcode must be that of the previous header. With --complete the page must also be closed.
     """
     last = next((one for one in reversed(before) if get_page(one) == options.page), None)
     return (options.may_keep and not (options.is_complete and is_open)

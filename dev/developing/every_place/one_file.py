@@ -46,8 +46,8 @@ def make_file() -> bytes:
 WHOLE = make_file()
 TWO, LAST_OF_TWO = GSI + TTI, GSI + 3 * TTI  # offsets of the first subtitle's blocks
 
-# Changed bytes and the reported fault: limits that no test of the crates has, and blocks with two
-# faults. The program ignores CS, times, VP and JC of further blocks.
+# Changed bytes and the reported fault: limits that the tests of the crates do not cover, and blocks
+# with two faults. The program ignores CS, times, VP and JC of further blocks.
 BLOCK_CASES: list[tuple[str, dict[int, int]]] = [
     ("60 Empty", {11: ord("2")}), ("13 Display block 0", {11: ord(" ")}),
     ("11 Format block 0", {3: ord(" ")}), ("11 Format block 0", {10: ord("2")}),
@@ -100,14 +100,14 @@ def make_transmission(lines: Iterable[Line]) -> bytes:
 
 
 def expect_drawn(text: bytes, row: int, justify: int, *lines: Line) -> KnownCall:
-    """Return a call with a text and a transmission that has exactly these lines."""
+    """Return a call in which the text must be drawn as these lines."""
     return make_known_check(make_name(text, f"drawn at row {row}, JC {justify}"),
                             make_text_file(text, row, justify), make_transmission(lines), "",
                             ["accepted 2 frames 2 transmissions"])
 
 
 def expect_refused_text(text: bytes, row: int, fault: str, at: int) -> KnownCall:
-    """Return a call with a text that is refused."""
+    """Return a call in which the text is refused at the index `at`."""
     return make_known_check(make_name(text, f"refused at row {row}"), make_text_file(text, row, 0),
                             b"", "", expect_refused(f"{fault} block 1 at {at}"))
 

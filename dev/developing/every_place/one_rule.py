@@ -18,7 +18,7 @@ TICKS_OFF = {"+": TICKS // 2, "-": -TICKS // 4}
 
 
 class OneRule(NamedTuple):
-    """A pair, the options of `check`, and the number of the rule that it breaks."""
+    """A pair of files, the options of `check`, and the number of the rule that the pair breaks."""
 
     name: str
     number: int
@@ -35,7 +35,7 @@ def make_packet(head: str, byte: int = 0x20) -> bytes:
 
 def make_header(c4: str = "D0", c5_c6: str = "D0", c7_c10: str = "02",
                 c11_c14: str = "15") -> bytes:
-    """Return a header of page 888 with these control bytes, by default for a subtitle."""
+    """Return a header of page 888, by default for a subtitle. The control bytes are hexadecimal."""
     return make_packet(f"15 15 D0 D0 15 {c4} 15 {c5_c6} {c7_c10} {c11_c14}")
 
 
@@ -55,7 +55,10 @@ PAGE = [HEADER, CLOSING]
 
 
 def parse_transmission(packets: str, meaning: dict[str, bytes]) -> list[bytes]:
-    """Return the PES packets in a list, separated by commas."""
+    """Return the PES packets that a comma-separated list describes.
+
+    An item of the list is a frame, with `+` or `-` for a PTS next to it, and the names of packets.
+    """
     made = []
     for frame, *names in map(str.split, packets.split(",")):
         ticks = (FIRST + int(frame.rstrip("+-"))) * TICKS + TICKS_OFF.get(frame[-1], 0)

@@ -50,7 +50,7 @@ class Subtitle(NamedTuple):
 
 
 def add_letters(rng: Random, text: bytes, option: str) -> bytes:
-    """Replace letters with letters of a national option, rarely with invalid bytes."""
+    """Replace letters with letters of a national option, or occasionally with an invalid byte."""
     if rng.random() < 0.1:
         option = rng.choice(OPTIONS)
     own = [letter for letter, cell in CELLS[option].items()
@@ -62,7 +62,7 @@ def add_letters(rng: Random, text: bytes, option: str) -> bytes:
 
 
 def make_random_text(rng: Random, row: int, option: str) -> bytes:
-    """Return lines of text that fit at a row, sometimes with letters of the national option."""
+    """Return random lines of text that fit on a page from `row` on, some with national letters."""
     lines = []
     for _ in range(rng.choice([1, 1, 2, 3])):
         line = bytes(rng.choices(LETTERS, k=rng.randrange(1, 30)))
@@ -139,7 +139,7 @@ def corrupt_block(rng: Random, data: bytearray, block: int) -> None:
         at = rng.choice([*FIELDS])
         data[block + at] = rng.choice([*FIELDS[at], rng.randrange(256)])
     else:
-        data[block + rng.randrange(3)] ^= 1  # subtitle group number, subtitle number
+        data[block + rng.randrange(3)] ^= 1  # change the subtitle group or the subtitle number
 
 
 def repeat_block(rng: Random, block: bytearray) -> bytearray:
@@ -186,7 +186,7 @@ def make_random_options(rng: Random) -> dict[str, str]:
 
 
 def change_options(rng: Random, arguments: dict[str, str]) -> dict[str, str]:
-    """Return the options, rarely with a different value."""
+    """Return the options, occasionally with one value changed."""
     if rng.random() >= 0.25:
         return arguments
     name = rng.choice(["--every"] * 4 + ["--page", "--origin", "--origin", "--option"])
@@ -205,7 +205,7 @@ WRONG_NUMBERS = ["51", "x", "", "+1", "1 ", "4294967297", "00000000001"]
 
 
 def make_within_option(rng: Random, within: int) -> list[str]:
-    """Return --within with a number. Rarely omit the option, or return an invalid number."""
+    """Return the option --within. Occasionally return no option, or an invalid number."""
     if rng.random() < 0.02:
         return ["--within", rng.choice(WRONG_NUMBERS)]
     if within == 0 and rng.random() < 0.8:
@@ -215,7 +215,10 @@ def make_within_option(rng: Random, within: int) -> list[str]:
 
 def add_refused_subtitles(broadcaster_rng: Random, stl: bytes, arguments: list[str],
                           is_sure: bool) -> bytes:
-    """Return the subtitle file, sometimes with refused subtitles, or always if `is_sure`."""
+    """Occasionally spoil subtitles, so that they are refused. Return the subtitle file.
+
+    If `is_sure` is true, always do this.
+    """
     if not is_sure:
         return spoil_subtitles(broadcaster_rng, stl) if broadcaster_rng.random() < 0.15 else stl
     for _ in range(MAX_TRIES):
@@ -228,9 +231,10 @@ def add_refused_subtitles(broadcaster_rng: Random, stl: bytes, arguments: list[s
 
 def make_random_pair(seed: int, schedule: Schedule, is_refused: bool = False,
                      keeps_pages: bool = False) -> Pair:
-    """Return a random pair, on request with refused subtitles or headers that keep the page.
+    """Return a random pair of files.
 
-    `schedule` returns the transmission for a subtitle file.
+    `schedule` returns the transmission for a subtitle file. If `is_refused` is true, the subtitle
+    file has refused subtitles. If `keeps_pages` is true, headers keep the page.
     """
     rng, broadcaster_rng = Random(seed), Random(f"house {seed}")
     arguments = make_random_options(rng)

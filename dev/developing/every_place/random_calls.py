@@ -21,14 +21,14 @@ LISTEN_OPTIONS = ("--page", "--origin", "--within")  # options that `check` and 
 
 
 def format_pid(rng: Random, pid: int) -> str:
-    """Return a PID as an argument, rarely an invalid PID."""
+    """Return a PID as an argument, occasionally an invalid PID."""
     if rng.random() < 0.02:
         return rng.choice(["8191", "0x1FFF", "x", "", "0x", "257 ", "0X101"])
     return rng.choice([str(pid), f"{pid:010}", hex(pid), f"0x{pid:08X}"])
 
 
 def make_range_options(rng: Random, count: int) -> list[str]:
-    """Return --pes with a range, rarely with an invalid range. Usually return no option."""
+    """Usually return no option, else --pes with a range, which is occasionally invalid."""
     way = rng.random()
     if way < 0.6:
         return []
@@ -40,7 +40,7 @@ def make_range_options(rng: Random, count: int) -> list[str]:
 
 
 def make_recording_options(rng: Random, pid: int, size: int, count: int) -> list[str]:
-    """Return the options for a recording, rarely with a wrong PID or packet size."""
+    """Return the options for a recording, occasionally with a wrong PID or packet size."""
     asked = pid ^ 1 if rng.random() < 0.03 else pid
     arguments = ["--pid", format_pid(rng, asked)]
     if size != SIZES[0] or rng.random() < 0.2:

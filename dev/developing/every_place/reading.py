@@ -14,7 +14,7 @@ from subtitles.formats.stl import GSI, LAST_BLOCK, TTI, USER_DATA
 from subtitles.formats.teletext import NUMBER, Page
 
 HEAD = 6  # bytes of a PES packet up to and including PES_packet_length
-CUT, START, LENGTH = 30, 31, 32  # fault numbers for bytes that are no PES packet
+CUT, START, LENGTH = 30, 31, 32  # fault numbers for bytes that do not form a PES packet
 MAX_BLOCKS, MAX_SUBTITLE_BLOCKS, MAX_PES_PACKETS = 99_999, 9, 2_160_000
 
 ReadPacket = tuple[int, list[bytes]]  # frame and Teletext packets of a PES packet
@@ -77,9 +77,10 @@ def find_first_block_fault(block: bytes) -> int | None:
 
 
 def find_block_fault(block: bytes, group: list[bytes], is_outside: bool) -> int | None:
-    """Return the fault number for a block after the blocks `group` of its subtitle, if any.
+    """Return the fault number for a block, or `None`.
 
-    User data and comments are skipped, and have no fault.
+    `group` contains the earlier blocks of its subtitle. If `is_outside` is true, the block's
+    subtitle is outside the examined times. User data and comments are skipped, and have no fault.
     """
     extension, comment = block[3], block[15]
     if extension == USER_DATA:
@@ -102,7 +103,7 @@ def make_record(group: list[bytes], number: int) -> Record:
     head = group[0]
     text = b"".join(block[16:].partition(b"\x8f")[0] for block in group)
     tci, tco = frame_of_code(head[5:9]), frame_of_code(head[9:13])
-    assert tci is not None and tco is not None  # otherwise the first block is faulty
+    assert tci is not None and tco is not None  # an invalid time is a fault in the first block
     return Record(number, tci, tco, head[13], head[14], text)
 
 
@@ -157,7 +158,7 @@ def is_gap_marker(packet: bytes) -> bool:
 
 
 def find_head_fault(packet: bytes) -> int | None:
-    """Return the fault number for the header of a complete PES packet, if any."""
+    """Return the fault number for the header of a complete PES packet, or `None`."""
     questions = [(45, not is_gap_marker(packet)), (33, packet[6] >> 4 == 8),
                  (34, packet[7] >> 6 == 2), (35, packet[8] == 0x24),
                  (36, is_valid_pts(packet[9:14])), (37, 0x10 <= packet[45] <= 0x1F)]
@@ -165,7 +166,10 @@ def find_head_fault(packet: bytes) -> int | None:
 
 
 def find_unit_fault(unit: bytes, last_line: tuple[int, int]) -> int | None:
-    """Return the fault number for a data unit that follows line `last_line`, if any."""
+    """Return the fault number for a data unit, or `None`.
+
+    `last_line` is the field and line of the previous data unit.
+    """
     if unit[1] != 0x2C:
         return 38
     if unit[0] not in (2, 3):
@@ -197,9 +201,10 @@ def read_units(packet: bytes) -> tuple[list[bytes], int | None]:
 
 
 def read_length(data: bytes, begin: int = 0) -> int | None:
-    """Return the length in bytes (at least 184) of the PES packet at an offset.
+    """Return the length in bytes of the PES packet at an offset.
 
-    Return 31 for a wrong start, 32 for a wrong length, and `None` if bytes are missing.
+    Return a fault number, 31 for a wrong start code or 32 for a wrong length. It can't be mistaken
+    for a length, which is at least 184. Return `None` if bytes are missing.
     """
     head = data[begin:begin + HEAD]
     if len(head) < HEAD:
@@ -233,7 +238,10 @@ def split_packets(data: bytes) -> tuple[list[bytes], int | None]:
 
 
 def find_frame(pts: int, origin: int) -> int | None:
-    """Return the frame of a PTS. The PTS may be 1/4 frame early and less than 3/4 frame late."""
+    """Return the frame of a PTS, or `None` if it is not within the day.
+
+    A PTS belongs to a frame if it is at most 1/4 frame early and less than 3/4 frame late.
+    """
     frame = (pts - origin + TICKS // 4) % CLOCK // TICKS
     return frame if frame < FRAMES_OF_A_DAY else None
 

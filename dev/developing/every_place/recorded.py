@@ -16,7 +16,7 @@ PID = "--pid 257"
 FIRST, SECOND = SENT[:184], SENT[184:]
 X0, X1 = b"\x47\x41\x01\x10" + FIRST, b"\x47\x41\x01\x11" + SECOND
 NULL = b"\x47\x1f\xff\x10" + b"\xff" * 184
-# A TS packet of the PID without a payload that announces a jump of the continuity counter.
+# A TS packet of the Teletext PID that has no payload and announces a counter jump.
 JUMP = b"\x47\x01\x01\x20\xb7\x80" + b"\0" * 182
 
 

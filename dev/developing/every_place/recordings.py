@@ -15,7 +15,7 @@ PACKET = 188
 SIZES = PACKET, 192, 204  # possible packet sizes in bytes
 TIME_STAMP = 4  # bytes before each packet if the packet size is 192
 MAX_RECORDING_BYTES = 2**48  # maximum number of bytes that are read
-MAX_UNSEEN_PACKETS = 15  # number of packets after which the counter may wrap
+MAX_UNSEEN_PACKETS = 15  # maximum number of missing packets that a continuity counter detects
 GAP_MARKER = b"\0\0\1\xbd\0\xb2" + b"\xff" * 178
 
 
@@ -73,9 +73,10 @@ def find_packets(data: bytes, size: int) -> Iterator[TransportPacket | Skipped]:
 
 
 class GoodPacket(NamedTuple):
-    """An intact packet, and its relation to the previous intact packet.
+    """An intact packet, and how it follows the previous intact packet.
 
-    At a break, packets may be missing. At an announced jump of the counter, no packet is missing.
+    If `is_break` is true, packets may be missing before it. If `is_announced_jump` is true, its
+    counter jumps as announced, and no packet is missing.
     """
 
     packet: TransportPacket
@@ -84,7 +85,7 @@ class GoodPacket(NamedTuple):
 
 
 class Stretch:
-    """The packets between two intact packets."""
+    """What happened between two consecutive intact packets."""
 
     def __init__(self, before: TransportPacket | None) -> None:
         self.before = before
@@ -93,7 +94,7 @@ class Stretch:
     def is_repeat(self, packet: TransportPacket) -> bool:
         """Return whether a packet is the first duplicate (2.4.3.3) of the previous packet.
 
-        A packet that announces a new jump is no duplicate.
+        A packet that announces a new jump is not a duplicate.
         """
         before = self.before
         return before is not None and not self.has_repeat and not self.has_jump \
@@ -101,7 +102,7 @@ class Stretch:
             and (before.announces_jump or not packet.announces_jump)
 
     def make_good_packet(self, packet: TransportPacket) -> GoodPacket:
-        """Return the next intact packet, which ends this stretch."""
+        """Return an intact packet, with its relation to the previous intact packet."""
         if self.before is None:
             return GoodPacket(packet, False, False)
         is_announced = self.has_jump or packet.announces_jump
@@ -143,7 +144,7 @@ class Part:
         self.wrong_head = found if found in (START, LENGTH) else None
         self.length = None if self.wrong_head else found
         self.is_whole = self.length is not None and len(self.payload) >= self.length
-        self.head = b""  # payloads with the first six bytes
+        self.head = b""  # the payloads up to the one that completes the first six bytes
         for payload in payloads:
             self.head += payload if len(self.head) < HEAD else b""
 
@@ -159,9 +160,10 @@ def cut_parts(good_packets: list[GoodPacket]) -> list[Part]:
 
 
 class StreamContent(NamedTuple):
-    """The PES packets and gap markers in a stream. `marks` is true for gap markers.
+    """The PES packets and gap markers in a stream.
 
-    `rest` contains the bytes from a wrong start or length, `end_fault` its fault number.
+    `marks` tells which items of `pieces` are gap markers. `rest` contains the bytes from a wrong
+    start or length on, `end_fault` its fault number.
     """
 
     pieces: list[bytes]

@@ -1,4 +1,4 @@
-"""Compute the transmission that `schedule` writes, simply and slowly."""
+"""Compute the transmission that `schedule` writes with a simple, slow algorithm."""
 from __future__ import annotations
 
 from developing.pes import STUFFING_UNIT, reverse_bits, make_packet, encode_pts

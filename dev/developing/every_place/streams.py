@@ -76,7 +76,10 @@ def make_packet_of_other_pid(rng: Random, pid: int) -> bytes:
 
 
 class Multiplexer:
-    """A multiplexer that sends the PES packets of a PID. Its counter may jump if announced."""
+    """A multiplexer that sends the PES packets of a PID.
+
+    If `has_jumps` is true, it announces random jumps of the continuity counter.
+    """
 
     def __init__(self, rng: Random, pid: int, has_jumps: bool) -> None:
         self.rng, self.pid, self.has_jumps = rng, pid, has_jumps
@@ -87,14 +90,14 @@ class Multiplexer:
         self.empty = rng.choice([0.0, 0.1, 0.3])
 
     def send_other_packets(self, pes: int | None) -> None:
-        """Send packets of other PIDs, and packets of this PID without a payload."""
+        """Send packets of other PIDs, and packets without a payload on this PID."""
         while self.rng.random() < self.others:
             self.units.append(Unit(make_packet_of_other_pid(self.rng, self.pid)))
         while self.rng.random() < self.empty:
             self.units.append(Unit(make_packet_without_payload(self.rng, self.pid, False), pes))
 
     def announce_jump(self, pes: int) -> bool:
-        """Sometimes announce a counter jump. Return whether the next packet must do so too."""
+        """Occasionally announce a counter jump. Return whether the next packet must announce it."""
         if not self.has_jumps or self.rng.random() < 0.6:
             return False
         self.counter = self.rng.choice([self.counter, self.rng.randrange(16)])
@@ -144,7 +147,10 @@ def multiplex(rng: Random, packets: list[bytes], pid: int, has_jumps: bool) -> l
 
 
 def join_units(rng: Random, units: list[Unit], size: int) -> bytes:
-    """Return the bytes of units, with time stamps for size 192 or 16 more bytes for size 204."""
+    """Return the bytes of all units.
+
+    If `size` is 192, a time stamp precedes each packet. If it is 204, 16 bytes follow each packet.
+    """
     before, behind = (TIME_STAMP, 0) if size == 192 else (0, size - PACKET)
     data = b"".join(make_random_bytes(rng, before) + one.packet + make_random_bytes(rng, behind)
                     for one in units)
@@ -183,7 +189,8 @@ def lose_units(rng: Random, units: list[Unit]) -> list[Unit]:
 
 
 def gone(number: int, kept: set[int]) -> bool:
-    """Return whether the loss of this packet would make too many consecutive packets missing."""
+    """Return whether too many consecutive packets would be missing after the loss of this packet.
+    """
     return number >= MAX_UNSEEN_PACKETS - 1 and kept.isdisjoint(range(number - MAX_UNSEEN_PACKETS +
                                                                       1, number + 1))
 

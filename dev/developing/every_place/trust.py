@@ -1,6 +1,7 @@
 """Find the frames that are trusted despite faults, and the positions of their lines in the output.
 
-An `EventLog` collects events and PES packets. When it is complete, runs of clean frames are found.
+An `EventLog` collects events and PES packets. `TrustedFrames` then finds groups of consecutive
+frames without a fault.
 """
 from __future__ import annotations
 
@@ -9,7 +10,8 @@ from typing import Iterator, NamedTuple
 
 from subtitles.common.times import time_of
 
-# Faults that make the frame of a PES packet unclean, because receivers depend on these rules.
+# Faults after which the frame of a PES packet is not fault-free, because receivers depend on these
+# rules.
 PACKET_FAULTS = {64, 65, 67, 68, 69}
 ORDER = 62
 SKIPPED = {*range(33, 41), 45, 61}  # fault numbers of unreadable items
@@ -38,7 +40,10 @@ class SentPacket(NamedTuple):
 
 
 class FrameEnd(NamedTuple):
-    """The state at the end of a frame: active faults, and since when the page is incomplete."""
+    """The state at the end of a frame: whether a fault is active, and whether a page is pending.
+
+    `incomplete_since` is the frame from which the page has been incomplete, or `None`.
+    """
 
     frame: int
     has_active: bool
@@ -47,7 +52,7 @@ class FrameEnd(NamedTuple):
 
 
 class CleanRun(NamedTuple):
-    """Consecutive clean frames."""
+    """Consecutive frames without a fault."""
 
     first: int
     last: int
@@ -57,9 +62,9 @@ class CleanRun(NamedTuple):
 class EventLog:
     """The events of a transmission, and its PES packets.
 
-    `sent` and `ends` contain the PES packets and frame ends up to the first PES packet whose frame
-    is not later than the previous frame. If there is no such packet, `has_rising_frames` is true.
-    `skipped` contains the unreadable items. `has_trailing_bytes` is true if bytes follow the items.
+    `sent` and `ends` contain the PES packets and frame ends before the first PES packet that is out
+    of order. If no PES packet is out of order, `has_rising_frames` is true. `skipped` contains the
+    indices of unreadable items. `has_trailing_bytes` is true if bytes follow the items.
     """
 
     events: list[Event] = field(default_factory=list)
@@ -71,7 +76,7 @@ class EventLog:
 
 
 class TrustedFrames:
-    """Finds the trusted frames up to the first PES packet whose frame is not later.
+    """Finds the trusted frames before the first PES packet that is out of order.
 
     `is_refused` is true if the subtitle file has faults.
     """
@@ -96,7 +101,7 @@ class TrustedFrames:
                 self.unclean |= {before[-1], *range(before[-1], end)}
 
     def find_runs(self) -> Iterator[CleanRun]:
-        """Yield each longest run of consecutive clean frames."""
+        """Yield the groups of consecutive frames without a fault."""
         begin = self.first
         for frame in range(self.first, self.last + 2):
             if frame in self.unclean or frame > self.last:
@@ -105,7 +110,10 @@ class TrustedFrames:
                 begin = frame + 1
 
     def find_trusted_frames(self) -> Iterator[tuple[int, CleanRun]]:
-        """Yield the trusted frames of each run, and the index of the event after their line."""
+        """Yield groups of consecutive trusted frames.
+
+        The first value is the index of the event before which the group is printed.
+        """
         for run in self.find_runs():
             headers = [packet.frame for packet in self.sent
                        if packet.has_header and run.first <= packet.frame <= run.last]
@@ -119,9 +127,9 @@ class TrustedFrames:
         return frame in self.ends and self.ends[frame].incomplete_since is None
 
     def find_report_place(self, last: int) -> int:
-        """Return the index of the event that follows the line about trusted frames up to `last`.
+        """Return the index of the event before which trusted frames up to `last` are printed.
 
-        This is the first event that makes the next frame unclean or concerns a later frame.
+        This is the first event that makes the next frame faulty or concerns a later frame.
         """
         after = last + 1
         pes = [packet.pes for packet in self.sent if packet.frame == after]
@@ -135,10 +143,11 @@ class TrustedFrames:
         return len(self.events)
 
     def find_last_trusted(self, last: int, at: int) -> int:
-        """Return the last trusted frame in a run whose line precedes event `at`.
+        """Return the last trusted frame of a group whose frames up to `last` have no fault.
 
-        Frames with an incomplete page are not trusted if this event reports a late page or comes
-        after the last frame, or if the subtitle file has faults.
+        The group is printed before the event `at`. Frames with an incomplete page are not trusted
+        if this event reports a late page or follows the last frame, or if the subtitle file has
+        faults.
         """
         event = self.events[at] if at < len(self.events) else None
         end: FrameEnd | None = None

@@ -10,7 +10,8 @@ import subprocess
 from .calls import Answer, Call, KnownCall, add_first_fault_call
 
 WRITING_COMMANDS = ("extract", "schedule")  # commands that write a file
-READ_SIZE = 65536  # bytes in one read; a second read of a shorter file reaches its end
+# A read returns at most this many bytes. If a file is shorter, the second read reaches its end.
+READ_SIZE = 65536
 
 
 def make_reads_fail(path: str, data: bytes) -> list[str]:
@@ -41,7 +42,7 @@ def find_first_difference(printed: list[str], expected: list[str]) -> str:
 
 
 class Trial:
-    """The program, and a folder for its files."""
+    """Runs the program, and compares its output. The program's files are in a folder."""
 
     def __init__(self, program: str, folder: str) -> None:
         self.program, self.folder = program, folder

@@ -20,7 +20,7 @@ PACKETS = {"h": HEADER, "r": ROW, "c": CLOSING, "o": replace_bytes(ROW, {22: 0xE
 
 
 def make_pes_file(packets: str) -> bytes:
-    """Return the PES packets in a list."""
+    """Return the PES packets that a comma-separated list describes."""
     return b"".join(parse_transmission(packets, PACKETS))
 
 
@@ -44,7 +44,7 @@ DAY = [
         (ONE, "refused 61 OffFrame pes 0"), stl=HELLO[:GSI])],
 ]
 
-# The largest allowed value of --within.
+# The largest allowed values of --within.
 MOST = [
     *expect_lines("a frame that does not rise before an end is late",
                   make_pes_file("0 h r c, 10 h c, 12 h c, 5 h r c, 50 h c"),
@@ -68,8 +68,8 @@ TICK_CASES = [
 
 WITHIN = [*MOST, *TICK_CASES, *DAY]
 
-# Headers that keep the page, rows after a first header, rows outside an open page, and an unknown
-# expected page.
+# Headers that keep the page, rows after such a header, rows when no page is open, and a refused
+# subtitle, whose page is unknown.
 KEEPING = "--keeping"
 AFTER_BAD = make_stl_file((0, 50, 22, HI.replace(b"i", b"\xe6")), (50, 100, 22, HI))
 BAD = "refused 50 Character block 1 at 4"
