@@ -1,12 +1,12 @@
 """Read what a recording transmits, from the output of `subttx survey`. Nothing here judges.
 
-packets        PES packets of a Teletext PID, and announced jumps of its counter
-pictures       pictures that drift from Teletext
+packets        PES packets of a Teletext PID, and announced jumps of its continuity counter
+pictures       places where pictures drift from Teletext
 survey         the output of `subttx survey`: maps, pictures, languages
 gaps           places with missing packets, and PTS that do not agree with the PCR
 repeats        how often a page is repeated
-pace           the intervals of PES packets, and the interval that shows any loss
-ranges         find the PES packets of a range of frames
+pace           intervals between PES packets, to detect lost packets
+ranges         PES packets of a range of frames
 receiver       the page that a receiver has decoded at the end of each frame
-layout         find the layout that draws subtitles as they were sent
+layout         the layout that draws subtitles as they were sent
 """

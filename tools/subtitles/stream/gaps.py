@@ -12,17 +12,18 @@ from .survey import Survey
 
 
 SECOND = 90_000  # ticks
-MAX_LISTED = 20  # most places to list
-PAUSE = 10  # in a pause of the PCR come less than 1/10 of the usual packets
+MAX_LISTED = 20  # maximum number of places to list
+PAUSE = 10  # a PCR step with less than 1/10 of the usual TS packets is a clock jump
 
 
 @dataclasses.dataclass
 class LossPlace:
-    """A place between the PTS of two PES packets where packets are missing.
+    """A place between two PES packets where packets are missing.
 
-    `lost` TS packets are missing by the continuity counters, which count modulo 16 and show no loss
-    at an announced jump. `scrambled` TS packets cannot be read. `missing` is the lost time by the
-    PCR, in ticks. `gap_marker` is the number of the gap marker at this place, if any.
+    `before` and `after` are the PTS of these PES packets. `lost` is the number of missing TS
+    packets according to the continuity counters, which count modulo 16 and show no loss at an
+    announced jump. `scrambled` TS packets cannot be read. `missing` is the duration of the loss in
+    ticks, according to the PCR. `gap_marker` is the number of the gap marker at this place, if any.
     """
 
     before: int | None
@@ -35,15 +36,15 @@ class LossPlace:
 
 
 class ClockJump(NamedTuple):
-    """A jump of the clock after PTS `before`, in ticks; negative: back."""
+    """A jump of the PCR after PTS `before`. `ticks` is negative if the PCR goes back."""
 
     before: int | None
     ticks: int
 
 
 def find_loss_places(packets: Packets, announced: Iterable[PTSPair] = ()) -> list[LossPlace]:
-    """Return the places with gap markers, with losses that only the PCR and other PIDs show, and
-    with announced jumps of the continuity counter."""
+    """Return the places with missing packets: those with a gap marker, losses that only the PCR and
+    other PIDs show, and announced jumps of the continuity counter."""
     following: dict[int, int | None] = {}
     pts = None
     for run in reversed(packets.runs):
@@ -70,7 +71,7 @@ def find_pcr_loss(clocked: PCRStep) -> LossPlace | None:
 
 
 def find_clock_jumps(packets: Packets) -> Iterator[ClockJump]:
-    """Yield the jumps of the clock where no packet is missing."""
+    """Yield the jumps of the PCR at which no packet is missing."""
     for clocked in packets.pcr_steps:
         if clocked.counters == "whole" and clocked.packets * PAUSE * clocked.usual < \
                 clocked.usual_packets * abs(clocked.ticks):
@@ -78,7 +79,7 @@ def find_clock_jumps(packets: Packets) -> Iterator[ClockJump]:
 
 
 def is_within(ticks: int, place: LossPlace) -> bool:
-    """Return whether a loss fits between the PTS of a place; a longer one is a clock jump."""
+    """Return whether a loss is no longer than the interval at a place. Otherwise the PCR jumped."""
     return place.before is None or place.after is None or \
         ticks <= ticks_between(place.before, place.after)
 
@@ -107,7 +108,8 @@ def describe_loss(place: LossPlace) -> str:
 
 
 def loss_line(place: LossPlace, first: int | None) -> str:
-    """Return a line with the position of a place and its missing packets."""
+    """Return a line with the PTS and the missing packets of a place. `first` is the recording's
+    first PTS."""
     known = [pts for pts in (place.before, place.after) if pts is not None]
     names = " and ".join(map(str, known))
     times = " and ".join(time_of(wrap_pts(pts - (first or 0)) // TICKS) for pts in known)
@@ -117,13 +119,13 @@ def loss_line(place: LossPlace, first: int | None) -> str:
 
 
 def first_lines(lines: Sequence[str]) -> list[str]:
-    """Return the first lines, and one with the number of further places."""
+    """Return the first lines, followed by the number of omitted places."""
     more = len(lines) - MAX_LISTED
     return [*lines[:MAX_LISTED], *([f"and at {counted(more, 'more place')}"] if more > 0 else [])]
 
 
 def gap_marker_lines(packets: Packets) -> list[str]:
-    """Return a line for each place with a gap marker, and one for all further places."""
+    """Return a line for each gap marker. If there are too many, the last line counts the rest."""
     first = next(packets.pts(), None)
     lines = [loss_line(place, first) for place in find_loss_places(packets) if place.gap_marker is
              not None]
@@ -133,7 +135,8 @@ def gap_marker_lines(packets: Packets) -> list[str]:
 
 
 def explain_refusal(packets: Packets) -> str | None:
-    """Return why a PID has no Teletext or why reading stopped, or `None` if all is Teletext."""
+    """Return why a PID has no Teletext or why reading stopped. Return `None` if all PES packets are
+    Teletext."""
     name = format_pid(packets.pid)
     if not packets.refusal and packets.count:
         return None
@@ -152,16 +155,16 @@ def explain_refusal(packets: Packets) -> str | None:
         f"{packets.refusal} {word} pes {packets.count}"
 
 
-# The distance of PTS from the PCR of the programme, sampled once a second
+# Anomalies of the distance between PTS and PCR, sampled once a second
 
-MAX_LATE = 60  # most samples from which to take the largest distance
+MAX_LATE = 60  # number of samples at either end of the recording for the largest distance
 ANOMALY_TEXTS = {"behind": "are behind the PCR", "early": "are more than a second ahead of the PCR",
                  "changed": "moved against the PCR by more than half a second"}
 
 
 class PTSAnomaly(NamedTuple):
-    """An anomaly of the distance from the PCR: its kind, its first PTS, the number of samples that
-    show it, and the worst distance in ticks."""
+    """An anomaly of the distance between PTS and PCR: its kind, its first PTS, the number of
+    samples that show it, the number of all samples, and the largest deviation in ticks."""
 
     kind: str
     pts: int
@@ -171,7 +174,8 @@ class PTSAnomaly(NamedTuple):
 
 
 def find_pts_anomalies(packets: Packets) -> Iterator[PTSAnomaly]:
-    """Yield the anomalies of PTS; the usual distance is the median of the first minute."""
+    """Yield the anomalies of the PTS. The usual distance to the PCR is the median of the first
+    minute."""
     samples = packets.samples
     first = [ahead for pts, ahead in samples
              if 0 <= ticks_between(samples[0][0], pts) <= 60 * SECOND]
@@ -187,12 +191,13 @@ def find_pts_anomalies(packets: Packets) -> Iterator[PTSAnomaly]:
 
 
 def find_pts_delay(packets: Packets) -> int:
-    """Return the most ticks by which recent PTS were behind the PCR."""
+    """Return the largest delay of recent PTS behind the PCR, in ticks."""
     return max([0, *(-ahead for _, ahead in packets.samples[-MAX_LATE:])])
 
 
 def find_recorded_range(survey: Survey, packets: Packets) -> tuple[int, int] | None:
-    """Return the PTS between which, by the PCR, the recording has all packets of the PID."""
+    """Return the PTS from which and up to which the recording has all packets of the PID, according
+    to the PCR. Return `None` if there is no PCR."""
     clock = survey.clock_of(packets.pid)
     if clock is None:
         return None

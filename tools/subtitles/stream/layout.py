@@ -1,4 +1,4 @@
-"""Find the layout that draws subtitles as they were sent, with evidence."""
+"""Find the layout that draws subtitles as they were sent, and the evidence for its items."""
 from __future__ import annotations
 
 import itertools
@@ -16,21 +16,23 @@ from ..formats.teletext import COMMON, NationalOption
 from .receiver import Rows, Timeline
 
 
-# A layout changes only rows, columns and codes, so a subtitle is *found* if a page with its
-# characters in order was sent. Each item of a layout decides the cells of a line, its row or its
-# column. So find the items of each kind separately, and draw the subtitles to check the result.
+# A layout changes only rows, columns and codes. So a subtitle is *found* if a page with the same
+# characters in the same order was sent. Each item of a layout affects the cells, the row or the
+# column of a line. The best items of each kind are found separately. Then the subtitles are drawn,
+# to check the result.
 
-REFUSED = {code for code in CODES if code not in COMMON}  # unless the layout strips them
+# Codes that `check` refuses unless the layout strips them.
+REFUSED = {code for code in CODES if code not in COMMON}
 BOX_CODES, LINE_CODES = b"\x0a\x0b", b"\x0a\x0b\x0d"
-FEWEST, TENTHS = 10, 9  # fewest subtitles, and how many of ten must be drawn as sent
-MAX_STRIPPED = 5  # most codes at the ends of lines to combine in all ways
-MAX_KEPT = 6  # most candidates to keep
+FEWEST, TENTHS = 10, 9  # at least 10 subtitles, of which 9/10 must be drawn as sent
+MAX_STRIPPED = 5  # maximum number of codes of which all combinations are tried
+MAX_KEPT = 6  # maximum number of candidates to keep
 Element = TypeVar("Element")
 
 
 class SentSubtitle(NamedTuple):
-    """A subtitle and the page sent at its frames: its text in the file, the row of its first line
-    (VP), its justification code (JC), and rows 1 to 24."""
+    """A subtitle and the page that was sent for it: the subtitle's text in the file, the row of its
+    first line (VP), its justification code (JC), and rows 1 to 24 of the page."""
 
     text: bytes
     row: int
@@ -39,8 +41,8 @@ class SentSubtitle(NamedTuple):
 
 
 class SentLine(NamedTuple):
-    """A line with characters: the position of its subtitle, its number, its cells with all codes,
-    and the sent row, by its number and its cells."""
+    """A line with characters: the index of its subtitle, the line's number, and its cells with all
+    codes. `row` and `sent` are the number and the cells of the row in which it was sent."""
 
     place: int
     number: int
@@ -50,13 +52,14 @@ class SentLine(NamedTuple):
 
 
 def is_found(sent: SentSubtitle, option: NationalOption) -> bool:
-    """Return whether a subtitle has characters and these were sent."""
+    """Return whether a subtitle has characters and the page has the same characters."""
     letters = find_text_letters(sent.text, option)
     return bool(letters) and find_page_letters(sent.rows) == letters
 
 
 def pair_lines(place: int, lines: Sequence[bytes], rows: Sequence[bytes]) -> list[SentLine]:
-    """Return the lines of a subtitle with their sent rows, or none if the characters differ."""
+    """Return the lines of a subtitle with the rows in which they were sent. Return an empty list if
+    the characters differ."""
     said = [(number, line) for number, line in enumerate(lines) if remove_attributes(line)]
     shown = [(number, row) for number, row in enumerate(rows, 1) if remove_attributes(row)]
     if [remove_attributes(line) for _, line in said] != [remove_attributes(row) for _, row in
@@ -67,8 +70,8 @@ def pair_lines(place: int, lines: Sequence[bytes], rows: Sequence[bytes]) -> lis
 
 
 def codes_to_strip(pairs: Sequence[SentLine]) -> Iterator[bytes]:
-    """Yield sets of codes that a layout may strip: codes that a page can't have, codes missing
-    between characters, and combinations of the codes at the ends of lines."""
+    """Yield sets of codes that a layout may strip: codes that `check` refuses, codes that were not
+    sent inside lines, and combinations of the codes in the lines."""
     lacks, has, ends = set[int](), set[int](), set[int]()
     for cells, sent in {(pair.cells, pair.sent) for pair in pairs}:
         said, shown = Counter(trim_line(cells)), Counter(trim_line(sent))
@@ -95,8 +98,8 @@ def most(counts: Counter[Element], size: int) -> list[Element]:
 
 def find_beginnings(lines: Counter[tuple[bytes, bytes]],
                     trim: bool) -> list[tuple[bool, bytes, bytes]]:
-    """Return the beginnings of most lines: `white`, and the codes before and after a line's own
-    leading codes."""
+    """Return the most frequent ways to begin a line: `white`, and the codes to add before and after
+    the line's own leading codes."""
     line_counts = Counter[tuple[bytes, bytes]]()  # leading codes of lines, and of sent rows
     for (cells, sent), count in lines.items():
         shown = sent.lstrip(b" ")
@@ -119,7 +122,7 @@ def find_beginnings(lines: Counter[tuple[bytes, bytes]],
 
 
 def find_ends(lines: Counter[tuple[bytes, bytes]]) -> list[bytes]:
-    """Return the codes at the ends of most lines."""
+    """Return the codes that were most often added at the end of a line."""
     votes = Counter[bytes]()
     for (cells, sent), count in lines.items():
         own, shown = (one.rstrip(b" ")[::-1] for one in (cells, sent))
@@ -133,7 +136,8 @@ def find_ends(lines: Counter[tuple[bytes, bytes]]) -> list[bytes]:
 
 
 def find_line_layouts(pairs: Sequence[SentLine]) -> list[Layout]:
-    """Return layouts of the cells of lines, by the number of lines drawn as sent, most first."""
+    """Return the layouts that draw the cells of most lines as sent, best first. Rows and columns of
+    the lines don't count."""
     scores = Counter[Layout]()
     for strip, trim in itertools.product(codes_to_strip(pairs), (False, True)):
         all_lines = Counter((remove_codes(pair.cells, strip), pair.sent) for pair in pairs)
@@ -156,7 +160,7 @@ def find_line_layouts(pairs: Sequence[SentLine]) -> list[Layout]:
 
 
 def as_bits(places: Iterable[int]) -> int:
-    """Return a set of positions as a number."""
+    """Return a bit mask with the bits `places` set."""
     bits = 0
     for place in places:
         bits |= 1 << place
@@ -166,7 +170,8 @@ def as_bits(places: Iterable[int]) -> int:
 def find_row_layouts(layout: Layout, pairs: Sequence[SentLine],
                      all_lines: Sequence[Sequence[bytes]],
                      subtitles: Sequence[SentSubtitle]) -> Iterator[tuple[Layout, int]]:
-    """Yield layouts of the rows of lines, each with the subtitles whose rows are wrong."""
+    """Yield variants of a layout that differ in the rows of lines, each with a bit mask of the
+    subtitles that have a line in a wrong row."""
     lines = [[prepare_line(remove_codes(line, layout.strip), layout) for line in one] for one in
              all_lines]
     for double, pack, last in itertools.product((False, True), repeat=3):
@@ -183,7 +188,8 @@ def find_row_layouts(layout: Layout, pairs: Sequence[SentLine],
 
 def find_column_layouts(layout: Layout, pairs: Sequence[SentLine], subtitles: Sequence[SentSubtitle]
               ) -> Iterator[tuple[Layout, int]]:
-    """Yield layouts of the columns of lines, each with the subtitles that have a wrong line."""
+    """Yield variants of a layout that differ in the columns of lines, each with a bit mask of the
+    subtitles that have a wrong line."""
     wrong, kinds = set[int](), dict[tuple[bytes, int, int], set[int]]()
     for pair in pairs:
         cells = prepare_line(remove_codes(pair.cells, layout.strip), layout)
@@ -217,13 +223,13 @@ def draws_as_sent(layout: Layout, sent: SentSubtitle, option: NationalOption) ->
 
 def count_misdrawn(layout: Layout, subtitles: Sequence[SentSubtitle], option: NationalOption,
                    most: int) -> int:
-    """Count the subtitles that a layout does not draw as sent, up to one more than `most`."""
+    """Count the subtitles that a layout does not draw as sent. Stop at `most` + 1."""
     others = (sent for sent in subtitles if not draws_as_sent(layout, sent, option))
     return sum(1 for _ in itertools.islice(others, most + 1))
 
 
 def simplify(layout: Layout, subtitles: Sequence[SentSubtitle], option: NationalOption) -> Layout:
-    """Remove each item of a layout without which no more subtitles are wrong."""
+    """Return a layout without the items that can be removed without more wrong subtitles."""
     most = count_misdrawn(layout, subtitles, option, len(subtitles))
     for names in (("strip",), ("before", "behind"), ("behind",), ("after",), *(
             (name,) for name in Layout._fields[4:])):
@@ -236,7 +242,8 @@ def simplify(layout: Layout, subtitles: Sequence[SentSubtitle], option: National
 
 
 def find_candidates(subtitles: Sequence[SentSubtitle], option: NationalOption) -> list[Layout]:
-    """Return the layouts that draw most of the found subtitles as sent, and the plain layout."""
+    """Return the plain layout, and the layouts that draw the largest number of subtitles as
+    sent."""
     all_lines = [split_raw_lines(sent.text, option) for sent in subtitles]
     pairs = [pair for place, sent in enumerate(subtitles)
              for pair in pair_lines(place, all_lines[place], sent.rows)]
@@ -256,33 +263,34 @@ def find_candidates(subtitles: Sequence[SentSubtitle], option: NationalOption) -
     return [PLAIN, *(simplify(one, subtitles, option) for one in candidates[:MAX_KEPT])]
 
 
-# The items of a layout for which there is evidence
+# Evidence for the items of a layout
 #
-# The layout that draws most subtitles as sent may draw a wrong page too, by an item for this page
-# alone. So each item needs evidence: subtitles that the layout draws differently without it. Items
-# can cancel each other, as `last` and `row=1` do for a text of two lines, so each group of items
-# needs evidence too. An item that removes something visible needs the operator's decision.
+# The layout that draws the largest number of subtitles as sent may have an item that only
+# reproduces a wrongly sent page. So each item needs evidence: subtitles that the layout draws
+# differently without the item. Items can cancel each other, as `last` and `row=1` do for a text of
+# two lines, so each group of items needs evidence too. An item that removes something visible needs
+# the operator's decision.
 
-STAR = "*"  # item: codes come after the leading codes of a line
+STAR = "*"  # item of the codes after a line's own leading codes
 SINGLE = ("after", "fit", "white", "trim", "text", "up", "left", "right", "free", "double", "pack",
           "last", "row")
-MAX_ITEMS = 12  # most items of which to try all groups
+MAX_ITEMS = 12  # maximum number of items of which all groups are tried
 # Visible codes of a text: colours other than white, flash, backgrounds.
 VISIBLE_CODES = (*range(0x01, 0x07), 0x08, 0x1C, 0x1D)
 RESTORED = (DOUBLE, START_BOX)  # codes that `before` may restore
 # Codes that replace the colour, flash or double height of a line if they come after its own codes.
 OVERRULING = (*COLOURS, 0x09, 0x0C)
 FLASH = 0x08
-BOXES_SHOWN = 2  # start boxes before a line that libzvbi needs to show it
-MAX_MOVED = 2  # most rows by which a broadcaster moves all lines
+BOXES_SHOWN = 2  # number of start boxes that libzvbi needs before a line to show the line
+MAX_MOVED = 2  # maximum number of rows by which a broadcaster is likely to move all lines
 LayoutItem = tuple[str, int]  # name of an item, and the code for `strip`
 Group = frozenset[LayoutItem]
 Page = Optional[Rows]  # the page that a layout draws, if it can
 
 
 class ItemEvidence(NamedTuple):
-    """The evidence for items of a layout: their TEXT, the number of subtitles that are drawn
-    differently without them, and how many of these were sent as drawn with them."""
+    """The evidence for some items of a layout, which are given in `text`. Without them, `redrawn`
+    subtitles are drawn differently; `as_sent` of these are drawn as sent with the items."""
 
     text: str
     redrawn: int
@@ -290,13 +298,13 @@ class ItemEvidence(NamedTuple):
 
     @property
     def has_evidence(self) -> bool:
-        """Return whether the evidence is enough."""
+        """Return whether there is enough evidence to accept the items."""
         return self.redrawn >= FEWEST and self.as_sent * 10 >= self.redrawn * TENTHS
 
 
 class RejectedItems(NamedTuple):
-    """Items that are not accepted: their TEXT, the number of further subtitles that they would draw
-    as sent, and the TEXT of the layout with them."""
+    """Items that were not accepted, which are given in `text`. `more` further subtitles would be
+    drawn as sent with the layout `whole`, which has these items."""
 
     text: str
     more: int
@@ -304,8 +312,9 @@ class RejectedItems(NamedTuple):
 
 
 class LayoutChoice(NamedTuple):
-    """A layout, the number of found subtitles that it draws as sent, the evidence for its items,
-    and rejected items that would draw more."""
+    """A layout that draws `as_sent` of `total` found subtitles as they were sent. `items` is the
+    evidence for its items. `left` has the rejected items with which more subtitles would be drawn
+    as sent."""
 
     layout: Layout
     as_sent: int
@@ -319,11 +328,11 @@ class LayoutChoice(NamedTuple):
         return self.total >= FEWEST and self.as_sent * 10 >= self.total * TENTHS
 
 
-# ---- items, one by one
+# ---- Items and groups of items
 
 def list_items(layout: Layout) -> list[LayoutItem]:
-    """List the items of a layout. Each stripped code is an item, and so is the place of codes after
-    a line's leading codes."""
+    """Return the items of a layout. Each stripped code is an item of its own. `STAR` is the item
+    for codes after a line's own leading codes."""
     items = [("strip", code) for code in layout.strip]
     if (layout.before, layout.behind) != (PLAIN.before, PLAIN.behind):
         items.append(("before", 0))
@@ -346,7 +355,7 @@ def remove_items(layout: Layout, group: Iterable[LayoutItem]) -> Layout:
 
 
 def add_items(layout: Layout, group: Iterable[LayoutItem], other: Layout) -> Layout:
-    """Return a layout with a group of items of another layout."""
+    """Return a copy of a layout with a group of items taken from another layout."""
     codes = {code for name, code in group if name == "strip"}
     layout = layout._replace(strip=bytes(sorted({*layout.strip, *codes})))
     names = {name for name, _ in group}
@@ -356,7 +365,7 @@ def add_items(layout: Layout, group: Iterable[LayoutItem], other: Layout) -> Lay
 
 
 def items_text(group: Iterable[LayoutItem], layout: Layout) -> str:
-    """Return items of a layout as a TEXT."""
+    """Return a group of items as a value of `--layout`."""
     return format_layout(add_items(PLAIN, group, layout))
 
 
@@ -374,7 +383,7 @@ def find_questionable_items(layout: Layout) -> Group:
     return frozenset(taken)
 
 
-# ---- evidence
+# ---- Evidence
 
 class Evidence:
     """The found subtitles, and the pages that layouts draw for them."""
@@ -400,7 +409,8 @@ class Evidence:
 
     def item_evidence(self, layout: Layout, group: Iterable[LayoutItem],
                       is_enough: bool = False) -> ItemEvidence:
-        """Return the evidence for a group of items; `is_enough`: stop as soon as it is enough."""
+        """Return the evidence for a group of items. If `is_enough`, stop as soon as the evidence
+        suffices."""
         less, text = remove_items(layout, group), items_text(group, layout)
         right = [page == one.rows for page, one in zip(self.pages(layout), self.subtitles)]
         decides = as_sent = 0
@@ -413,8 +423,9 @@ class Evidence:
         return ItemEvidence(text, decides, as_sent)
 
     def find_unsupported(self, layout: Layout) -> Group | None:
-        """Return the group of items without evidence that changes the fewest subtitles; `None` if
-        every group has evidence. With too many groups to try, return a single item."""
+        """Return the group of items without enough evidence that changes the smallest number of
+        subtitles. Return `None` if every group has enough. If there are more than `MAX_ITEMS`
+        items, return the single item that changes the smallest number of subtitles."""
         items = list_items(layout)
         is_few = len(items) <= MAX_ITEMS
         sizes = range(1, len(items) + 1) if is_few else (1,)
@@ -425,7 +436,8 @@ class Evidence:
         return frozenset(min(failing)[-1]) if failing else None
 
     def remove_unsupported(self, layout: Layout) -> tuple[Layout, list[Group]]:
-        """Remove items that lack evidence or need a decision; return the layout and these items."""
+        """Remove items that lack evidence or need the operator's decision. Return the layout and
+        the removed groups of items."""
         removed_groups: list[Group] = []
         while group := find_questionable_items(layout) or self.find_unsupported(layout):
             layout = remove_items(layout, group)
@@ -433,7 +445,8 @@ class Evidence:
         return layout, removed_groups
 
     def make_choice(self, layout: Layout, left: Sequence[RejectedItems] = ()) -> LayoutChoice:
-        """Return a layout with the evidence for its items; of two with the same TEXT the weaker."""
+        """Return a layout with the evidence for its items. If two items have the same text, keep
+        the weaker evidence."""
         items: dict[str, ItemEvidence] = {}
         for item in list_items(layout):
             rest = self.item_evidence(layout, [item])
@@ -443,8 +456,9 @@ class Evidence:
 
     def find_rejected_items(self, layout: Layout, removed_groups: Sequence[Group],
                             whole: Layout) -> list[RejectedItems]:
-        """Return the items of another layout that would draw more subtitles as sent; also all of
-        them together if this draws the most."""
+        """Return the removed groups of items that would make a layout draw more subtitles as sent.
+        `whole` is the layout with all of these groups. If it draws even more, append all groups as
+        one entry."""
         count, left = self.count(layout), list[RejectedItems]()
         for group in removed_groups:
             other, text = add_items(layout, group, whole), items_text(group, whole)
@@ -460,8 +474,8 @@ class Evidence:
 
 def choose_layouts(sent: Sequence[SentSubtitle],
                    option: NationalOption) -> tuple[LayoutChoice, LayoutChoice]:
-    """Return the layout that draws most of the found subtitles as sent, and the layout with only
-    the supported items, which can be recommended."""
+    """Return two layouts: the layout that draws the largest number of found subtitles as sent, and
+    a layout with sufficient evidence for each item, which can be recommended."""
     subtitles = [one for one in sent if is_found(one, option)]
     evidence = Evidence(subtitles, option)
     best = find_candidates(subtitles, option)
@@ -495,6 +509,6 @@ def find_sent_subtitles(subtitles: Iterable[Subtitle], held: Timeline,
 
 
 def count_shared_frames(held: Timeline, number: int, subtitle: Subtitle) -> int:
-    """Count the frames of a subtitle in which a page is decoded."""
+    """Count the frames of a subtitle in which page `number` is decoded."""
     span = held.page_span(number)
     return min(span.last + 1, subtitle.end) - max(span.first, subtitle.begin)

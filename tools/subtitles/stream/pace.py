@@ -1,4 +1,5 @@
-"""Measure the intervals of PES packets, and the interval that shows a loss of any length."""
+"""Measure the intervals between PES packets, and find the interval above which packets are
+missing."""
 from __future__ import annotations
 
 import array
@@ -13,29 +14,35 @@ from .repeats import NEAR
 
 
 # The continuity counter has four bits: it does not show a loss of 16 TS packets, and after a loss
-# of 15 the next packet looks like a repeat. But if PES packets come often enough, a longer interval
-# shows the loss. A PES packet of Teletext has at most nine TS packets, so a loss of 16 takes at
-# least two complete PES packets. In a PES file, which has no counter, one PES packet may be lost.
-# This shows every loss if the first TS packet of each PES packet has the PTS; otherwise, after a
-# loss of 16 packets, the start of one PES packet may continue with the middle of another. Choose
-# the longest interval that shows every loss, since a wrong refusal costs more than a note.
+# of 15 the next packet looks like a repeat. But if PES packets are sent often enough, a longer
+# interval between them reveals the loss. A PES packet of Teletext has at most nine TS packets, so a
+# loss of 16 destroys at least two PES packets. In a PES file, which has no counter, a single PES
+# packet may be lost.
+#
+# This reveals every loss if the first TS packet of each PES packet has the PTS. Otherwise, after a
+# loss of 16 packets, the start of one PES packet may continue with the middle of another.
+#
+# Use the longest interval that reveals every loss. It is worse to refuse an intact recording than
+# to note that a loss may be hidden.
 
-LEAST = 100  # fewest PES packets to measure their interval
-FEW, PART = 3, 1000  # most exceptions: three, or one in 1000
-OFTEN, SELDOM = 20, 100  # at least 1/20 have the usual interval; at most 1/100 a longer one
-HOLE = 17  # TS packets to the next one if 16 are lost
-TWO_LOST, ONE_LOST = 3, 2  # PES packets to the next one if two are lost, or one
+LEAST = 100  # minimum number of PES packets for a measurement
+FEW, PART = 3, 1000  # maximum number of exceptions: three, or one in 1000
+OFTEN, SELDOM = 20, 100  # at least 1/20 of the intervals are usual, at most 1/100 are longer
+HOLE = 17  # distance of the next TS packet after a loss of 16
+TWO_LOST, ONE_LOST = 3, 2  # distance of the next PES packet after a loss of two, or of one
 UNITS = 4  # Teletext units in a TS packet; a PES header takes the place of one
-PAYLOAD = 184  # bytes of a TS packet
+PAYLOAD = 184  # payload bytes of a TS packet
 USUAL_EVERY = 250  # default of --every, in frames
-MAX_EACH = 9  # most TS packets of a PES packet
+MAX_EACH = 9  # maximum number of TS packets in a PES packet
 REGULAR, IRREGULAR, PAUSED, BY_EVERY, TOO_FEW = \
     "regular", "irregular", "paused", "by --every", "too few"
 Pauses = Sequence[Tuple[Optional[int], Optional[int]]]
 
 
 class Silence(NamedTuple):
-    """The frames of two PES packets far apart, and whether another silence is near."""
+    """A long interval without a PES packet. `first` and `last` are the frames of the PES packets
+    around it. `is_near_another` is true if only few PES packets separate it from another
+    silence."""
 
     first: int
     last: int
@@ -43,12 +50,13 @@ class Silence(NamedTuple):
 
 
 class Pace(NamedTuple):
-    """The intervals of PES packets, in frames.
+    """The intervals between PES packets, in frames.
 
-    `interval` is the usual longest interval, or the longest pause if they pause; `loss_interval`
-    the shortest interval after a loss. If PES packets are regular, `--pace` with one frame less
-    shows every loss, except at `hidden_places` of `total` places with shorter intervals.
-    `is_dense`: three PES packets may come in the time of two.
+    `interval` is the longest usual interval, or the longest pause if PES packets pause.
+    `loss_interval` is the shortest interval after a loss. If PES packets are regular, `--pace` with
+    one frame less reveals every loss, except at `hidden_places` of `total` places, where the
+    interval would be shorter. `is_dense` is true if two lost PES packets may not exceed the longest
+    usual interval.
     """
 
     kind: str
@@ -60,19 +68,20 @@ class Pace(NamedTuple):
 
     @property
     def frames(self) -> int | None:
-        """Return the value for `--pace` if PES packets are regular, or `None`."""
+        """Return the value for `--pace`, or `None` if PES packets are not regular."""
         return self.loss_interval - 1 if self.kind == REGULAR else None
 
 
 def compute_pace(rows: Sequence[Sequence[int]], packets_per_pes: int, every: int,
                  pauses: Pauses = (), is_stream: bool = True) -> Pace:
-    """Measure the intervals of PES packets, from rows of their frames without a known loss.
+    """Measure the intervals between PES packets.
 
-    Each PES packet has at most `packets_per_pes` TS packets; a header comes within `every` frames;
-    `pauses` are the times without a subtitle.
+    Each of `rows` has the frames of PES packets between which no loss is known. A PES packet has at
+    most `packets_per_pes` TS packets. A page header is sent at least every `every` frames. `pauses`
+    are the spans without a subtitle. `is_stream` is false for a PES file.
 
-    A few longer intervals are losses, so that damage can't change the result. If most of them are
-    caused by the inserter, the PES packets are not regular.
+    A few longer intervals count as losses, so that damage can't change the result. If most longer
+    intervals are caused by the inserter, the PES packets are not regular.
     """
     distances = count_distances(rows, 1)
     loss_distances = count_distances(rows, TWO_LOST if is_stream else ONE_LOST)
@@ -102,15 +111,15 @@ def compute_pace(rows: Sequence[Sequence[int]], packets_per_pes: int, every: int
 
 def find_loss_distance(loss_distances: collections.Counter[int], usual_distance: int,
                        few: int) -> int:
-    """Return the shortest interval in frames after a loss of two PES packets. Ignore a few
-    intervals if the shortest is no longer than the usual interval."""
+    """Return the shortest interval in frames after a loss of two PES packets. If it does not exceed
+    the usual interval, ignore the `few` shortest intervals."""
     least = min(loss_distances)
     return least if least > max(usual_distance, 1) else number_at_rank(loss_distances, few, False)
 
 
 def find_usual_distance(distances: collections.Counter[int], count: int, few: int) -> int | None:
-    """Return the usual interval if three PES packets may come in the time of two, as when two come
-    in a frame; `None` if too many intervals are longer."""
+    """Return the usual interval if PES packets are dense (see `Pace`), such as two in a frame.
+    Return `None` if too many intervals are longer."""
     usual = max([1, *(frames for frames, many in distances.items() if many * OFTEN >= count)])
     longer = sum(many for frames, many in distances.items() if frames > usual)
     is_usual = longer * SELDOM <= count and longer - distances[usual + 1] <= few
@@ -118,22 +127,23 @@ def find_usual_distance(distances: collections.Counter[int], count: int, few: in
 
 
 def count_loss_steps(packets_per_pes: int) -> int:
-    """Return the number of PES packets to the next one if 16 TS packets are lost."""
+    """Return the distance of the next PES packet after a loss of 16 TS packets."""
     return max(TWO_LOST, -(-HOLE // packets_per_pes))
 
 
 def find_hidden_loss(rows: Sequence[Sequence[int]], packets_per_pes: int) -> int | None:
-    """Return the shortest time of 16 TS packets, whose loss the counter does not show, in frames;
-    `None` if there are too few PES packets."""
+    """Return the shortest interval, in frames, after a loss of 16 TS packets, which the continuity
+    counter does not show. Return `None` if there are too few PES packets."""
     return min(count_distances(rows, count_loss_steps(packets_per_pes)), default=None)
 
 
 def select_idle_silences(silences: Sequence[Silence], every: int, pauses: Pauses) -> list[Silence]:
     """Return the silences in which the inserter had no PES packet to send.
 
-    These are consecutive silences, as when another page of the PID ends; unusually long silences
-    that --every allows; and silences outside of the programme. If most pauses of the programme of
-    that length have a silence up to their end, these count too.
+    These are silences near another silence, since another page of the PID may have ended; silences
+    that are longer than usual but allowed by `--every`; and silences outside of the programme.
+    Silences that last until the end of a pause between subtitles count too, if most equally long
+    pauses end with a silence.
     """
     inside = [(silence, end - begin) for begin, end in pauses if begin is not None
               and end is not None
@@ -148,14 +158,15 @@ def select_idle_silences(silences: Sequence[Silence], every: int, pauses: Pauses
 
 
 def is_outside(silence: Silence, begin: int | None, end: int | None) -> bool:
-    """Return whether a silence lies before the first in-cue, or after the last out-cue."""
+    """Return whether a silence lies in the pause before the first in-cue (`begin` is `None`) or
+    after the last out-cue (`end` is `None`)."""
     if begin is None:
         return end is not None and silence.last <= end + NEAR
     return end is None and begin <= silence.first
 
 
 def count_distances(rows: Sequence[Sequence[int]], steps: int) -> collections.Counter[int]:
-    """Count the intervals in frames from each PES packet to the one `steps` later."""
+    """Count the intervals in frames between each PES packet and the PES packet `steps` later."""
     counts: collections.Counter[int] = collections.Counter()
     for row in rows:
         if isinstance(row, range):
@@ -166,26 +177,28 @@ def count_distances(rows: Sequence[Sequence[int]], steps: int) -> collections.Co
 
 
 def number_at_rank(counts: collections.Counter[int], rank: int, is_from_above: bool) -> int:
-    """Return the number at a rank, counted from the least or from the greatest number."""
+    """Return the number with a rank in ascending order, or in descending order if `is_from_above`.
+    `counts` has the frequency of each number. Ranks begin at 0."""
     numbers = sorted(counts, reverse=is_from_above)
     totals = itertools.accumulate(counts[number] for number in numbers)
     return next(number for number, total in zip(numbers, totals) if total > rank)
 
 
 def find_silences(row: Sequence[int], lost: int, steps: int) -> Iterator[Silence]:
-    """Yield the intervals of at least `lost` frames. Two silences with fewer than `steps` PES
-    packets between them are near each other."""
+    """Yield the intervals of at least `lost` frames in a row of frames. A silence is near another
+    if fewer than `steps` PES packets lie between them."""
     places = [] if isinstance(row, range) else [
         at for at, (first, last) in enumerate(zip(row, row[1:])) if last - first >= lost]
     for before, at, after in zip([-steps, *places], places, [*places[1:], len(row) + steps]):
         yield Silence(row[at], row[at + 1], min(at - before, after - at) < steps)
 
 
-# ---- of a recording
+# ---- Input from a recording
 
 def frame_rows(packets: Packets, inside: Range, origin: int, within: int) -> list[Sequence[int]]:
-    """Return the frames of the PES packets that `check` reads, in rows. A row ends at a gap marker,
-    at a refused packet, at a packet without a frame, and where frames go back."""
+    """Return the frames of the PES packets `inside` that `check` reads, in rows. A row ends at a
+    gap marker, at a refused packet, at a packet without a frame, and where the frame number
+    decreases."""
     rows, pts = [], array.array("q")
     for run in itertools.chain(packets.runs_between(*inside), [None]):
         if run is not None and run.pts is not None and not run.fault:
@@ -198,8 +211,8 @@ def frame_rows(packets: Packets, inside: Range, origin: int, within: int) -> lis
 
 
 def count_ts_packets(packets: Packets, inside: Range, size: int | None) -> int:
-    """Return the most TS packets of a PES packet: the mean of the PID, or of a PES file of `size`
-    bytes, or more if a PES packet has more."""
+    """Return the maximum number of TS packets in a PES packet: the mean, or the number for the
+    largest PES packet `inside` if that is greater. `size` is the number of bytes of a PES file."""
     total = packets.packets if size is None else size // PAYLOAD
     usual = round(total / packets.count) if packets.count else 0
     units = max((run.units for run in packets.runs_between(*inside)), default=0)
@@ -207,7 +220,7 @@ def count_ts_packets(packets: Packets, inside: Range, size: int | None) -> int:
 
 
 def find_pauses(times: Sequence[tuple[int, int]]) -> Pauses:
-    """Return the frames between out-cue and in-cue, before the first subtitle, and after the last.
-    """
+    """Return the spans between subtitles, as pairs of frames. The first span begins with `None`,
+    and the last span ends with `None`."""
     begins, ends = [begin for begin, _ in times], [end for _, end in times]
     return [*zip([None, *ends], begins), *((end, None) for end in ends[-1:])]

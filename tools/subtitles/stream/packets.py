@@ -10,7 +10,7 @@ from typing import Iterable, Iterator, NamedTuple, Sequence
 from ..common.times import TICKS, count_until, ticks_between, wrap_pts
 
 
-PES = 0  # PID of a PES file, which has none
+PES = 0  # used as the PID of a PES file
 HEADER, ERASE, CLOSED, OPEN, BLANK, STRAY = "h", "e", "c", "o", "b", "s"
 Range = tuple[int, int]  # the numbers of the first and the last PES packet
 NO_RANGE: Range = (0, -1)
@@ -22,8 +22,9 @@ class PacketRun(NamedTuple):
     """Consecutive PES packets with the same contents and a constant step of the PTS.
 
     `flags` are letters such as `HEADER`, with the state of the page after each PES packet.
-    `control` has the eight numbers of each page header, in hexadecimal; `units` counts Teletext
-    packets; `fault` is the number of the fault for which `packets` refuses them.
+    `control` has the eight four-bit values of each page header, in hexadecimal. `units` counts
+    Teletext packets. If `packets` refuses the PES packets, `fault` is the number of the fault, else
+    0.
     """
 
     first: int
@@ -39,18 +40,18 @@ class PacketRun(NamedTuple):
         return None if self.pts is None else wrap_pts(self.pts + self.step * (number - self.first))
 
     def list_pts(self) -> Sequence[int]:
-        """Return the PTS of each PES packet, or an empty list if they have none."""
-        if self.pts is None or self.length == 1:  # the usual case if PES packets differ
+        """Return the PTS of the PES packets, or an empty list if the PES packets have no PTS."""
+        if self.pts is None or self.length == 1:  # most runs have one PES packet
             return [] if self.pts is None else [self.pts]
         return [wrap_pts(self.pts + self.step * at) for at in range(self.length)]
 
     def part(self, first: int, length: int) -> PacketRun:
-        """Return `length` PES packets, from number `first` on."""
+        """Return the `length` PES packets of this run that begin with number `first`."""
         return self._replace(first=first, length=length, pts=self.pts_of(first))
 
     @property
     def end(self) -> int:
-        """Return the number after the last PES packet."""
+        """Return the number of the last PES packet plus one."""
         return self.first + self.length
 
     @property
@@ -61,13 +62,13 @@ class PacketRun(NamedTuple):
 
 @functools.lru_cache(maxsize=1 << 10)
 def parse_headers(control: str) -> tuple[bytes, ...]:
-    """Parse the eight numbers of each page header."""
+    """Parse page headers in hexadecimal. Return the eight four-bit values of each."""
     return tuple(bytes(int(digit, 16) for digit in one) for one in control.split("+") if one)
 
 
 class PageChange(NamedTuple):
-    """A change of the page's text by a PES packet: its PTS, the new characters, its number, and the
-    rows that are not blank."""
+    """A PES packet that changes the page's text: its PTS, the page's new characters, the number of
+    the PES packet, and the rows that are not blank."""
 
     pts: int
     letters: bytes
@@ -86,8 +87,10 @@ class GapMarker(NamedTuple):
 
 
 class PCRStep(NamedTuple):
-    """An unusual step from one PCR to the next: the PTS of the PID around it, its ticks and TS
-    packets, the usual numbers, and whether the counters of other PIDs are intact."""
+    """An unusual step from one PCR to the next, between the PTS `before` and `after` of the PID.
+    The step has `ticks` and TS `packets`; `usual` and `usual_packets` are their usual numbers.
+    `counters` is `whole` if the continuity counters of other PIDs show no loss, and `broken` if
+    they show one."""
 
     before: int | None
     after: int | None
@@ -102,9 +105,9 @@ class PCRStep(NamedTuple):
 class Packets:
     """The PES packets and gap markers of a Teletext PID, and the contents of the page.
 
-    `decoded_rows` are the page's rows after each change of a cell, `stray_rows` the rows that came
-    while it was not open, each with the number of the PES packet. `changes` are changes of its
-    text.
+    `decoded_rows` are the page's rows after each change of a cell; `stray_rows` are rows that were
+    received while the page was not open. Each entry begins with the number of the PES packet.
+    `changes` are the changes of the page's text.
     """
 
     pid: int
@@ -114,13 +117,15 @@ class Packets:
     changes: list[PageChange] = dataclasses.field(default_factory=list)
     gap_markers: list[GapMarker] = dataclasses.field(default_factory=list)
     pcr_steps: list[PCRStep] = dataclasses.field(default_factory=list)
-    samples: list[tuple[int, int]] = dataclasses.field(default_factory=list)  # PTS, ticks ahead
+    # PTS, and the ticks by which it is ahead of the PCR.
+    samples: list[tuple[int, int]] = dataclasses.field(default_factory=list)
     character_sets: list[tuple[int, int, int | None,
                                int | None]] = dataclasses.field(default_factory=list)
     header_counts: dict[str, int] = dataclasses.field(default_factory=dict)  # by subtitle page
-    counter_jumps: list[int] = dataclasses.field(default_factory=list)  # numbers of PES packets
-    damage: str | None = None  # why a PES file can't be read further
-    refusal: int = 0  # 31 or 32 if the next PES packet is not Teletext
+    # Numbers of the PES packets at announced jumps of the counter.
+    counter_jumps: list[int] = dataclasses.field(default_factory=list)
+    damage: str | None = None  # reason why the rest of a PES file can't be read
+    refusal: int = 0  # 31 (Start) or 32 (Length) if the next PES packet is not Teletext
     packets: int = 0  # TS packets of the PID
     scrambled: int = 0  # scrambled TS packets
     is_cut: bool = False
@@ -136,7 +141,7 @@ class Packets:
         return any(HEADER in run.flags for run in self.runs)
 
     def runs_between(self, first: int, last: int) -> Iterator[PacketRun]:
-        """Yield the runs from number `first` to `last`."""
+        """Yield the runs of the PES packets from number `first` to `last`."""
         at = count_until(self.runs, lambda run: run.first > first) - 1
         for place in range(max(at, 0), len(self.runs)):  # a slice would copy all later runs
             run = self.runs[place]
@@ -149,7 +154,7 @@ class Packets:
                 yield run.part(begin, end - begin)
 
     def pts_at(self, number: int) -> int | None:
-        """Return the PTS of a PES packet, or `None`."""
+        """Return the PTS of a PES packet, or `None` if it has none."""
         return next((run.pts for run in self.runs_between(number, number)), None)
 
     def __iter__(self) -> Iterator[tuple[int, int | None, str]]:
@@ -168,8 +173,8 @@ class Packets:
         return (run for run in self.runs if run.pts is not None)
 
     def time_bases(self) -> list[range]:
-        """Return the PES packets between places where PTS go back: two PTS are before the two PTS
-        before them."""
+        """Return the ranges of PES packets with one time base. PTS go back between two ranges: the
+        next two PTS are less than the last two."""
         known = [(number, pts) for run in self.runs_with_pts() for number in end_numbers(run)
                  if (pts := run.pts_of(number)) is not None]
         begins = [0] + [known[at][0] for at in range(2, len(known) - 1) if all(
@@ -179,23 +184,26 @@ class Packets:
 
 
 def end_numbers(run: PacketRun) -> Iterable[int]:
-    """Return the numbers at both ends of a run, between which PTS rise."""
+    """Return the numbers of the first two and the last two PES packets of a run, between which the
+    PTS increase. If they don't, or if the run is short, return all numbers."""
     numbers = range(run.first, run.end)
     return numbers if run.length < 5 or run.step < 0 else [*numbers[:2], *numbers[-2:]]
 
 
-# Sub-pages of a page: a receiver shows them in turn
+# Alternating sub-pages, which a receiver shows in turn
 
-FEWEST = 4  # fewest changes of sub-page if sub-pages alternate
+FEWEST = 4  # minimum number of changes to an earlier sub-page if sub-pages alternate
 
 
 def subcode_of(header: bytes) -> str:
-    """Return the subcode of a header's eight numbers, S4 first (EN 300 706, 9.3.1.2)."""
+    """Return the sub-code in the eight four-bit values of a header, S4 first (EN 300 706,
+    9.3.1.2)."""
     return f"{header[5] & 3:X}{header[4]:X}{header[3] & 7:X}{header[2]:X}"
 
 
 def alternating_subcodes(packets: Packets, inside: Range | None = None) -> list[str]:
-    """Return the subcodes of the page, rising, if sub-pages alternate, or an empty list."""
+    """Return the sub-codes of the page in ascending order if sub-pages alternate, or else an empty
+    list."""
     subcodes, last, again = set[str](), "", 0
     for run in packets.runs_between(*inside) if inside else packets.runs:
         codes = [*map(subcode_of, parse_headers(run.control))]
@@ -215,8 +223,8 @@ def subpage_text(subcodes: Sequence[str], page: str) -> str:
 # Announced jumps of the continuity counter (ISO/IEC 13818-1, discontinuity_indicator)
 
 def find_announced_jumps(packets: Packets, inside: Range, usual: int) -> list[PTSPair]:
-    """Return the PTS around each announced jump of the counter at an interval of more than `usual`
-    frames."""
+    """Return the PTS before and after each announced jump of the counter, if they are more than
+    `usual` frames apart. Use only the PES packets `inside`."""
     pts = array.array("q", packets.pts(inside))
     previous_pts = {after: before for before, after in zip(pts, itertools.islice(pts, 1, None))
                     if ticks_between(before, after) > usual * TICKS}

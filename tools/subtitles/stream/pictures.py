@@ -1,4 +1,4 @@
-"""Find where pictures drift from Teletext."""
+"""Find the places where pictures drift from Teletext."""
 from __future__ import annotations
 
 import math
@@ -9,18 +9,19 @@ from ..common.times import TICKS, ticks_between, wrap_pts
 
 
 # Once a second `survey` prints the lead of Teletext: its PTS minus the decoding time of the last
-# picture, with the number of that picture. If a step of the decoding times does not agree with the
-# number of pictures, and the lead changes by as much, pictures drift: viewers see later subtitles
-# early or late. If the lead stays the same, pictures were lost, or both clocks were set again. If
-# the lead changes without a step, the multiplexer changes its delay.
+# picture, with the number of that picture. If the decoding times advance more or less than usual
+# for the number of pictures, this is a step. If the lead changes by as much as the step, pictures
+# drift: viewers see later subtitles early or late. If the lead stays the same, pictures were lost,
+# or both clocks were reset. If the lead changes without a step, the multiplexer changes its delay.
 #
-# A multiplexer sends Teletext before or after a picture. So compare the mean leads before and after
-# a step with their standard error, and the extremes if there are enough leads.
+# Leads vary, because a multiplexer sends Teletext before or after a picture. So the mean leads
+# before and after a step are compared, with their standard error. If there are enough leads, their
+# extremes are compared too.
 
-SAMPLE_SIZES = (10, 30)  # leads on either side of a step; 30 only if 10 do not decide
-FEW = 5  # with fewer leads use the variance of the whole part
-MANY = 20  # with at least so many leads on either side compare the extremes too
-SURE = 2.5  # standard errors of the difference of means that decide
+SAMPLE_SIZES = (10, 30)  # number of leads on either side of a step; 30 only if 10 give no result
+FEW = 5  # with fewer leads, include their typical change in the standard error
+MANY = 20  # minimum number of leads on either side to compare their extremes
+SURE = 2.5  # number of standard errors that a difference of means must exceed
 
 
 class VideoLead(NamedTuple):
@@ -34,7 +35,8 @@ class VideoLead(NamedTuple):
 
 class Departure(NamedTuple):
     """A place where pictures drift from Teletext, between the PES packets with PTS `earlier_pts`
-    and `pts`: later subtitles are early by `ticks`; negative: late; `None`: unclear."""
+    and `pts`. Later subtitles are early by `ticks`, or late if `ticks` is negative. `ticks` is
+    `None` if the drift is unclear."""
 
     pts: int
     earlier_pts: int
@@ -42,8 +44,8 @@ class Departure(NamedTuple):
 
 
 def locate_departures(leads: Sequence[VideoLead]) -> list[Departure] | None:
-    """Return the places where pictures drift or may drift from Teletext; `None` if decoding times
-    have no usual step."""
+    """Return the places where pictures drift or may drift from Teletext. Return `None` if most
+    decoding times are irregular."""
     steps = steps_of(leads)
     ends = [at for at, step in enumerate(steps, 1) if abs(step) * 4 >= TICKS]
     if len(ends) * 2 > len(leads):
@@ -60,7 +62,7 @@ def locate_departures(leads: Sequence[VideoLead]) -> list[Departure] | None:
             continue
         left = measure_departure(before, row, ticks, typical)
         if left == 0 and is_outside(between, before):
-            left = None  # a short drift, or a damaged time
+            left = None  # a short drift, or a damaged PTS
         if left != 0:
             at = end - len(between)
             departures.append(Departure(leads[end].pts, leads[at - 1].pts, left))
@@ -69,7 +71,8 @@ def locate_departures(leads: Sequence[VideoLead]) -> list[Departure] | None:
 
 
 def steps_of(leads: Sequence[VideoLead]) -> list[int]:
-    """Return the steps of decoding times, in ticks more than usual for the number of pictures."""
+    """Return the ticks by which each interval of decoding times exceeds the usual duration of its
+    pictures."""
     times = [wrap_pts(lead.pts - lead.ticks) for lead in leads]
     gone = [(ticks_between(first, second), after.number - before.number)
             for first, second, before, after in zip(times, times[1:], leads, leads[1:])]
@@ -78,17 +81,19 @@ def steps_of(leads: Sequence[VideoLead]) -> list[int]:
 
 
 def is_outside(between: Iterable[int], before: Sequence[int]) -> bool:
-    """Return whether a lead is half a frame or more from all leads before it."""
+    """Return whether one of the leads `between` differs by half a frame or more from all leads
+    `before`."""
     half = TICKS // 2
     return any(lead <= min(before) - half or lead >= max(before) + half for lead in between)
 
 
 def measure_departure(before: Sequence[int], after: Sequence[int], step: int,
                       typical: float) -> int | None:
-    """Return the ticks by which pictures drift at a step of their clock, from the leads around it.
+    """Return the ticks by which pictures drift at a step of the decoding times.
 
-    The result is 0, the step, or the change of the leads if pictures were lost too; `None` if it is
-    unclear.
+    `before` and `after` are the leads around the step, and `typical` is the typical change of a
+    lead. The result is 0, or the step, or the change of the leads if pictures were lost too. Return
+    `None` if the leads do not show which.
     """
     limit, half = min(abs(step) or TICKS, TICKS) / 2, TICKS // 2
     for most in SAMPLE_SIZES:

@@ -10,8 +10,9 @@ from ..common.times import FRAMES_OF_A_DAY, TICKS, frame_in, pts_of, time_of, wr
 from .packets import BLANK, CLOSED, HEADER, OPEN, PacketRun, Packets, PageChange, Range
 
 
-SKIPPED = 1 << 31  # most ticks of a run that can be skipped; longer ones may wrap around the clock
-AFTER = 2  # consecutive PES packets after the last frame that end the search
+# A run of more ticks is not skipped, since it may wrap around the clock.
+SKIPPED = 1 << 31
+AFTER = 2  # the search ends after so many consecutive PES packets behind the last frame
 
 
 class SentPacket(NamedTuple):
@@ -25,10 +26,11 @@ class SentPacket(NamedTuple):
 class PacketRange(NamedTuple):
     """The PES packets of a range of frames.
 
-    `range` has their numbers, or is `None`; `read` counts the PES packets read. `first` and `last`
-    are frames, and `first_packet_frame` is the frame of the first PES packet, even without the
-    page. `has_end`: the last page transmission has come. `is_over`: no later PES packet can be in
-    the range.
+    `range` has the numbers of the first and last PES packet, or is `None` if there are none. `read`
+    is the number of PES packets read. `first` and `last` are frames. `first_packet_frame` is the
+    frame of the first PES packet, even if this packet has nothing of the page. `has_end` is true if
+    the last page transmission was found. `is_over` is true if no later PES packet can be in the
+    range.
     """
 
     range: Range | None
@@ -49,13 +51,15 @@ class PacketRange(NamedTuple):
 
 def find_range(packets: Packets, begin: int, end: int, origin: int, every: int | None = None,
            within: int = 0, inside: Range | None = None, is_continued: bool = False) -> PacketRange:
-    """Find the PES packets from frame `begin` to `end`, beginning with a page header.
+    """Find the PES packets from frame `begin` to `end`, starting with a page header.
 
-    With `every`, begin with the last page transmission that leaves the page blank, at most `every`
-    frames before `begin`, and end with the first page transmission at `end` or up to `every` frames
-    later. With `within`, end with the first PES packet from `end` on that leaves the page blank and
-    closed, or that comes `within` frames later. Use only the PES packets `inside`. `is_continued`:
-    the text of the first frame is expected before it, too.
+    If `every` is given, start with the last page transmission that leaves the page blank, at most
+    `every` frames before `begin`, and end with the first page transmission at `end` or up to
+    `every` frames later. If `within` is greater than 0, end with the first PES packet from `end` on
+    that leaves the page blank and closed, or that is `within` frames later.
+
+    Use only the PES packets `inside`. If `is_continued`, the text of the first frame is expected
+    before that frame, too.
     """
     low = max(begin - (every or 0), 0)
     high = end if every is None else min(end + max(every, within), FRAMES_OF_A_DAY - 1)
@@ -87,8 +91,9 @@ def find_range(packets: Packets, begin: int, end: int, origin: int, every: int |
 
 
 class PageTexts:
-    """The texts of the page, to distinguish a repeat from a new text. Rows may come up to `within`
-    frames after the header that erases the page. If `is_continued`, no transmission is a repeat."""
+    """The texts of the page, to distinguish a repeat from a new text. Rows may arrive up to
+    `within` frames after the header that erases the page. If `is_continued`, no transmission is a
+    repeat."""
 
     def __init__(self, packets: Packets, origin: int, within: int, is_continued: bool) -> None:
         self.changes, self.origin = packets.changes, origin
@@ -96,7 +101,7 @@ class PageTexts:
         self.within, self.is_continued = within, is_continued
 
     def find_changes(self, sent: SentPacket) -> list[PageChange]:
-        """Return the changes by the page transmission that begins with a header."""
+        """Return the page changes caused by the page transmission that begins with a header."""
         def is_of_it(change: PageChange) -> bool:
             frame = frame_in(change.pts, self.origin, self.within)
             return sent.frame is not None and sent.frame <= frame <= sent.frame + self.within
@@ -117,14 +122,18 @@ class PageTexts:
 
 
 class RangeStart:
-    """Find the first PES packet of a range: the begin of the last page transmission before the
-    first frame that leaves the page blank, or else the first header from that frame on. If pages
-    may be late, all PES packets of a frame are one transmission."""
+    """Finds the first PES packet of a range.
+
+    It begins the last page transmission before frame `begin` that leaves the page blank. Without
+    such a transmission, it is the first header from `begin` on. If `within` is greater than 0, all
+    PES packets of a frame belong to one transmission.
+    """
 
     def __init__(self, begin: int, within: int, texts: PageTexts) -> None:
         self.begin, self.within, self.texts = begin, within, texts
         self.transmission: list[SentPacket] = []  # the current transmission
-        self.blank: int | None = None  # first PES packet of the last one that leaves the page blank
+        # First PES packet of the last transmission that leaves the page blank.
+        self.blank: int | None = None
         self.header: int | None = None  # PES packet of the last header
         self.is_blank = True
 
@@ -140,41 +149,48 @@ class RangeStart:
             self.is_blank = BLANK in sent.flags
 
     def last_blank(self) -> int | None:
-        """Return the first PES packet of the last page transmission that leaves the page blank."""
+        """Return the number of the first PES packet of the last page transmission that leaves the
+        page blank, or `None`."""
         header = next((sent for sent in self.transmission if HEADER in sent.flags), None)
         leaves_blank = header and BLANK in self.transmission[-1].flags and \
             not self.texts.is_repeat(header)
         return self.transmission[0].number if leaves_blank else self.blank
 
     def find(self, sent: SentPacket) -> int | None:
-        """Return the first number of the range, or `None` if this PES packet does not decide it."""
+        """Return the number of the first PES packet of the range, or `None` if the range has not
+        begun with this PES packet."""
         if sent.frame is None or sent.frame < self.begin:
             return None
         is_shown, is_replaced = not self.is_blank, self.texts.is_replaced(sent)
         blank = None if is_shown and is_replaced and sent.frame == self.begin else self.last_blank()
         if blank is not None or HEADER not in sent.flags:
             return blank
-        # If the text of an earlier frame is repeated, `check` needs the header before it.
+        # `check` also needs the header before one that repeats the text of an earlier frame.
         is_repeat = is_shown and not is_replaced and sent.frame <= self.begin + self.within
         return self.header if is_repeat and self.header is not None else sent.number
 
 
 class RangeEnd:
-    """Find the last PES packet of a range, between the frames `low` and `high`: the last one in the
-    frame of the first header from `end` on. If pages may be late, the first PES packet from `end`
-    on that leaves the page blank, and closed if it was closed before, or that comes `within` frames
-    later."""
+    """Finds the last PES packet of a range, which lies between the frames `low` and `high`.
+
+    This is the last PES packet in the frame of the first header from `end` on. If pages may be
+    late, it is the first PES packet from `end` on that leaves the page blank (and closed, if the
+    page was closed before), or that is `within` frames later.
+    """
 
     def __init__(self, low: int, high: int, end: int, within: int, is_bound: bool) -> None:
         self.low, self.high, self.end, self.within = low, high, end, within
         self.may_be_late = is_bound and within > 0
-        self.has_end = not is_bound  # whether the last page transmission has come
+        self.has_end = not is_bound  # whether the last page transmission was found
         self.number, self.last, self.behind = -1, -1, 0
         self.closed = -1  # the last PES packet that closed the page
 
     def take(self, sent: SentPacket, first: int | None) -> bool:
-        """Read a PES packet; `first` is the first number of the range, if known. Return whether no
-        later PES packet can be in the range; a single later one may have a wrong PTS."""
+        """Read a PES packet. `first` is the number of the range's first PES packet, if known.
+
+        Return whether no later PES packet can be in the range. One PES packet after the range
+        usually does not suffice, since its PTS may be wrong.
+        """
         frame = sent.frame
         if CLOSED in sent.flags:
             self.closed = sent.number
@@ -194,7 +210,8 @@ class RangeEnd:
         return False
 
     def is_last(self, sent: SentPacket, frame: int, first: int) -> bool:
-        """Return whether a PES packet at the last TCO or later is the last of the range."""
+        """Return whether a PES packet that is not before the last out-cue is the last of the
+        range."""
         if not self.within:
             return HEADER in sent.flags
         is_page_over = BLANK in sent.flags and not (OPEN in sent.flags and self.closed >= first)
@@ -203,7 +220,8 @@ class RangeEnd:
 
 def packets_from(packets: Packets, low: int, high: int, origin: int, within: int) \
         -> Iterator[SentPacket]:
-    """Yield the PES packets from the first run on that may lie between two frames."""
+    """Yield the PES packets, starting with the first run that may overlap the frames `low` to
+    `high`."""
     first, last = pts_of(low, origin), pts_of(high, origin)
     for run in itertools.dropwhile(lambda run: is_outside(run, first, last), packets.runs):
         for number in range(run.first, run.end):
@@ -213,8 +231,9 @@ def packets_from(packets: Packets, low: int, high: int, origin: int, within: int
 
 
 def is_outside(run: PacketRun, low: int, high: int) -> bool:
-    """Return whether a run lies a frame or more before `low` or after `high`. These may be a day
-    apart, while the order of two PTS is certain only within half of the clock."""
+    """Return whether a run lies a frame or more before PTS `low` or after `high`. These may be a
+    day apart, but the order of two PTS is certain only up to half of the clock's range, 13
+    hours."""
     first, last = run.pts, run.last
     if first is None or last is None or not 0 <= run.step * run.length < SKIPPED:
         return first is None

@@ -15,8 +15,8 @@ from .packets import (
 from .ranges import find_range
 
 
-# A cell has a 7-bit code. Bit 8 is set in cells that were not received since the receiver was tuned
-# in (3F), and in spaces whose byte had even parity.
+# A cell has a 7-bit code and a flag in bit 8. `OLD` is a cell that was not received since the
+# receiver was tuned in. `HIT` is a space whose byte had even parity.
 
 OLD, HIT = 0xBF, 0xA0
 
@@ -27,8 +27,9 @@ OLD_PAGE: Rows = (bytes([OLD]) * 40,) * 24
 
 
 class ReceiverState(NamedTuple):
-    """The state of a receiver: the eight numbers of the page's last header, or `None`; the rows;
-    and the rows and the header of the last complete page, which is on the screen."""
+    """The state of a receiver. `header` has the eight four-bit values of the page's last header, or
+    is `None`. `rows` is the decoded page. `screen` is the last complete page, which is displayed,
+    and its header."""
 
     is_received: bool
     is_open: bool
@@ -56,14 +57,12 @@ def clear_unsent_cells(rows: Rows) -> Rows:
     return tuple(row.translate(CLEARED) for row in rows)
 
 
-# Received PES packets by frame
-
-PAUSE = 2  # most frames without a PES packet that are not a pause
-FEW = 20  # fewest PES packets for each pause if they come steadily
+PAUSE = 2  # a longer interval in frames without a PES packet is a pause
+FEW = 20  # minimum number of PES packets per pause if pauses are rare
 
 
 class SpanIndex:
-    """An index of spans, to find overlaps with other spans."""
+    """An index to find whether given frames overlap any of many spans."""
 
     def __init__(self, spans: Iterable[Span]) -> None:
         rising = sorted(spans)
@@ -78,13 +77,13 @@ class SpanIndex:
 
 
 class ReceivedPackets:
-    """The received PES packets, in runs.
+    """The PES packets that were received, in runs of consecutive packets.
 
-    `begins` and `ends` are the first and last frame of each run; `first` and `last` are those of
-    all runs. `uneven_frames` has the frames of a run, by its position, if they are not consecutive.
-    `uncertain_spans` are the frames around PES packets that were not received and around gap
-    markers; `lost` has frames with other losses. `halt` is the first PES packet whose frame goes
-    back; nothing is received from there on.
+    `begins` and `ends` are the first and last frame of each run. `first` and `last` are the first
+    and last frame of all runs. `uneven_frames` has the frames of the runs with gaps or repeated
+    frames, by index. `uncertain_spans` are the frames around gap markers and around PES packets
+    that were not received. `lost` has frames with other losses. `halt` is the first PES packet that
+    has an earlier frame than the packet before it; from there on nothing is received.
     """
 
     def __init__(self, lost: Iterable[Span] = ()) -> None:
@@ -92,17 +91,18 @@ class ReceivedPackets:
         self.clear()
 
     def clear(self) -> None:
-        """Clear everything."""
+        """Forget all PES packets."""
         self.received_runs, self.uneven_frames = list[PacketRun](), dict[int, Sequence[int]]()
         self.begins, self.ends = array.array("i"), array.array("i")
-        self.count = 0  # received PES packets
+        self.count = 0  # number of received PES packets
         self.first = self.last = NO_FRAME
         self.halt: int | None = None
         self.is_uncertain = False
         self.uncertain_spans, self.pauses = list[Span](), list[Span]()
 
     def add_run(self, run: PacketRun, frames: Sequence[int]) -> bool:
-        """Add PES packets with rising frames; return whether they come after earlier ones."""
+        """Add PES packets with ascending frames. Return `False` if they, or packets before them, go
+        back to earlier frames; these are ignored."""
         if self.halt is None and frames[0] < self.last:
             self.halt = run.first
         if self.halt is not None:
@@ -122,11 +122,12 @@ class ReceivedPackets:
         return True
 
     def run_frames(self, at: int) -> Sequence[int]:
-        """Return the frames of a run, by its position."""
+        """Return the frames of the run with index `at`."""
         return self.uneven_frames.get(at, range(self.begins[at], self.ends[at] + 1))
 
     def pause_at(self, frame: int) -> Span | None:
-        """Return the pause around a frame, or `None` if there is none or pauses are common."""
+        """Return the pause around a frame. Return `None` if the frame is not in a pause, or if
+        pauses are frequent."""
         at = count_until(self.pauses, lambda span: span.first > frame) - 1
         is_steady = len(self.pauses) * FEW <= self.count
         return self.pauses[at] if is_steady and at >= 0 and self.pauses[at].last >= frame else None
@@ -150,7 +151,7 @@ class ReceivedPackets:
                     bisect.bisect_left(frames, frame), bisect.bisect_right(frames, frame))]
 
     def frame_before(self, number: int) -> int | None:
-        """Return the last frame received before a PES packet, or `None`."""
+        """Return the last received frame before a PES packet, or `None` if there is none."""
         at = count_until(self.received_runs, lambda run: run.first >= number) - 1
         if at < 0:
             return None
@@ -158,7 +159,7 @@ class ReceivedPackets:
         return self.run_frames(at)[min(number - run.first, run.length) - 1]
 
     def frame_after(self, number: int) -> int | None:
-        """Return the next frame received after a PES packet, or `None`."""
+        """Return the first received frame after a PES packet, or `None` if there is none."""
         at = count_until(self.received_runs, lambda run: run.end - 1 > number)
         if at == len(self.received_runs):
             return None
@@ -166,29 +167,30 @@ class ReceivedPackets:
 
 
 def find_pauses(before: int, frames: Sequence[int]) -> Iterator[Span]:
-    """Yield the pauses between frames with PES packets; `before` is the last frame before them."""
+    """Yield the pauses between the frames of PES packets. `before` is the last frame of earlier PES
+    packets."""
     frames = frames[:1] if isinstance(frames, range) else frames
     for first, second in zip([before if before != NO_FRAME else frames[0], *frames], frames):
         if second - first - 1 > PAUSE:
             yield Span(first + 1, second - 1)
 
 
-# The pages decoded at the ends of frames, for causes, delays, faults and reports
-#
 # The receiver is tuned in before the first PES packet. It ignores PES packets that `check` can't
-# read or that have no frame, and all PES packets from the first one whose frame goes back.
+# read or that have no frame. From the first PES packet with an earlier frame than the packet before
+# it, all PES packets are ignored.
 
-LEAST = 250  # fewest frames to decode before and after a span
+LEAST = 250  # minimum number of frames to decode before and after a span
 
 
 class Timeline(ReceivedPackets):
     """The pages that a receiver decodes.
 
-    Each of `pages` is decoded from the end of the frame in `frames` on. `states` are the states at
-    first and after the PES packets `state_packets`, in the frames `state_frames`. The page opens or
-    closes at the ends of the frames `open_changes`. The frames `header_frames` have a page header,
-    `erasure_frames` one that erases the page. If frames go back before frame `begin`, everything
-    before is cleared. `first_packet_frame` is the frame of the first PES packet, if known.
+    A page of `pages` is decoded from the end of its frame in `frames` on. `states` has the initial
+    state and the state after each PES packet of `state_packets`, which is in a frame of
+    `state_frames`. The page opens or closes at the ends of the frames `open_changes`. The frames
+    `header_frames` have a page header, and those in `erasure_frames` a header that erases the page.
+    If the frame number decreases before frame `begin`, everything received before is forgotten.
+    `first_packet_frame` is the frame of the first PES packet, if known.
     """
 
     def __init__(self, packets: Packets, page: Page, origin: int, within: int = 0,
@@ -203,7 +205,7 @@ class Timeline(ReceivedPackets):
         self.receive_all(dict(packets.decoded_rows), dict(packets.stray_rows))
 
     def clear(self) -> None:
-        """Clear everything."""
+        """Forget all PES packets and pages."""
         super().clear()
         self.frames, self.pages = array.array("i"), list[Rows]()
         self.states = [INITIAL_STATE]
@@ -213,10 +215,9 @@ class Timeline(ReceivedPackets):
         self.stray_rows: list[tuple[Span, Texts]] = []  # rows for which the page was not open
         self.is_outdated = False
 
-    # Receiving
-
     def receive_all(self, held: dict[int, Texts], strays: dict[int, Texts]) -> None:
-        """Receive all PES packets, with the rows decoded after each."""
+        """Receive the PES packets `inside`. `held` has the rows decoded after a PES packet,
+        `strays` the rows received while the page was not open."""
         first, last = self.inside
         self.is_erased = any(ERASE in run.flags for run in self.packets.runs_between(0, first - 1))
         earlier = [texts for number, texts in self.packets.decoded_rows if number < first]
@@ -228,8 +229,9 @@ class Timeline(ReceivedPackets):
             self.receive_run(run, held.get(run.first), stray)
 
     def receive_run(self, run: PacketRun, texts: Texts | None, stray: Texts = ()) -> None:
-        """Receive a run, with the rows that `survey` printed after its first PES packet. If that
-        packet is not received, these rows may not be decoded."""
+        """Receive a run. `texts` are the rows that `survey` printed after the run's first PES
+        packet, if any. If that packet is not received, the page may have other rows. `stray` are
+        rows received while the page was not open."""
         is_told = texts is not None
         self.is_erased = self.is_erased or ERASE in run.flags
         if texts is not None:
@@ -243,7 +245,8 @@ class Timeline(ReceivedPackets):
                 self.is_outdated = self.is_outdated or is_told or is_of_page(run)
 
     def receive(self, run: PacketRun, frames: Sequence[int], is_told: bool, stray: Texts) -> None:
-        """Receive PES packets with rising frames."""
+        """Receive PES packets with ascending frames. `is_told` is true if `survey` printed rows
+        after the first of them."""
         if self.halt is None and frames[0] < self.last < self.begin:
             self.clear()
         is_first = self.first == NO_FRAME
@@ -261,7 +264,8 @@ class Timeline(ReceivedPackets):
             self.update_state(run, frames[0], is_told)
 
     def update_state(self, run: PacketRun, frame: int, is_told: bool) -> None:
-        """Update the state after a run."""
+        """Update the state after a run. `is_told` is true if `survey` printed rows after the run's
+        first packet."""
         before = self.states[-1]
         self.is_outdated = self.is_outdated and not (ERASE in run.flags or is_told)
         rows = before.rows if self.is_outdated else self.printed_rows
@@ -293,7 +297,7 @@ class Timeline(ReceivedPackets):
             self.open_changes.append(frame)
 
     def note_page(self, frame: int, page: Rows) -> None:
-        """Record the page that is decoded from a frame on, if it differs from the one before."""
+        """Record the page that is decoded from a frame on, if it differs from the page before."""
         if self.frames and self.frames[-1] == frame:
             self.frames.pop()
             self.pages.pop()
@@ -301,22 +305,22 @@ class Timeline(ReceivedPackets):
             self.frames.append(frame)
             self.pages.append(page)
 
-    # Looking up
-
     @functools.cached_property
     def page_frames(self) -> dict[Rows, array.array[int]]:
-        """Return the frames at which each page came; call it only after the last packet."""
+        """Return the frames from which each page was decoded. Call it only after the last PES
+        packet."""
         when: dict[Rows, array.array[int]] = {}
         for frame, page in zip(self.frames, self.pages):
             when.setdefault(page, array.array("i")).append(frame)
         return when
 
     def number_at(self, frame: int) -> int:
-        """Return the number of the page at the end of a frame, or -1 before the first."""
+        """Return the index of the page decoded at the end of a frame, or -1 before the first
+        page."""
         return bisect.bisect_right(self.frames, frame) - 1
 
     def page_at(self, frame: int) -> Rows:
-        """Return the page at the end of a frame; a blank one before the first."""
+        """Return the page decoded at the end of a frame, or a blank page before the first page."""
         number = self.number_at(frame)
         blank: Rows = BLANK_PAGE
         return self.pages[number] if number >= 0 else blank
@@ -330,19 +334,20 @@ class Timeline(ReceivedPackets):
         return self.states[bisect.bisect_right(self.state_packets, number)]
 
     def page_numbers(self, begin: int, end: int) -> Iterator[int]:
-        """Yield the numbers of the pages from frame `begin` up to `end`, exclusive."""
+        """Yield the indexes of the pages decoded from frame `begin` up to `end`, exclusive."""
         number = max(self.number_at(begin), 0)
         while number < len(self.frames) and self.frames[number] < end:
             yield number
             number += 1
 
     def page_span(self, number: int) -> Span:
-        """Return the frames of a page."""
+        """Return the frames during which page `number` is decoded."""
         is_last = number + 1 == len(self.frames)
         return Span(self.frames[number], self.last if is_last else self.frames[number + 1] - 1)
 
     def find_closed_frame(self, frame: int) -> int | None:
-        """Return the first frame from `frame` on at whose end the page is closed, or `None`."""
+        """Return the first frame, not before `frame`, at the end of which the page is closed.
+        Return `None` if there is none."""
         at = bisect.bisect_right(self.open_changes, frame)
         if at % 2 == 0:
             return frame
@@ -350,14 +355,14 @@ class Timeline(ReceivedPackets):
 
 
 def is_of_page(run: PacketRun) -> bool:
-    """Return whether a run has a header of the page, or one that closes it."""
+    """Return whether a run has a header of the page, or a header that closes the page."""
     return HEADER in run.flags or CLOSED in run.flags
 
 
 def decode_near(packets: Packets, page: Page, origin: int, within: int, span: Span, every: int,
                 inside: Range | None = None, lost: Iterable[Span] = ()) -> Timeline:
-    """Decode the pages of a span, with 250 frames (or the repeat bound, if longer) before and after
-    it; `lost` are frames with losses."""
+    """Decode the pages of a span, and of at least 250 frames before and after it, or `every` frames
+    if that is more. `lost` are frames with losses."""
     more = max(LEAST, every)
     cut = find_range(packets, max(span.first - more, 0), min(span.last + more, FRAMES_OF_A_DAY - 1),
                      origin, None, within, inside)
@@ -367,8 +372,8 @@ def decode_near(packets: Packets, page: Page, origin: int, within: int, span: Sp
 
 
 def full_page(texts: Texts, is_erased: bool) -> Rows:
-    """Return a page with the rows `texts`. Other rows are blank if `is_erased`, or else not yet
-    received."""
+    """Return a page with the rows `texts`. If `is_erased`, all other rows are blank, or else not
+    yet received."""
     blank: Rows = BLANK_PAGE if is_erased else OLD_PAGE
     if not texts:
         return blank

@@ -11,12 +11,13 @@ from typing import Iterable, NamedTuple, Sequence
 from ..common.times import NO_FRAME, frames_at
 
 
-FEWEST = 3  # fewest repeats to measure
-NEAR = 5  # most frames by which a page may come before its cue if the clock is late
+FEWEST = 3  # minimum number of repeats for a measurement
+NEAR = 5  # maximum number of frames by which a page may precede its cue if the clock is late
 
 
 def longest_gap(frames: Iterable[int]) -> int:
-    """Return the most frames between two transmissions, or 0 if there are fewer than two."""
+    """Return the longest interval between two consecutive frames, or 0 if there are fewer than two
+    frames."""
     known = sorted(set(frames))
     return max((second - first for first, second in zip(known, known[1:])), default=0)
 
@@ -29,9 +30,10 @@ def cue_frames(times: Iterable[tuple[int, int]]) -> list[int]:
 def count_repeats(frames: Iterable[int], edges: Sequence[int]) -> collections.Counter[int]:
     """Count the intervals of repeats, in frames.
 
-    A repeat is a transmission without a cue since the transmission before it; `edges` are the
-    frames of cues, rising. Skip the first repeat after a cue, which may come at once, and a repeat
-    just before a cue, which may be the next page.
+    `frames` are the frames of page transmissions, `edges` the frames of cues in ascending order. A
+    repeat is a transmission that no cue separates from the transmission before it. Skip the first
+    repeat after a cue, which may follow at once, and a repeat just before a cue, which may be the
+    next page.
     """
     known = array.array("i", frames)
     if any(map(operator.ge, known, itertools.islice(known, 1, None))):
@@ -42,8 +44,9 @@ def count_repeats(frames: Iterable[int], edges: Sequence[int]) -> collections.Co
 
 
 def repeat_distance(frames: Iterable[int], edges: Sequence[int]) -> int | None:
-    """Return the usual distance of repeats in frames, or `None` if there are too few. If each page
-    is sent twice in a row, most of the time lies between two such pairs."""
+    """Return the usual interval of repeats in frames, or `None` if there are too few repeats. Half
+    of the time lies in shorter or equal intervals. This suits pages that are always sent twice in a
+    row, too."""
     repeats = count_repeats(frames, edges)
     if sum(repeats.values()) < FEWEST:
         return None
@@ -52,13 +55,14 @@ def repeat_distance(frames: Iterable[int], edges: Sequence[int]) -> int | None:
     return rising[bisect.bisect_left(totals, -(-totals[-1] // 2))]
 
 
-LONGER = 1.5  # times the usual interval: a longer one shows a lost repeat
-RARE = 20  # intervals are exceptions if they are less than 1/20 of all
+LONGER = 1.5  # a repeat was lost in an interval longer than this multiple of the usual one
+RARE = 20  # longer intervals are exceptions if they are less than 1/20 of all intervals
 
 
 class Repeats(NamedTuple):
-    """The number of headers of a page, the longest interval in frames, its first frame, and the
-    usual interval. `exceptions` are longer intervals, each with its first frame and its length."""
+    """The repeats of a page: the number of its headers, the longest interval in frames, that
+    interval's first frame, and the usual interval. `exceptions` are longer intervals, each with its
+    first frame and its length."""
 
     headers: int
     longest: int

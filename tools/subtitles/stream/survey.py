@@ -16,17 +16,17 @@ from .pictures import VideoLead
 # The manual describes each line of the output; unknown lines of a later program are skipped.
 
 VERSION = "1"
-MAX_PAGES = 12  # most pages on a line
+MAX_PAGES = 12  # maximum number of pages in a line
 SUBTITLE_KINDS = (2, 5)
 KINDS = {1: "initial page", 2: "subtitles", 3: "additional information", 4: "programme schedule",
          5: "subtitles for the hard of hearing"}
-MAX_PCR_PIDS = 8  # most PCR PIDs of a programme to remember
+MAX_PCR_PIDS = 8  # maximum number of PCR PIDs of a programme to remember
 HIT = b"\xa0"  # a space whose byte had even parity
 NO_LETTERS = bytes(range(0x21))
 
 
 class Announced(NamedTuple):
-    """A page of a Teletext descriptor."""
+    """A page that a Teletext descriptor announces."""
 
     page: Page
     language: str
@@ -51,9 +51,9 @@ class ProgramMap:
 
 @dataclasses.dataclass
 class Video:
-    """The PTS of pictures from the first random access point to the next, or to the end of the
-    recording if `is_cut`. `form` of this group of pictures: closed, open, unknown, or empty if not
-    printed."""
+    """The pictures of a video PID from the first random access point to the next, or to the end of
+    the recording if `is_cut`. `pictures` has their PTS. `form` is the form of this group of
+    pictures: closed, open or unknown. It is an empty string if `survey` did not print it."""
 
     skipped: int = 0
     pictures: list[int | None] = dataclasses.field(default_factory=list)
@@ -64,7 +64,7 @@ class Video:
 
 
 def pid_line(packets: Packets, programmes: Iterable[ProgramMap]) -> str:
-    """Return the line on the pages that are announced and sent on a PID."""
+    """Return a line with the pages that are announced and sent on a PID."""
     announced = dict.fromkeys(f"{page.line()} in programme {program_map.number}"
                               for program_map in programmes
                               for page in program_map.pages.get(packets.pid, []))
@@ -86,23 +86,23 @@ def parse_rows(word: str) -> Texts:
 
 
 class Survey:
-    """The output of `survey` about a recording, as far as it was read."""
+    """The output of `survey` about a recording, or its first part if the rest was not read yet."""
 
     def __init__(self) -> None:
-        self.size: int | None = None  # TS packet size; 0 of a PES file
+        self.size: int | None = None  # TS packet size, or 0 for a PES file
         self.head = b""
         self.skipped = 0
         self.is_complete = False
-        self.unexpected_line = ""  # a line with another version or a failure
+        self.unexpected_line = ""  # the line with another version or a failure, if any
         self.programmes: list[ProgramMap] = []
-        self.pcr_pids: dict[int, list[int]] = {}  # by programme, the latest last
+        self.pcr_pids: dict[int, list[int]] = {}  # PCR PIDs of each programme, most recent last
         self.by_pid: dict[int, Packets] = {}
         self.videos: dict[int, Video] = {}
         self.leads: dict[tuple[int, int], list[VideoLead]] = {}  # by PIDs of Teletext and video
         self.clocks: dict[int, tuple[int, int]] = {}  # the first and the last PCR
 
     def read_line(self, line: str) -> None:
-        """Read a line of the output."""
+        """Parse a line of the output of `survey`."""
         word, *rest = line.split(" ")
         parser = getattr(self, f"parse_{word}", None)
         if parser:
@@ -156,7 +156,7 @@ class Survey:
 
     def parse_pes(self, pid: str, first: str, count: str, pts: str, step: str, actions: str,
                   units: str, fault: str, *_: str) -> None:
-        flags, control = map(sys.intern, actions.split("/"))  # most of a day are the same
+        flags, control = map(sys.intern, actions.split("/"))  # most of these strings are equal
         self.get_packets(pid).runs.append(PacketRun(int(first), int(count), optional_number(pts),
                                                    int(step), flags,
                                                    control, int(units), int(fault)))
@@ -170,7 +170,8 @@ class Survey:
             (row, cells.replace(HIT, b" ")) for row, cells in texts) if cells.strip(b" "))
         if not packets.changes or packets.changes[-1].rows != plain:
             letters = b"".join(cells for _, cells in plain).translate(None, NO_LETTERS)
-            rows_held = texts if plain == texts else plain  # usually one object
+            # If the rows are equal, keep only one object.
+            rows_held = texts if plain == texts else plain
             packets.changes.append(PageChange(pts, letters, behind, rows_held))
 
     def parse_strays(self, pid: str, number: str, rows: str, *_: str) -> None:
@@ -237,14 +238,13 @@ class Survey:
     def parse_over(self, skipped: str, *_: str) -> None:
         self.skipped, self.is_complete = int(skipped), True
 
-    # Looking up
-
     def programmes_of(self, pid: int) -> list[ProgramMap]:
         """Return the PMTs that contain a PID."""
         return [program_map for program_map in self.programmes if pid in program_map.kinds]
 
     def clock_of(self, pid: int) -> tuple[int, int] | None:
-        """Return the first and last PCR of the programme of a PID, or `None`."""
+        """Return the first and last PCR of the programme of a PID, or `None` if they are
+        unknown."""
         known = self.programmes_of(pid)
         return self.clocks.get(known[-1].pcr_pid) if known else None
 
@@ -270,8 +270,8 @@ def survey(program: str, name: str, page: Page, pid: int | None = None,
 
 def read_lines(answer: Survey, program: str, name: str, page: Page, pid: int | None = None) \
         -> Iterator[None]:
-    """Run `survey` on a recording and yield after each line; raise `ProgramInterrupted` if the
-    output is incomplete."""
+    """Run `survey` on a recording and read its output into `answer`. Yield after each line, so that
+    the caller can use the contents. Raise `ProgramInterrupted` if the output is incomplete."""
     words = [program, "survey", "--page", page_name(*page), *stream_options(pid), "--", name]
     with subprocess.Popen(words, stdout=subprocess.PIPE, encoding="ascii",
                           errors="replace") as process:
@@ -283,8 +283,8 @@ def read_lines(answer: Survey, program: str, name: str, page: Page, pid: int | N
 
 
 def survey_runs(program: str, name: str, page: Page) -> Iterator[tuple[PacketRun, Texts | None]]:
-    """Yield the runs of PES packets of a file, each with the rows after it or `None`, without
-    storing them."""
+    """Yield the runs of PES packets of a file without storing them. Each run has the rows that
+    `survey` printed after its first PES packet, or `None`."""
     answer = Survey()
     packets = answer.get_packets(str(PES))
     for _ in read_lines(answer, program, name, page):
@@ -295,7 +295,8 @@ def survey_runs(program: str, name: str, page: Page) -> Iterator[tuple[PacketRun
 
 
 def pop_first_run(packets: Packets) -> tuple[PacketRun, Texts | None]:
-    """Remove the first run, and return it with the rows after it."""
+    """Remove the first run. Return it with the rows printed after its first PES packet, or
+    `None`."""
     run, held = packets.runs.pop(0), dict(packets.decoded_rows)
     packets.decoded_rows.clear()
     del packets.changes[:-1]
@@ -321,7 +322,8 @@ ANY = {"und", "mul"}  # codes for an undefined language and for several language
 
 
 def language_names(code: str) -> list[str]:
-    """Return the language codes of a PMT for an LC of two hexadecimal digits; none if unknown."""
+    """Return the language codes of a PMT for an LC of two hexadecimal digits. Return an empty list
+    if the LC is unknown."""
     try:
         return CODES.get(int(code, 16), "").split()
     except ValueError:
