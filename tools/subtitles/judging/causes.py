@@ -25,8 +25,8 @@ from .transmissions import ExpectedPages, PageTransmissions, find_omitted_rows
 LATE, EARLY, NEVER, OTHER_TEXT = "late", "early", "never sent", "another subtitle's text"
 WRONG_TEXT, WRONG_PLACE, WRONG_ATTRIBUTE = "wrong text", "wrong place", "wrong colour or attribute"
 NOT_ERASED, INCOMPLETE_REPEAT, UNKNOWN_CAUSE = "not erased", "not repeated whole", "unknown"
-# ERASED: a header without rows came before the TCO. TEXT_IN_PAUSE: a text that belongs to no
-# subtitle came in the pause after the subtitle. NOT_RECEIVED: TS packets were lost.
+# ERASED: a header without rows was sent before the TCO. TEXT_IN_PAUSE: a text that belongs to no
+# subtitle was sent in the pause after the subtitle. NOT_RECEIVED: TS packets were lost.
 ERASED, TEXT_IN_PAUSE, NOT_RECEIVED = "erased", "another text in a pause", "not received"
 CAUSE_NAMES = (LATE, EARLY, NEVER, OTHER_TEXT, WRONG_TEXT, WRONG_PLACE, WRONG_ATTRIBUTE, NOT_ERASED,
                INCOMPLETE_REPEAT, ERASED, TEXT_IN_PAUSE, NOT_RECEIVED, UNKNOWN_CAUSE)
@@ -40,10 +40,10 @@ EVEN_PARITY = "a byte of its rows has even parity"
 class Cause(NamedTuple):
     """The reason why a subtitle is refused.
 
-    `subtitle_index` is the position of the subtitle in the file; `frames` says by how many frames
-    the subtitle is late or early; `sent_page` is the page that was sent, and `other_index` the
-    position of the subtitle that has the text of this page. Nothing after frame `final_frame` can
-    change the cause.
+    `subtitle_index` is the position of the subtitle in the file. `frames` is the number of frames
+    by which it is late or early. `sent_page` is the page that was sent, and `other_index` the
+    position of the subtitle with the text of this page. No frame after `final_frame` can change the
+    cause.
     """
 
     subtitle_index: int
@@ -56,14 +56,18 @@ class Cause(NamedTuple):
 
     @property
     def may_be_correct(self) -> bool:
-        """Return whether the subtitle may be correct: PES packets can't be read, or the subtitle is
-        the last one and the next programme begins at its TCO."""
+        """Return whether the subtitle may be correct.
+
+        It may be if PES packets can't be read, or if the next programme begins at its TCO.
+        """
         return self.details in (NOT_READABLE, NEXT_PROGRAMME)
 
 
 class FaultyFrames:
-    """The frames in which a subtitle has a wrong page: the first such frames before the TCO, and
-    the first such frames after it."""
+    """The frames in which a subtitle has a wrong page.
+
+    `during` is the first span before its TCO, and `after_end` the first span after its TCO.
+    """
 
     def __init__(self) -> None:
         self.during: Span | None = None
@@ -86,8 +90,10 @@ class CauseFinder(PageTransmissions):
         self.output = output
 
     def find_cause(self, place: int, faulty: FaultyFrames) -> Cause:
-        """Return the cause for a subtitle; the cause is unknown if a pause in the PES packets
-        explains the fault."""
+        """Return the cause of a subtitle's fault.
+
+        The cause is unknown if an interval without PES packets explains the fault.
+        """
         cause, subtitle = self.classify_transmission(place, faulty), self.subtitles[place]
         pause = self.timeline.pause_at(subtitle.end if cause.name == NOT_ERASED else subtitle.begin)
         if pause is None:
@@ -105,7 +111,7 @@ class CauseFinder(PageTransmissions):
                                        f"{time_of(pause.first)} on")
 
     def classify_transmission(self, place: int, faulty: FaultyFrames) -> Cause:
-        """Return the cause for a subtitle, from its page transmissions."""
+        """Return the cause of a subtitle's fault, from its page transmissions."""
         subtitle, came = self.subtitles[place], self.find_transmission(place)
         if self.timeline.page_at(subtitle.begin) == self.pages[place]:
             if came is not None and came < subtitle.begin:
@@ -124,7 +130,7 @@ class CauseFinder(PageTransmissions):
         return self.classify_delay(place, came)
 
     def classify_delay(self, place: int, came: int) -> Cause:
-        """Return the cause for a subtitle whose page came late or early, in frame `came`."""
+        """Return the cause for a subtitle whose page was sent late or early, in frame `came`."""
         subtitle = self.subtitles[place]
         if came > subtitle.begin and not self.timeline.was_received(subtitle.begin, came):
             return self.make_unknown_cause(place, subtitle.begin, came,
@@ -138,23 +144,26 @@ class CauseFinder(PageTransmissions):
         return Cause(place, name, frames, self.pages[place], None, words, max(came, subtitle.begin))
 
     def is_allowed_delay(self, place: int, came: int) -> bool:
-        """Return whether a page came late but within the allowed delay, and was not incomplete for
-        longer than the allowed delay."""
+        """Return whether a page was late, and incomplete, for no longer than the allowed delay."""
         late = came - self.subtitles[place].begin
         return 0 < late <= self.timeline.within and \
             came - self.find_first_wrong_frame(came - 1) <= self.timeline.within
 
     def find_first_wrong_frame(self, frame: int) -> int:
-        """Return the first of the consecutive frames up to `frame` that have a wrong page, at most
-        250 frames earlier."""
+        """Return the first frame of the uninterrupted span of wrong pages that ends at `frame`.
+
+        Search at most 250 frames before `frame`.
+        """
         first = frame
         while frame - first < LEAST and first > 0 and not self.is_expected_page(first - 1):
             first -= 1
         return first
 
     def describe_incomplete_frames(self, came: int) -> str:
-        """Describe for how many frames the page was incomplete before frame `came`. If it was
-        incomplete before the TCI too, these are more frames than the subtitle is late."""
+        """Describe for how many frames the page was incomplete before frame `came`.
+
+        The number is larger than the delay if the page was already incomplete before the TCI.
+        """
         first = self.find_first_wrong_frame(came - 1)
         return f"the page is incomplete for {counted(came - first, 'frame')} in a row, from " \
             f"{time_of(first)} on"
@@ -191,12 +200,14 @@ class CauseFinder(PageTransmissions):
             for span, texts in self.timeline.stray_rows)
 
     def describe_closed_page(self) -> str:
-        """Describe that rows were received while the page was not open."""
+        """Return the message that rows were received while the page was not open."""
         return f"its rows came while page {page_name(*self.timeline.page)} was not open"
 
     def classify_difference(self, place: int, number: int) -> Cause:
-        """Return the cause for a subtitle during which a wrong page was sent that is not the page
-        of another subtitle."""
+        """Return the cause for a subtitle that was replaced by a page that belongs to no subtitle.
+
+        `number` is the number of this page.
+        """
         subtitle, due, sent = self.subtitles[place], self.pages[place], self.timeline.pages[number]
         words = join_page_text(sent)
         if words != join_page_text(due):
@@ -218,8 +229,7 @@ class CauseFinder(PageTransmissions):
         return Cause(place, OTHER_TEXT, None, self.pages[other], other, "", known)
 
     def classify_later_fault(self, place: int, faulty: FaultyFrames) -> Cause:
-        """Return the cause for a subtitle whose page was correct at its TCI, so that the fault is
-        in another frame."""
+        """Return the cause for a subtitle whose page was correct at its TCI, but wrong later."""
         subtitle = self.subtitles[place]
         span = faulty.during or faulty.after_end
         if span and self.is_expected_page(span.first):
@@ -253,23 +263,26 @@ class CauseFinder(PageTransmissions):
         return EVEN_PARITY if HIT in b"".join(self.timeline.state_at(frame).rows) else ""
 
     def list_omitted_rows(self, frame: int) -> str:
-        """Describe which rows a repeat of the page omitted, if this explains the fault in a frame:
-        all packets of this frame can be read, and without --within it has only one PES packet."""
+        """Describe which rows a repeat of the page omitted.
+
+        Return an empty string if omitted rows can't explain the fault in this frame, because some
+        of its packets can't be read, or because it has several PES packets (without --within).
+        """
         is_one = self.timeline.within or len(self.timeline.runs_in_frame(frame)) == 1
         return find_omitted_rows(self.timeline, self.expected.page_at(frame), frame, self.output) \
             if is_one and self.timeline.was_received(frame, frame) else ""
 
     @functools.cached_property
     def subcode_text(self) -> str:
-        """Describe the sub-pages that alternate, or return an empty text."""
+        """Describe the sub-pages that alternate, or return an empty string if there are none."""
         subcodes = alternating_subcodes(self.timeline.packets, self.timeline.inside)
         return subpage_text(subcodes, page_name(*self.timeline.page)) if subcodes else ""
 
     def classify_after_end(self, place: int, number: int, frame: int) -> Cause:
-        """Return the cause for a subtitle if a page was sent after its TCO.
+        """Return the cause for a subtitle after whose TCO page `number` was sent.
 
-        A page that belongs to no subtitle is another text in the pause; at the last TCO it belongs
-        to the next programme.
+        If the page belongs to no subtitle, the cause is another text in the pause. At the last TCO
+        it is the next programme.
         """
         subtitle, page = self.subtitles[place], self.timeline.pages[number]
         is_other = page not in self.expected.by_page and page != BLANK_PAGE
@@ -285,8 +298,10 @@ class CauseFinder(PageTransmissions):
                                        f"sent after its TCO, at {time_of(frame)}")
 
     def describe_removal(self, place: int, number: int) -> str:
-        """Describe how long after the TCO a page stayed, or that the next subtitle has the same
-        page."""
+        """Describe how long page `number` stayed after the TCO.
+
+        Return an empty string if its end is unknown.
+        """
         until, end = self.timeline.page_span(number).last, self.subtitles[place].end
         following = self.subtitles[place + 1:place + 2]
         if following and following[0].begin <= until and \
@@ -321,34 +336,39 @@ class CauseFinder(PageTransmissions):
         return self.classify_difference(place, number)
 
     def was_erased(self, number: int) -> bool:
-        """Return whether a header without rows erased the page, and the next page has another
-        header."""
+        """Return whether a header without rows erased the page.
+
+        The next page must have its own header. Otherwise its rows belong to the same header, and
+        the page was not erased.
+        """
         begins = self.timeline.frames[number:number + 2]
         return all(any(HEADER in run.flags for run in self.timeline.runs_in_frame(frame))
                    for frame in begins)
 
     def describe_unreceived(self, first: int, last: int) -> str:
-        """Describe why it is uncertain what was sent in some frames."""
+        """Explain why it is unknown what was sent from frame `first` to frame `last`."""
         return NOT_RECEIVED if self.timeline.lost.has(first, last) else NOT_READABLE
 
     def make_unknown_cause(self, place: int, frame: int, known: int, words: str) -> Cause:
-        """Return the cause for a subtitle that was not received, or has an unknown fault."""
+        """Return the cause `NOT_RECEIVED` or `UNKNOWN_CAUSE` for a subtitle.
+
+        `words` has the details. No frame after `known` can change the cause.
+        """
         sent = self.timeline.page_at(frame)
         name, words = (NOT_RECEIVED, "") if words == NOT_RECEIVED else (UNKNOWN_CAUSE, words)
         return Cause(place, name, None, None if sent == BLANK_PAGE else sent, None, words, known)
 
 
-# Causes of the faults in a list of `check --all`
-
 SENT_BEFORE_CUT = f"its page was sent before the judged range, so {BEGIN} is reported"
 
 
 class Causes:
-    """The causes of faults, from the list of `check --all` and the decoded pages.
+    """The causes of the faults that `check --all` lists.
 
-    `by_index` has the certain causes by subtitle; `by_end_fault` the subtitle that a fault 63 or 74
-    refers to, if the recording continues there. `recorded_span` are the frames that the recording
-    covers, if its PCR shows more frames than its PES packets.
+    `by_index` has the causes by the position of the subtitle. `by_end_fault` has the subtitle that
+    belongs to the fault at the beginning of the recording (63) or at its end (74), if the recording
+    is longer than the judged frames. `recorded_span` has the frames that the recording covers, if
+    its PCR shows more frames than its PES packets.
     """
 
     def __init__(self, expected: ExpectedPages, timeline: Timeline,
@@ -378,12 +398,12 @@ class Causes:
             self.classify_first(begin.frame)
 
     def add_frames(self, first: int, last: int) -> None:
-        """Add frames that have a wrong page."""
+        """Add the frames from `first` to `last`, which have a wrong page."""
         for span in self.finder.split_frames(first, last):
             self.add_span(self.finder.find_owner(span.first), span)
 
     def add_span(self, place: int, span: Span) -> int:
-        """Add frames with a wrong page to a subtitle, and return the position of this subtitle."""
+        """Add frames with a wrong page to the subtitle at position `place`, and return `place`."""
         self.first_wrong_frames.setdefault(place, span.first)
         if place not in self.by_index:
             self.pending.setdefault(place, FaultyFrames()).add(span, self.expected.subtitles[place])
@@ -398,10 +418,11 @@ class Causes:
         return Span(min(first, known.first), max(last, known.last)) if known else Span(first, last)
 
     def compare_before(self, frame: int) -> None:
-        """Compare the frames from the first TCI up to `frame`, the first judged frame.
+        """Compare the decoded pages with the expected pages before `frame`, the first judged frame.
 
-        Do this only if the recording covers these frames, or begins as long before the first TCI
-        as `frame` is after it: the first subtitle is then certainly late and not early.
+        Do so only if the recording shows whether the first subtitle is early or late. It does if it
+        covers the first TCI, or if it begins at least as long before the first TCI as `frame` is
+        after it.
         """
         begin, held = self.expected.begins[0], self.timeline
         if not (held.frames and held.frames[0] <= begin or
@@ -413,9 +434,11 @@ class Causes:
         self.add_differences(BEGIN, begin, frame - 1)
 
     def classify_first(self, frame: int) -> None:
-        """Classify the first subtitle as late if the recording begins with its page, and the page
-        begins or ends as late as the next page begins: the first page alone could have been cut
-        off."""
+        """Classify the first subtitle as late if the recording begins with its page.
+
+        The second subtitle must be late too, and the beginning or the end of the first page must
+        have the same delay. The first page alone is no evidence: its beginning may be cut off.
+        """
         page, following = self.expected.pages[0], self.by_index.get(1)
         if following is None or following.name != LATE or BEGIN in self.by_end_fault \
                 or self.timeline.first != frame or self.timeline.page_at(frame) != page:
@@ -430,26 +453,31 @@ class Causes:
         self.by_index[0] = Cause(0, LATE, late, page, None, "", max(frame, first.begin + late))
 
     def compare_after(self, frame: int) -> None:
-        """Compare the frames from `frame`, the last judged frame, to the last TCO if they were
-        recorded."""
+        """Compare the decoded pages with the expected pages after `frame`, the last judged frame.
+
+        Do so only if the recording covers the frames up to the last TCO.
+        """
         end = self.expected.subtitles[-1].end
         if self.find_covered_span().last >= end:
             self.add_differences(END, frame + 1, end)
 
     def add_differences(self, number: int, first: int, last: int) -> None:
-        """Add all frames with a wrong page between two frames, because of a fault 63 or 74."""
+        """Add the frames from `first` to `last` that have a wrong page.
+
+        `number` is the number of the fault that `check` reports for these frames.
+        """
         for span in self.finder.split_frames(first, last):
             if not self.finder.is_expected_page(span.first):
                 place = self.add_span(self.finder.find_owner(span.first), span)
                 self.by_end_fault.setdefault(number, place)
 
     def classify_subtitle(self, place: int) -> Cause:
-        """Return the cause for a subtitle."""
+        """Return the cause of the faults in a subtitle."""
         cause = self.finder.find_cause(place, self.pending[place])
         begin = self.expected.begins[place]
         if cause.name == LATE and begin + (cause.frames or 0) == self.timeline.first \
                 and begin < self.find_covered_span().first:
-            # The page may have been sent before the recording began.
+            # The subtitle is not certainly late: its page may have been sent before the recording.
             cause = self.finder.classify_later_fault(place, self.pending[place])
         is_before = cause.name == EARLY and self.by_end_fault.get(BEGIN) == place
         return cause._replace(details=SENT_BEFORE_CUT) if is_before else cause
@@ -462,7 +490,8 @@ class Causes:
         return None if edge is None else self.by_index.get(edge)
 
     def ended_early(self, place: int) -> bool:
-        """Return whether a subtitle was sent early, and another page replaced it early."""
+        """Return whether a subtitle was sent early, and the recording contains the page after it.
+        """
         cause = self.by_index.get(place)
         if cause is None or cause.name != EARLY:
             return False
@@ -475,18 +504,19 @@ class Causes:
 
 
 def count_causes(several: Iterable[Causes]) -> dict[str, int]:
-    """Count the causes in several parts by their names."""
+    """Return the number of causes with each name in several parts."""
     counted = collections.Counter(cause.name for one in several for cause in one.by_index.values())
     return {name: counted[name] for name in CAUSE_NAMES}
 
 
-# Causes as text and as JSON values
-
-LINE_PREFIX = "cause: "  # prefix of each line with a cause
+LINE_PREFIX = "cause: "  # the beginning of each line with a cause
 
 
 class CauseDescriber:
-    """Describes the causes in a part, with the characters of a national option."""
+    """Converts the causes of faults in a part to text and to JSON values.
+
+    `option` is the name of the national option that selects the characters.
+    """
 
     def __init__(self, causes: Causes, option: str) -> None:
         self.causes, self.subtitles = causes, causes.expected.subtitles
@@ -510,7 +540,7 @@ class CauseDescriber:
         }
 
     def format_expected_text(self, cause: Cause) -> str:
-        """Return the expected text of the subtitle with a cause."""
+        """Return the expected text of the subtitle that a cause belongs to."""
         return format_page_text(self.pages[cause.subtitle_index], self.option)
 
     def format_line(self, cause: Cause) -> str:
@@ -522,8 +552,10 @@ class CauseDescriber:
                 f'"{self.format_expected_text(cause)}": {self.describe(cause)}')
 
     def describe(self, cause: Cause, has_text: bool = True) -> str:
-        """Describe a cause with its details, and with the text that was sent if this is not the
-        expected text."""
+        """Describe a cause and its details.
+
+        If `has_text` is true and a wrong text was sent, add this text.
+        """
         subtitle = self.subtitles[cause.subtitle_index]
         words = cause.name
         if cause.name in (LATE, EARLY):
@@ -553,5 +585,5 @@ def format_cause_counts(several: list[Causes]) -> str:
 
 
 def list_cause_counts(several: list[Causes]) -> str:
-    """Return texts with the number of subtitles for each cause."""
+    """Return the number of subtitles for each cause as text."""
     return ", ".join(f"{count} {name}" for name, count in count_causes(several).items() if count)

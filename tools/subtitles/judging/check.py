@@ -38,11 +38,11 @@ TIME_CODE = re.compile(r"\d\d:\d\d:\d\d:\d\d")
 class CheckOutput:
     """The output of `check --all`. The file at `path` contains all lines.
 
-    `first_fault` is the first fault, which `check` prints without `--all`. By fault number,
-    `counts_by_number` has the number of faults, `first_faults` the first fault, and `fault_spans`
-    the frames from the beginning to the end of each fault. `fault_ends` has the end of each fault
+    `first_fault` is the first fault, which `check` prints without `--all`. Three dictionaries have
+    the fault number as their key: `counts_by_number` has the number of faults, `first_faults` the
+    first fault, and `fault_spans` the frames of all faults. `fault_ends` has the end of each fault
     by its position in the list. `skipped_packets` has the numbers of the PES packets that `check`
-    skipped, and `trusted_frames` the clean frames.
+    skipped, and `trusted_frames` the frames on its `trusted` lines.
     """
 
     def __init__(self, path: str) -> None:
@@ -56,7 +56,7 @@ class CheckOutput:
         self.file: BinaryIO = open(path, "wb")
 
     def clear_faults(self) -> None:
-        """Forget all faults that were read."""
+        """Discard all faults read so far."""
         self.fault_count = 0
         self.counts_by_number: collections.Counter[int] = collections.Counter()
         self.first_faults: dict[int, FaultLine] = {}
@@ -73,7 +73,7 @@ class CheckOutput:
         return set(self.counts_by_number)
 
     def read_fault(self, line: str, words: list[str]) -> None:
-        """Read a line `refused`, given as text and as words."""
+        """Store the fault on a `refused` line, whose words are `words`."""
         number, place = int(words[1]), words[3:5]
         if number not in self.counts_by_number:
             fault = parse_fault_line(line)
@@ -91,7 +91,7 @@ class CheckOutput:
             self.skipped_packets.add(int(place[1]), int(place[1]))
 
     def read_end(self, words: list[str]) -> None:
-        """Read a line `ended`, which gives the last frame or the last PES packet of a fault."""
+        """Store the last frame or the last PES packet of a fault from an `ended` line."""
         number, (kind, value) = int(words[1]), words[3:5]
         index = self.last_positions.pop(words[1], None)
         if index is None:
@@ -112,7 +112,7 @@ class CheckOutput:
                    if number not in STL_FAULTS | {UNDECIDED})
 
     def read_line(self, line: str) -> None:
-        """Read one line of output, and append it to the file with the list."""
+        """Store one line of output, and append it to the file."""
         with name_errors(self.path):
             self.file.write(line.encode() + b"\n")
         self.last_line, self.is_accepted = line, False
@@ -130,7 +130,10 @@ class CheckOutput:
             self.unknown_line = line
 
     def finish(self, status: int) -> None:
-        """Store the exit status of `check`; raise `IncompleteAnswer` if there is no verdict."""
+        """Close the file, and store the exit status of `check`.
+
+        Raise `IncompleteAnswer` if there is no verdict.
+        """
         with name_errors(self.path):
             self.file.close()
         self.exit_status = status
@@ -140,7 +143,7 @@ class CheckOutput:
             f"{NOT_ANSWERED}: {line or 'it printed nothing'}, status {status}")
 
     def close_file(self) -> None:
-        """Close the file with an incomplete list."""
+        """Close the file if `check` has not ended, so that the list remains incomplete."""
         with name_errors(self.path):
             self.file.close()
 
@@ -156,7 +159,7 @@ class CheckOutput:
         return self.content_fault_rows[at][1] if at >= 0 else None
 
     def find_last_time(self) -> str | None:
-        """Return the time on the last line of output; later faults are not reported yet."""
+        """Return the time on the last line of output, up to which faults have been reported."""
         times: list[str] = TIME_CODE.findall(self.last_line)
         return times[-1] if times else None
 
@@ -174,8 +177,10 @@ class CheckOutput:
             pass
 
     def summarize(self, is_read: bool = True) -> CheckSummary:
-        """Return the values that decide the verdict on a part. If any line is not from `check`, the
-        part is not judged."""
+        """Return the values that decide the verdict on a part.
+
+        If `check` can't have printed one of the lines, the part is not judged.
+        """
         is_clear = self.unknown_line is None
         is_list = is_clear and self.first_fault is not None and self.frames is None
         counted = parse_count_line(self.last_line) if is_list else None
@@ -188,7 +193,7 @@ class CheckOutput:
         return decide_part(self.summarize())
 
     def copy_without(self, number: int, path: str) -> CheckOutput:
-        """Return a copy of this output at `path`, without faults that have a certain number."""
+        """Return a copy of this output at `path`, without the faults that have this number."""
         made = CheckOutput(path)
         for line in self.read_lines():
             if parse_count_line(line) is not None:
@@ -222,8 +227,11 @@ class CheckOutput:
 
 def run_check(command: list[str], output: CheckOutput,
               report_line: Callable[[str], None]) -> CheckOutput:
-    """Run `check --all` and return its output. `report_line` is called for each line at once, but
-    for a line `accepted` only after the exit status confirms the line."""
+    """Run `check --all` and return its output.
+
+    Call `report_line` for each line at once. An `accepted` line is reported only after the exit
+    status has confirmed it.
+    """
     with subprocess.Popen(command, stdin=subprocess.DEVNULL, stdout=subprocess.PIPE,
                           encoding="utf-8", errors="replace") as process:
         assert process.stdout
@@ -241,13 +249,11 @@ def run_check(command: list[str], output: CheckOutput,
     return output
 
 
-# Checking a subtitle file alone, without PES packets
-
-NO_PES = os.devnull
+NO_PES = os.devnull  # stands for the PES file if only the subtitle file is checked
 
 
 def check_file_alone(request: Request, program: str, names: OutputNames) -> CheckOutput:
-    """Check the subtitle file without PES packets, and report nothing."""
+    """Check the subtitle file without PES packets; print nothing."""
     return run_check([program, "check", *request.check_arguments(True), "--all", "--",
                       names.program_stl, NO_PES],
                      CheckOutput(names.temporary_path("alone.txt")), lambda line: None)

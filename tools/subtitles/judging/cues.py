@@ -1,4 +1,4 @@
-"""The cues of each subtitle in a part: expected times, times decoded by a receiver, and verdict."""
+"""Return the expected and the decoded times of each subtitle in a part, and the verdict on it."""
 from __future__ import annotations
 
 import functools
@@ -24,15 +24,16 @@ from .subtitles import ValidSubtitles
 from .transmissions import ExpectedPages
 
 
-# The cues of decoded pages
-
-# Causes in which another page was sent instead of the expected page
+# Names of causes if another page was sent instead of the expected page
 REPLACING_CAUSES = {WRONG_TEXT, WRONG_PLACE, WRONG_ATTRIBUTE, OTHER_TEXT}
 
 
 class Cue(NamedTuple):
-    """A subtitle and its expected page; the frame in which a receiver decoded this page, or the
-    page sent instead; and the first frame without that page. A frame is `None` if not seen."""
+    """A subtitle, its expected page, and the page that a receiver decoded for it.
+
+    `begin` is the first frame of the decoded page, and `end` the first frame after it. A frame is
+    `None` if it was not recorded.
+    """
 
     subtitle: Subtitle
     expected: Rows
@@ -64,7 +65,10 @@ def find_cues(part: Part) -> Iterator[Cue]:
 
 def find_decoded_times(cue: Cue, place: int, expected: ExpectedPages, timeline: Timeline,
                        delay: int | None) -> Cue:
-    """Return a cue with the first frame of the decoded page, and the first frame without it."""
+    """Return a copy of a cue with the decoded page and its times.
+
+    `place` is the position of the subtitle in `expected`, and `delay` the delay of the subtitle.
+    """
     number = find_page_number(cue, expected, timeline, delay)
     if number is None:
         return cue
@@ -79,7 +83,7 @@ def find_decoded_times(cue: Cue, place: int, expected: ExpectedPages, timeline: 
         begin = max(first, subtitle.begin)  # adjoining subtitles have the same page
     elif subtitle.begin < first == timeline.first and not (
             cue.cause and subtitle.begin + (cue.cause.frames or 0) == first):
-        begin = None  # the page came before the recording began
+        begin = None  # the page was sent before the recording began
     end: int | None = last + 1
     if after and after[0].begin == subtitle.end and expected.pages[place + 1] == page:
         end = min(last + 1, subtitle.end)
@@ -92,7 +96,7 @@ def find_decoded_times(cue: Cue, place: int, expected: ExpectedPages, timeline: 
 
 def find_page_number(cue: Cue, expected: ExpectedPages, timeline: Timeline,
                      delay: int | None) -> int | None:
-    """Return the number of the decoded page for a cue; `None` if no such page was decoded."""
+    """Return the number of the decoded page for a cue, or `None` if there is none."""
     cause, (begin, end) = cue.cause, (cue.subtitle.begin, cue.subtitle.end)
     if cause and cause.name in (LATE, EARLY):
         frame = begin + (cause.frames or 0) * (1 if cause.name == LATE else -1)
@@ -113,23 +117,26 @@ def find_page_number(cue: Cue, expected: ExpectedPages, timeline: Timeline,
 
 
 def is_variant(page: Rows, decoded: Rows, expected: ExpectedPages) -> bool:
-    """Return whether a page is a damaged or corrected repeat of another page: most characters are
-    equal, and no other subtitle has the page."""
+    """Return whether `page` is a damaged or corrected repeat of the page `decoded`.
+
+    Most characters must be equal, and `page` must not be the expected page of any subtitle.
+    """
     if page == decoded or page in expected.by_page:
         return page == decoded
     differing: int = sum(map(operator.ne, b"".join(page), b"".join(decoded)))
     return 2 * differing < sum(code > SPACE for code in b"".join(decoded))
 
 
-# Verdicts on subtitles, for reports and results
-
 RIGHT, WRONG, WAIVED, NOT_KNOWN = "right", "wrong", "waived", "not known"
 NOT_ALL_RECEIVED = "not received completely"
 
 
 class CueVerdict(NamedTuple):
-    """The verdict on a subtitle. If the subtitle is not right, the reason is its cause, the fault
-    numbers of other faults at its time, or why the verdict is unknown."""
+    """The verdict on a subtitle, and its reason.
+
+    The reason is the cause of its fault, the numbers of other faults at its time, or a doubt why
+    the verdict is not known.
+    """
 
     word: str
     cause: str = ""
@@ -150,7 +157,7 @@ class CueJudge:
 
     @functools.cached_property
     def is_cause_waived(self) -> bool:
-        """Return whether the severity file makes all faults with causes warnings."""
+        """Return whether the severity file turns all faults that have a cause into warnings."""
         numbers = WITH_CAUSE & self.part.check_output.fault_numbers
         return bool(numbers) and not any(map(self.severity.is_error, numbers))
 
@@ -171,8 +178,11 @@ class CueJudge:
         return CueVerdict(word, words, numbers)
 
     def describe_doubt(self, cue: Cue) -> str:
-        """Describe why it is unknown whether a cue without fault is right. Return an empty text if
-        a receiver decoded the page: the part is accepted, or all frames of the cue are clean."""
+        """Explain why a cue without a fault may nevertheless be wrong.
+
+        Return an empty string if it is right. It is right if the part is accepted and no TS packet
+        was lost during the cue, or if `check` trusts all frames of the cue.
+        """
         begin, end = cue.subtitle.begin, cue.subtitle.end
         if self.part.check_output.verdict == ACCEPTED:
             is_lost = any(span.first < end and begin <= span.last
@@ -188,13 +198,11 @@ class CueJudge:
         return f"{words}: the out-cue is moved" if cue.delay_out else words
 
     def describe_reason(self, verdict: CueVerdict) -> str:
-        """Return the text of a verdict's reason; an empty text for a right cue."""
+        """Return the reason for a verdict as text, or an empty string for a right cue."""
         firsts = self.part.check_output.first_faults
         faults = [f"{number} {firsts[number].name}" for number in verdict.fault_numbers]
         return "; ".join(filter(None, [verdict.cause, *faults, verdict.doubt]))
 
-
-# Refused subtitles, which are not judged
 
 MAX_FAULTS_READ = 20_000  # maximum number of faults to read from a subtitle file
 NEXT_IS_REFUSED = "not judged: the next subtitle is refused"
@@ -207,14 +215,17 @@ class SubtitleFaults(NamedTuple):
     faults: Sequence[FaultLine]
 
     def is_waived(self, severity: Severity) -> bool:
-        """Return whether the severity file makes all faults of the subtitle warnings."""
+        """Return whether the severity file turns all faults of the subtitle into warnings."""
         return not any(severity.is_error(fault.number) for fault in self.faults)
 
 
 def find_refused_subtitles(part: Part, file: SubtitleFile, beside: ValidSubtitles | None) \
         -> Iterator[SubtitleFaults]:
-    """Yield the refused subtitles in a file, each with its faults; then the subtitles that have no
-    fault but can't be judged, since the next subtitle is refused."""
+    """Yield the refused subtitles in a file, each with its faults.
+
+    Then yield the subtitles without a fault that are not judged because the next subtitle is
+    refused. `beside` has the subtitles that are judged although others are refused.
+    """
     left_out = set(beside.skipped_positions) if beside else set[int]()
     faults = [fault for fault,
               _ in itertools.islice(part.check_output.read_faults(), MAX_FAULTS_READ)
@@ -236,7 +247,10 @@ def find_first_block(file: SubtitleFile, fault: FaultLine) -> int:
 
 
 def read_block_text(file: SubtitleFile, block: int) -> bytes:
-    """Return the text in the blocks of a subtitle, as far as the file contains them."""
+    """Return the text of the subtitle that contains the block `block`.
+
+    If the last blocks of the subtitle are missing, return the text of those that exist.
+    """
     first, last = file.first_blocks[block], block
     for number in range(block, len(file.first_blocks)):
         data = file.block(number)
@@ -247,14 +261,15 @@ def read_block_text(file: SubtitleFile, block: int) -> bytes:
     return file.text(last)
 
 
-# Position of frames in the recording
-
-LONGEST_STEP = 3600 * 90_000  # ticks; a longer step, or a step back, is a jump of the clock
+LONGEST_STEP = 3600 * 90_000  # in ticks; a longer step, or a step back, is a jump of the clock
 
 
 def find_recording_start(part: Part) -> int | None:
-    """Return the PTS at the beginning of the recording, by the clock of a part: the first PCR, or
-    without a PCR the first PTS. A jump of the PTS before the part counts as no time."""
+    """Return the time of the beginning of the recording, as a PTS on the clock of a part.
+
+    The recording begins at the first PCR, or at the first PTS if it has no PCR. If the clock jumps
+    between the beginning and the part, the length of the jump is left out.
+    """
     if part.recording is None or part.pes is None:
         return None
     clock = part.recording.survey.clock_of(part.packets.pid) if part.recording.is_stream else None
@@ -268,8 +283,10 @@ def find_recording_start(part: Part) -> int | None:
 
 
 def format_recording_offset(part: Part, start: int | None, frame: int) -> str:
-    """Return the time from the beginning of the recording to a frame as H:MM:SS, or an empty
-    text."""
+    """Return the time from the beginning of the recording, `start`, to a frame as H:MM:SS.
+
+    Return an empty string if the beginning is unknown or later than the frame.
+    """
     if start is None or part.origin is None:
         return ""
     seconds = ticks_between(start, pts_of(frame, part.origin)) // 90_000
@@ -277,19 +294,15 @@ def format_recording_offset(part: Part, start: int | None, frame: int) -> str:
 
 
 def find_text_spans(timeline: Timeline) -> Iterator[Span]:
-    """Yield the frames in which a receiver had a page with text."""
+    """Yield the spans of frames in which the decoded page has text."""
     for number, page in enumerate(timeline.pages):
         if page != BLANK_PAGE:
             yield timeline.page_span(number)
 
 
-# Subtitles of a part in JSON results
-
-
 def make_subtitle_rows(part: Part, severity: Severity, beside: ValidSubtitles | None) \
         -> Iterator[Members]:
-    """Yield the JSON values of a part's subtitles, with times and verdicts, in the order of the
-    file."""
+    """Yield the JSON value of each subtitle in a part, in the order of the file."""
     rows = [*make_judged_rows(part, severity), *make_refused_rows(part, severity, beside)]
     yield from sorted(rows, key=lambda row: int(row["position"]))
 
@@ -321,7 +334,7 @@ def make_judged_rows(part: Part, severity: Severity) -> Iterator[Members]:
 
 def make_refused_rows(part: Part, severity: Severity, beside: ValidSubtitles | None) \
         -> Iterator[Members]:
-    """Yield the JSON values of subtitles that have faults in the subtitle file."""
+    """Yield the JSON values of the subtitles that are not judged because of faults in the file."""
     file = SubtitleFile(part.names.program_stl, part.request.between)
     for refused in find_refused_subtitles(part, file, beside):
         if refused.subtitle and (refused.faults or beside):
@@ -333,7 +346,7 @@ def make_refused_rows(part: Part, severity: Severity, beside: ValidSubtitles | N
 
 def make_file_row(part: Part, subtitle: NamedSubtitle, verdict: str, reason: str | None,
                   text: str | None) -> Members:
-    """Return the JSON value of a subtitle that was only checked in the subtitle file."""
+    """Return the JSON value of a subtitle that was not compared with the recording."""
     unknown = dict.fromkeys(("recording_offset", "actual_in", "actual_out", "delay_in",
                              "delay_out", "decoded_text", "complete_after"))
     return {"part": part.number, "position": subtitle.position, "number": subtitle.number,

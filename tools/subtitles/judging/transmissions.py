@@ -1,4 +1,5 @@
-"""Page transmissions with their headers, expected pages, and the subtitles they belong to."""
+"""Find the expected page of each subtitle, the page transmissions that belong to it, and faults in
+their headers."""
 from __future__ import annotations
 
 import bisect
@@ -23,11 +24,10 @@ from .check import CheckOutput
 from .pages import is_partial_page, join_page_text
 
 
-# Faults in the control bits of page headers
-
 ERASE_CLEAR = "C4 (erase page) is clear"
 REPEAT_WITHOUT_ERASE = f"{ERASE_CLEAR}: a repeat that does not erase"
-# The control bits of subtitle headers except C4, whether each must be set, and the fault if not
+# The control bits of subtitle headers except C4, whether each must be set, and the message if it
+# has the wrong value.
 CONTROL_BIT_FAULTS = (
     (SUBTITLE, True, "C6 (subtitle) is clear"),
     (SUPPRESS, True, "C7 (suppress header) is clear"),
@@ -46,8 +46,10 @@ OTHER_LETTERS = "has other characters"
 
 
 class PageHeader(NamedTuple):
-    """A header of the page, the previous header, and whether the page was open when the header was
-    received."""
+    """A header of the page, and the previous header.
+
+    `is_open` is true if the page was still open when the header was received.
+    """
 
     header: bytes
     previous: bytes | None = None
@@ -76,8 +78,10 @@ def keeps_page(header: bytes) -> bool:
 
 
 def describe_missing_erase(page_header: PageHeader, request: Request) -> str:
-    """Describe why a header that should erase the page does not do so; return an empty text if the
-    header is correct."""
+    """Describe why a header wrongly does not erase the page.
+
+    Return an empty string if the header erases the page, or need not.
+    """
     if not keeps_page(page_header.header):
         return ""
     if not request.may_keep:
@@ -92,8 +96,10 @@ def describe_missing_erase(page_header: PageHeader, request: Request) -> str:
 
 
 def describe_control_bits(header: bytes, option: str, erase_fault: str = "") -> list[str]:
-    """Return the faults in the control bits of a header. The fault of C4 is passed as `erase_fault`
-    and comes first."""
+    """Return messages about the control bits of a header.
+
+    The message about C4 is passed as `erase_fault`, and is the first.
+    """
     faults = [erase_fault] if erase_fault else []
     faults += [words for bit, is_set, words in CONTROL_BIT_FAULTS if has_bit(header, bit) != is_set]
     bits = national_option(header)
@@ -122,24 +128,26 @@ def describe_header_faults(headers: Sequence[PageHeader], request: Request) -> s
     return "; ".join(next(filter(None, wrong), []))
 
 
-# Headers with C4 clear keep the page: a receiver still has the earlier rows. The decoded page may
-# then be correct although `check` reports 72: a row is missing after the last header.
-
-
 class KeepingHeaders(NamedTuple):
-    """The number of page headers, and the number of headers that do not erase the page."""
+    """The number of page headers, and the number of headers with C4 clear.
+
+    These do not erase the page, so a receiver keeps the earlier rows. The decoded page may then be
+    correct although `check` reports fault 72, because a row is missing after the last header.
+    """
 
     headers: int
     keeping: int
 
     def describe(self) -> str:
-        """Describe both numbers in a clause."""
+        """Return text such as `C4 (erase page) is clear in 3 of 20 headers`."""
         return f"{ERASE_CLEAR} in {self.keeping} of {counted(self.headers, 'header')}"
 
 
 def count_keeping_headers(headers: Mapping[bytes, int], option: str) -> KeepingHeaders | None:
-    """Count the headers that do not erase the page. Return `None` if there are none, or if any
-    header has another fault."""
+    """Count the headers that do not erase the page.
+
+    Return `None` if there are none, or if any header has another fault.
+    """
     keeping = sum(count for one, count in headers.items() if keeps_page(one))
     if not keeping or any(describe_control_bits(one, option) for one in headers):
         return None
@@ -148,11 +156,10 @@ def count_keeping_headers(headers: Mapping[bytes, int], option: str) -> KeepingH
 
 def find_omitted_rows(timeline: Timeline, expected: Rows, frame: int,
                       output: CheckOutput | None) -> str:
-    """Describe which rows are missing after the last header before a frame; return an empty text if
-    no row is missing.
+    """Describe which rows are missing after the last header before a frame.
 
-    No row is missing if this header erases the page, if the decoded page is not the expected page,
-    or if a row changed after the page was last erased.
+    Return an empty string if this header erases the page, if the decoded page is not the expected
+    page, or if a row has changed since the page was last erased.
     """
     header = timeline.state_at(frame).header
     at = bisect.bisect_right(timeline.header_frames, frame) - 1
@@ -173,8 +180,10 @@ def find_omitted_rows(timeline: Timeline, expected: Rows, frame: int,
 
 
 def describe_omitted_rows(rows: Sequence[int], row: int | None, received: int) -> str:
-    """Describe which rows are missing if only `received` packets followed the header: all rows, or
-    row `row`, at which `check` reports the fault, and at least how many others."""
+    """Describe which rows are missing if only `received` packets followed the header.
+
+    `rows` has the numbers of all rows. `check` reports the fault at row `row`.
+    """
     if not rows:
         return ""
     if received <= 0:
@@ -185,15 +194,15 @@ def describe_omitted_rows(rows: Sequence[int], row: int | None, received: int) -
     return f"{first} and {more} more" if more > 0 else first
 
 
-# The expected pages of subtitles, used for causes, delays, faults and reports
-
-NO_SUBTITLE_FAULT = 82  # fault number for a file without subtitles
-LONGEST_INTERVAL = "1500"  # frames between repeats; the longest interval needs the fewest repeats
+NO_SUBTITLE_FAULT = 82  # number of the fault of a file without subtitles
+LONGEST_INTERVAL = "1500"  # value of --every, in frames, that makes the fewest repeats
 
 
 class ExpectedPages(SubtitleList):
-    """The subtitles of a programme with their expected pages. `timeline` has the pages that a
-    receiver should decode; it is `None` without subtitles."""
+    """The subtitles of a programme with their expected pages.
+
+    `timeline` has the pages that a receiver should decode. It is `None` if there are no subtitles.
+    """
 
     def __init__(self, subtitles: list[Subtitle], pages: list[Rows],
                  timeline: Timeline | None = None) -> None:
@@ -202,7 +211,7 @@ class ExpectedPages(SubtitleList):
 
     @functools.cached_property
     def by_page(self) -> dict[Rows, list[int]]:
-        """Return the positions of subtitles by their pages."""
+        """Return the positions of the subtitles with each page."""
         by_page: dict[Rows, list[int]] = {}
         for place, page in enumerate(self.pages):
             by_page.setdefault(page, []).append(place)
@@ -210,15 +219,17 @@ class ExpectedPages(SubtitleList):
 
     @functools.cached_property
     def by_text(self) -> dict[str, list[int]]:
-        """Return the positions of subtitles by their texts."""
+        """Return the positions of the subtitles with each text."""
         by_words: dict[str, list[int]] = {}
         for place, page in enumerate(self.pages):
             by_words.setdefault(join_page_text(page), []).append(place)
         return by_words
 
     def find_subtitle(self, page: Rows, frame: int) -> int | None:
-        """Return the position of the subtitle that has a page and begins nearest to a frame; `None`
-        for a blank page."""
+        """Return the position of the subtitle with this page that begins nearest to a frame.
+
+        Return `None` for a blank page, or if no subtitle has the page.
+        """
         places = self.by_page.get(page)
         return self.find_nearest(places, frame) if places and page != BLANK_PAGE else None
 
@@ -241,10 +252,10 @@ def run_program(program: str, *arguments: str) -> list[str]:
 
 def read_subtitles(program: str, stl: str, between: Between = ALL_DAY,
                    is_open: bool = False) -> list[Subtitle]:
-    """Return the subtitles of a file that begin in some frames, as `subttx show` prints them.
+    """Return the subtitles of a file that begin in the range `between`.
 
-    If `subttx show` rejects the file because of refused or open subtitles, the file is parsed in
-    Python instead.
+    Read them from the output of `subttx show`. If it rejects the file, because of refused or open
+    subtitles, parse the file in Python.
     """
     try:
         subtitles = decode_subtitles(read_stl(stl)) if is_open else \
@@ -260,7 +271,10 @@ def schedule_pages(program: str, stl: str, subtitles: list[Subtitle], page: Page
                    between: Between = ALL_DAY,
                    layout_arguments: Sequence[str] = ()) -> ExpectedPages:
     """Return the expected pages of a file's subtitles, decoded from the output of `subttx
-    schedule`. `layout_arguments` are options for drawing pages."""
+    schedule`.
+
+    `layout_arguments` has the options for drawing pages.
+    """
     if not subtitles:
         return ExpectedPages([], [])
     with make_temporary_folder("subttx-qc-") as folder:
@@ -275,18 +289,17 @@ def schedule_pages(program: str, stl: str, subtitles: list[Subtitle], page: Page
                          timeline)
 
 
-# A page transmission belongs to the nearest subtitle with its page. Search for it between the
-# previous TCO and the next TCI, but at least 250 frames before and after the TCI.
-
-
 class PageTransmissions:
-    """Finds the page transmissions of subtitles among the decoded pages."""
+    """Finds the page transmissions of subtitles among the decoded pages.
+
+    A page transmission belongs to the nearest subtitle with its page. The search window of a
+    subtitle lasts from the previous TCO to the next TCI, and at least from 250 frames before its
+    TCI to 250 frames after its TCI.
+    """
 
     def __init__(self, expected: ExpectedPages, timeline: Timeline) -> None:
         self.expected, self.timeline = expected, timeline
         self.subtitles, self.pages = expected.subtitles, expected.pages
-
-    # The subtitle that a fault belongs to
 
     def is_expected_page(self, frame: int) -> bool:
         """Return whether the page decoded in a frame is the expected page."""
@@ -303,8 +316,10 @@ class PageTransmissions:
         return [Span(begin, end - 1) for begin, end in zip(rising, [*rising[1:], last + 1])]
 
     def find_owner(self, frame: int) -> int:
-        """Return the position of the subtitle that a wrong page in a frame belongs to: the last
-        subtitle expected, or the subtitle whose page was sent at the wrong time."""
+        """Return the position of the subtitle that a wrong page in a frame belongs to.
+
+        This is the last expected subtitle, or the subtitle whose page was sent at the wrong time.
+        """
         place = self.expected.find_place(frame)
         number = self.timeline.number_at(frame)
         if place < 0 or number < 0:
@@ -324,15 +339,19 @@ class PageTransmissions:
         return sent
 
     def was_sent_by_cue(self, place: int) -> bool:
-        """Return whether the page of a subtitle came by its TCI or within the allowed delay."""
+        """Return whether the page of a subtitle was sent before or at its TCI, or at most the
+        allowed delay later."""
         came = self.find_transmission(place)
         begin = self.subtitles[place].begin
         return came is not None and came <= begin + self.timeline.within or \
             self.timeline.page_at(begin) == self.pages[place]
 
     def is_delayed_page(self, number: int, place: int, frame: int) -> bool:
-        """Return whether a page remains until the next subtitle's page comes within the allowed
-        delay. A fault of the page then belongs to the previous subtitle."""
+        """Return whether page `number` was wrong before the TCI of a subtitle, and only remains
+        during the allowed delay of this subtitle.
+
+        A fault of the page then belongs to the previous subtitle.
+        """
         begin, following = self.subtitles[place].begin, number + 1
         limit = begin + self.timeline.within
         return self.timeline.frames[number] < begin <= frame < limit and \
@@ -340,8 +359,11 @@ class PageTransmissions:
             not self.is_expected_page(begin - 1)
 
     def is_sent_for_next(self, number: int, place: int) -> bool:
-        """Return whether a page of no subtitle was sent for the next subtitle: it came after the
-        page of the current subtitle, and lasts longer during the next subtitle."""
+        """Return whether an unknown page was sent early for the next subtitle.
+
+        It was if it followed the page of the subtitle at `place`, but lasts longer during the next
+        subtitle.
+        """
         if place + 1 >= len(self.subtitles) or not self.is_unknown_page(number, place):
             return False
         one, following = self.subtitles[place], self.subtitles[place + 1]
@@ -350,8 +372,6 @@ class PageTransmissions:
             self.count_frames(number, following.begin, following.end) > \
             self.count_frames(number, one.begin, one.end)
 
-    # Finding transmissions
-
     def search_window(self, place: int) -> Span:
         """Return the frames in which to search for the page transmission of a subtitle."""
         begin = self.subtitles[place].begin
@@ -359,10 +379,11 @@ class PageTransmissions:
                     max(self.expected.after(place), begin + LEAST))
 
     def find_transmission(self, place: int) -> int | None:
-        """Return the frame nearest to the TCI in which the page of a subtitle came, or `None`.
+        """Return the frame nearest to the TCI in which the page of a subtitle was sent.
 
-        A page that came at the TCI of another subtitle was sent instead of that subtitle's page,
-        unless both subtitles are equally early or late.
+        Return `None` if it was not sent. A page that was sent at the TCI of another subtitle does
+        not count, because it replaced the page of that subtitle. It counts if both subtitles are
+        early or late by the same number of frames.
         """
         numbers = [frame for frame in self.find_transmissions(place)
                    if self.find_subtitle_at_cue(frame)
@@ -370,8 +391,7 @@ class PageTransmissions:
         return find_nearest(numbers, self.subtitles[place].begin)
 
     def find_transmissions(self, place: int) -> list[int]:
-        """Return all frames in the search window in which the page of a subtitle came for this
-        subtitle."""
+        """Return all frames in the search window in which the page was sent for this subtitle."""
         page, window = self.pages[place], self.search_window(place)
         frames = self.timeline.page_frames.get(page)
         if not frames or page == BLANK_PAGE:
@@ -382,14 +402,17 @@ class PageTransmissions:
                 if self.expected.find_subtitle(page, frame) == place]
 
     def find_subtitle_at_cue(self, frame: int) -> int | None:
-        """Return the subtitle that begins in a frame, or before it by up to the allowed delay."""
+        """Return the subtitle that begins in a frame, or at most the allowed delay before it."""
         place = self.expected.find_place(frame)
         is_in_time = place >= 0 and frame <= self.subtitles[place].begin + self.timeline.within
         return place if is_in_time else None
 
     def are_moved_together(self, place: int, frame: int) -> bool:
-        """Return whether the subtitle expected in a frame is sent as early or late as the subtitle
-        whose page came in this frame, allowing for delays."""
+        """Return whether two subtitles are early or late by the same number of frames.
+
+        One is the subtitle at `place`, whose page was sent in `frame`. The other is the subtitle
+        that is expected in `frame`. Their numbers may differ by the allowed delay.
+        """
         other = self.expected.find_place(frame)
         begin = self.subtitles[other].begin
         came = find_nearest(self.find_transmissions(other), begin)
@@ -397,8 +420,11 @@ class PageTransmissions:
         return came is not None and abs(came - begin - moved) <= self.timeline.within
 
     def find_unknown_page(self, place: int, came: int | None) -> int | None:
-        """Return the number of the page that belongs to no subtitle and lasts longest during a
-        subtitle before its own page came, or `None`. Pages from before the subtitle are ignored."""
+        """Return the number of the unknown page that was sent for a subtitle, or `None`.
+
+        If there are several, return the one that lasts longest during the subtitle. Ignore pages
+        after frame `came`, in which the subtitle's own page was sent.
+        """
         subtitle = self.subtitles[place]
         end = subtitle.end if came is None or came <= subtitle.begin else min(came, subtitle.end)
         least = subtitle.begin if place == 0 and came is not None else 0
@@ -410,27 +436,30 @@ class PageTransmissions:
         return numbers[lengths.index(max(lengths))] if numbers else None
 
     def belongs_to_subtitle(self, number: int, place: int) -> bool:
-        """Return whether a page came after the TCO of the previous subtitle, or was sent for this
-        subtitle."""
+        """Return whether page `number` was sent after the TCO of the previous subtitle, or was sent
+        early for this subtitle."""
         begin = min(self.expected.before(place), self.subtitles[place].begin)
         return self.timeline.frames[number] >= begin or \
             place > 0 and self.is_sent_for_next(number, place - 1)
 
     def is_unknown_page(self, number: int, place: int) -> bool:
         """Return whether a page belongs to no subtitle, and is neither blank nor an incomplete page
-        of a subtitle."""
+        of the subtitle at `place`."""
         page = self.timeline.pages[number]
         return page != BLANK_PAGE and page not in self.expected.by_page and \
             not is_partial_page(page, self.pages[place])
 
     def count_frames(self, number: int, begin: int, end: int) -> int:
-        """Return in how many frames from `begin` to before `end` a page is decoded."""
+        """Return the number of frames in `range(begin, end)` in which page `number` is decoded."""
         stretch = self.timeline.page_span(number)
         return min(stretch.last + 1, end) - max(stretch.first, begin)
 
     def find_other_at_cue(self, place: int) -> int | None:
-        """Return another subtitle whose page came at a subtitle's TCI or within the allowed delay,
-        unless both subtitles are sent equally early or late."""
+        """Return another subtitle whose page was sent at the TCI of the subtitle at `place`.
+
+        The page may be late by the allowed delay. Return `None` if there is no such subtitle, or if
+        both subtitles are early or late by the same number of frames.
+        """
         subtitle = self.subtitles[place]
         limit = min(subtitle.begin + self.timeline.within + 1, subtitle.end)
         for number in self.timeline.page_numbers(subtitle.begin, limit):
@@ -442,8 +471,11 @@ class PageTransmissions:
         return None
 
     def find_other_during(self, place: int) -> int | None:
-        """Return another subtitle whose page came during a subtitle, but not at the time of the
-        other subtitle."""
+        """Return another subtitle whose page was sent during the subtitle at `place`.
+
+        Return `None` if there is none. Ignore the page transmissions that belong to the other
+        subtitles.
+        """
         subtitle = self.subtitles[place]
         for number in self.timeline.page_numbers(subtitle.begin, subtitle.end):
             frame = self.timeline.frames[number]
