@@ -33,11 +33,11 @@ from .single import (
 
 
 # A forked process judges each pair, since loading the modules takes ten times as long as judging a
-# small pair. If the process crashes or hangs, only its pair is not judged.
+# small pair. If the process crashes or hangs, the other pairs are still judged.
 
 PRELOADED = page  # loaded before forking, since each process may write a report
 INPUT, OUTPUT, ERRORS = range(3)
-FILES = "/proc/self/fd"  # the open files of this process
+FILES = "/proc/self/fd"  # folder that lists the open files of this process
 
 
 def judge_forked_pair(request: Request, call: PairOptions) -> int:
@@ -58,11 +58,11 @@ def judge_forked_pair(request: Request, call: PairOptions) -> int:
 
 
 class ForkedProcess:
-    """A forked process that calls a function and exits with its result as the status. It has no
-    standard input and output; its lines on standard error can be read when it has ended."""
+    """A forked process that calls a function and uses its result as the exit status. Its standard
+    input and output are /dev/null. Its lines on standard error can be read after it has ended."""
 
     def __init__(self, function: Callable[[], int]) -> None:
-        # The error messages are in a file in memory, since the disk may be full.
+        # The error messages go to a file in memory, since the disk may be full.
         self.errors = open(os.memfd_create("errors"), "w+b", buffering=0)
         # This pipe is open until the process ends; its children do not inherit it.
         self.alive_pipe, alive = os.pipe()
@@ -79,7 +79,7 @@ class ForkedProcess:
             os.close(alive)
 
     def fileno(self) -> int:
-        """Return the descriptor of a pipe that closes when the process ends, for `select`."""
+        """Return the descriptor of a pipe, for `select`. The pipe closes when the process ends."""
         return self.alive_pipe
 
     def stop(self) -> None:
@@ -101,8 +101,8 @@ class ForkedProcess:
         return cpu_seconds_of(str(self.pid))
 
     def wait(self) -> tuple[int, list[str]]:
-        """Wait for the end of the process; return its exit status, negative for a signal, and its
-        lines on standard error."""
+        """Wait until the process ends. Return its exit status, which is negative for a signal, and
+        its lines on standard error."""
         _, status = os.waitpid(self.pid, 0)
         os.close(self.alive_pipe)
         with self.errors:
@@ -112,11 +112,11 @@ class ForkedProcess:
 
 
 def cpu_seconds_of(process: str) -> float:
-    """Return the CPU time in seconds used by a process and by its ended children; 0 if the process
-    does not exist."""
+    """Return the CPU time in seconds of a process and its ended children, or 0 if it does not
+    exist."""
     try:
         with open(f"/proc/{process}/stat", encoding="utf-8", errors="replace") as file:
-            times = file.read().rpartition(")")[2].split()[11:15]  # fields after the name
+            times = file.read().rpartition(")")[2].split()[11:15]  # utime, stime, cutime, cstime
     except OSError:
         return 0.0
     return sum(map(int, times)) / os.sysconf("SC_CLK_TCK")
@@ -133,8 +133,8 @@ def hold_signals() -> Iterator[None]:
 
 
 def run_and_exit(function: Callable[[], int], errors_file: int, alive: int) -> NoReturn:
-    """Make this forked process independent, run the function and exit, without the cleanup of the
-    parent process."""
+    """Run the function in this forked process and exit with its result as the status. Keep only the
+    files `errors_file` and `alive` open, and skip the cleanup of the parent process."""
     status = 2
     try:
         try:
@@ -147,7 +147,7 @@ def run_and_exit(function: Callable[[], int], errors_file: int, alive: int) -> N
         finally:
             os._exit(status)
     finally:
-        os._exit(2)  # a signal interrupted the inner block
+        os._exit(2)  # if a signal interrupted the inner block
 
 
 def redirect_files(errors_file: int, alive: int) -> None:
@@ -165,30 +165,29 @@ def redirect_files(errors_file: int, alive: int) -> None:
 
 
 def wait_for_any(calls: Collection[ForkedProcess], seconds: float) -> list[ForkedProcess]:
-    """Wait at most some seconds until any process ends; return the ended processes."""
+    """Wait up to `seconds` until at least one process ends. Return the processes that have
+    ended."""
     calls_by_file, poll = {call.fileno(): call for call in calls}, select.poll()
     for file in calls_by_file:
         poll.register(file, select.POLLIN)
     return [calls_by_file[file] for file, _ in poll.poll(1000 * seconds)]
 
 
-# Judging several pairs at the same time; by default, as many as there are processors
-
 POLL_SECONDS = 0.2
-# Default CPU time limit of a pair. Even a small file can take hours.
 LEAST_SECONDS, BYTES_PER_SECOND = 60, 10_000_000
 GRACE_SECONDS = 10  # seconds from SIGTERM to SIGKILL, so that a process can write its result
 
 
 def default_limit(files: Mapping[str, Any]) -> int:
-    """Return the CPU time limit of a pair in seconds, from the sizes of its files. RLIMIT_CPU is
-    not used, since it would not show which limit ended a program."""
+    """Return the CPU time limit of a pair in seconds, which depends on the sizes of its files.
+    RLIMIT_CPU is not used, since it would not show which limit ended a program."""
     size: int = sum(about["size"] for about in files.values() if about)
     return LEAST_SECONDS + size // BYTES_PER_SECOND
 
 
 class RunningPair(NamedTuple):
-    """A pair that is being judged, with its CPU time limit in seconds, and its lock."""
+    """A pair that is being judged, with its CPU time limit in seconds and the lock of its
+    results."""
 
     item: BatchItem
     limit: int
@@ -197,7 +196,7 @@ class RunningPair(NamedTuple):
 
 class PairRunner:
     """Runs the processes that judge pairs. Each process writes the JSON result of its pair into the
-    folder `out`, or without an output folder into the temporary folder `folder`."""
+    output folder `out`, or into the temporary folder `folder` if there is no output folder."""
 
     def __init__(self, command_paths: CommandPaths, folder: str, out: str | None, is_kept: bool,
                  limit: int | None = None) -> None:
@@ -208,7 +207,7 @@ class PairRunner:
         self.running: dict[ForkedProcess, RunningPair] = {}
         self.over_limit: set[ForkedProcess] = set()
         self.inputs = NO_INPUTS  # inputs of all pairs
-        self.unwritten_results: dict[str, dict[str, Any]] = {}  # could not be written
+        self.unwritten_results: dict[str, dict[str, Any]] = {}  # results that could not be written
         self.in_use: set[str] = set()  # names of pairs whose files another run of qc was writing
         self.is_stopped = False
         describe_program(command_paths.program_path)  # caches the checksum for forked processes
@@ -218,8 +217,9 @@ class PairRunner:
         return os.path.join(self.out or self.folder, item.name + ENDING)
 
     def start(self, item: BatchItem) -> Row | None:
-        """Start to judge a pair. Return its row at once if the pair can't be judged: its results
-        would replace input files or foreign files, or another run of qc is writing them."""
+        """Start judging a pair. Return its row at once if the pair can't be judged: its results
+        would replace input files or foreign files, or another run of qc is writing them. Otherwise
+        return `None`."""
         self.unwritten_results.pop(item.name, None)
         self.in_use.discard(item.name)
         claim = contextlib.ExitStack()
@@ -235,10 +235,11 @@ class PairRunner:
             self.unwritten_results[item.name] = result
             return make_row(result, item.name)
         finally:
-            claim.close()  # no effect if the process has taken over the lock
+            claim.close()  # no effect once `self.running` has the lock
 
     def start_claimed(self, item: BatchItem, claim: contextlib.ExitStack) -> Row | None:
-        """Start to judge a pair after its results were locked."""
+        """Start judging a pair whose results are locked. Return its row if that fails, else
+        `None`."""
         if self.out is not None:
             remove_results(self.out, item.name, self.parts)
         if item.request is None:
@@ -257,7 +258,8 @@ class PairRunner:
         return None
 
     def finished_rows(self, seconds: float) -> Iterator[Row]:
-        """Wait at most some seconds until a process ends; yield the rows of the pairs judged."""
+        """Wait up to `seconds` until a process ends. Yield the rows of the pairs whose processes
+        have ended, and stop the processes that are over their limit."""
         for call in wait_for_any(self.running, seconds):
             yield self.finish(call)
         for call, begun in self.running.items():
@@ -267,7 +269,7 @@ class PairRunner:
                 (call.kill if more >= GRACE_SECONDS else call.stop)()
 
     def finish(self, call: ForkedProcess) -> Row:
-        """Read the result of an ended process, and return the row of its pair."""
+        """Read the result of an ended process. Return the row of its pair."""
         item, limit, claim = self.running.pop(call)
         is_over = call in self.over_limit
         self.over_limit.discard(call)
@@ -284,7 +286,7 @@ class PairRunner:
             claim.close()
 
     def record_unjudged(self, item: BatchItem, reason: str) -> Row:
-        """Write a JSON result `not judged` for a pair, if possible, and return its row."""
+        """Write a JSON result `not judged` for a pair, if possible. Return its row."""
         result = make_unjudged(item.name, reason)
         try:
             if not self.is_stopped:
@@ -295,19 +297,19 @@ class PairRunner:
         return make_row(result, item.name)
 
     def stop(self) -> None:
-        """Stop all running processes, whose pairs then have no result."""
+        """Stop all running processes. Pairs whose judging is stopped get no result."""
         self.is_stopped = True
         for call in self.running:
             call.stop()
         while self.running:
             call, begun = next(iter(self.running.items()))
-            if not self.finish(call).is_judged:  # stopped before its end
+            if not self.finish(call).is_judged:  # the process was stopped before it finished
                 with contextlib.suppress(OSError):
                     os.unlink(self.result_path(begun.item))
 
 
 def judge_batch(args: argparse.Namespace, program_name: str) -> int:
-    """Judge all pairs in a folder or list; return the exit status."""
+    """Judge all pairs in a folder or list. Return the exit status."""
     command_paths = CommandPaths(program_name, args.program)
     if args.is_resumed and args.out is None:
         raise Stop("--resume needs -o, the folder with the results of an earlier call")
@@ -355,7 +357,7 @@ def is_reusable(result: dict[str, Any] | None, item: BatchItem, program: Program
 def judge_all(calls: PairRunner, items: list[BatchItem], kept: dict[str, Row], jobs: int,
              handle_row: Callable[[Row], None] = lambda row: None) -> dict[str, Row]:
     """Judge pairs, show the progress, and return the rows of the pairs. `handle_row` is called with
-    each row. After a signal, return the rows of the pairs judged so far."""
+    each new row. After a signal, return the rows of the pairs judged so far."""
     progress, began, rows = Progress(), time.monotonic(), dict(kept)
     waiting = collections.deque(item for item in items if item.name not in kept)
     try:
@@ -380,7 +382,8 @@ def judge_all(calls: PairRunner, items: list[BatchItem], kept: dict[str, Row], j
 
 def judge_next(calls: PairRunner, waiting: collections.deque[BatchItem],
                jobs: int) -> Iterator[Row]:
-    """Start waiting pairs, up to `jobs` at a time; yield the rows of the pairs that have ended."""
+    """Start waiting pairs, so that up to `jobs` run at a time. Yield the rows of the pairs that
+    have ended."""
     while waiting and len(calls.running) < jobs:
         row = calls.start(waiting.popleft())
         if row:
@@ -391,19 +394,20 @@ def judge_next(calls: PairRunner, waiting: collections.deque[BatchItem],
 # A watched folder is judged like a batch that is resumed repeatedly. A pair is judged when both of
 # its files are complete.
 
-SCAN_SECONDS = 1.0  # seconds; notifications would miss files written by other machines
+SCAN_SECONDS = 1.0  # file notifications would miss files written by other machines
 DONE_SUFFIX = ".done"  # suffix of a file that marks both files of a pair as complete
 
 
 class Sighting(NamedTuple):
-    """The state of a pair's files, or why they are no pair, and when it was first seen."""
+    """The state of a pair's files and the time when this state was first seen. If the files are not
+    a valid pair, the state is the reason."""
 
     file_state: object
     seen_at: float
 
 
 class FolderWatch:
-    """Finds complete pairs in a folder. `handled` has the file states of the pairs that were
+    """Finds complete pairs in a folder. `handled` has the state of the files of each pair that was
     already judged or reported."""
 
     def __init__(self, folder: str, settled: int) -> None:
@@ -412,7 +416,8 @@ class FolderWatch:
         self.handled: dict[str, object] = {}
 
     def ready_items(self, items: Iterable[BatchItem]) -> list[BatchItem]:
-        """Return the complete pairs that are new or changed; report once if files are no pair."""
+        """Return the complete pairs that are new or changed. If files are not a valid pair, print
+        the reason once."""
         now, ready = time.monotonic(), []
         for item in items:
             file_state = describe_inputs(item.request) if item.request else item.reason
@@ -427,8 +432,8 @@ class FolderWatch:
         return ready
 
     def is_complete(self, name: str, file_state: object, now: float) -> bool:
-        """Return whether the files of a pair are complete: there is a file PAIR.done, or they have
-        not changed for `settled` seconds."""
+        """Return whether the files of a pair are complete: there is a file PAIR.done, or the files
+        have not changed for `settled` seconds."""
         if os.path.exists(os.path.join(self.folder, name + DONE_SUFFIX)):
             return True
         seen = self.seen.get(name)
@@ -451,7 +456,7 @@ def refuse_folders(args: argparse.Namespace) -> None:
 
 
 def watch(args: argparse.Namespace, program_name: str) -> int:
-    """Judge pairs as they arrive, until a signal; return status 2. Pairs that were being judged at
+    """Judge pairs as they arrive, until a signal. Return status 2. Pairs that were being judged at
     the signal have no result, and are judged after a restart."""
     refuse_folders(args)
     command_paths = CommandPaths(program_name, args.program)

@@ -24,8 +24,6 @@ from ..results.schema import FORMAT
 from .single import now, refuse_folder_files
 
 
-# The HTML page with all pairs of a folder, worst verdict first
-
 STYLE = Markup("""<style>
 :root { --ground: #fff; --words: #1b1e23; --soft: #545c66; --line: #c3c9d1; --shade: #f1f3f6;
   --link: #0b57b0; --good: #0a6b33; --bad: #b3150f; --amber: #855400; --lost: #6a3a9c;
@@ -66,7 +64,7 @@ MAX_CAUSES = 6
 
 
 def make_index_page(folder: str, rows: Sequence[Row], date: str) -> bytes:
-    """Return the HTML page with all pairs of a folder."""
+    """Return the HTML page with all pairs of a folder, worst verdict first."""
     verdicts = collections.Counter(row.verdict for row in rows)
     counts = ", ".join(f"{verdicts[one]} {one}" for one in sorted(verdicts))
     title = f"{counted(len(rows), 'pair')}: {counts}"
@@ -93,7 +91,7 @@ def make_index_page(folder: str, rows: Sequence[Row], date: str) -> bytes:
 
 
 def make_cause_totals(rows: Sequence[Row]) -> Markup:
-    """Return a paragraph with the number of subtitles or faults, and of pairs, for each cause."""
+    """Return a paragraph with the totals for each cause: its subtitles or faults, and its pairs."""
     causes, pairs = collections.Counter[str](), collections.Counter[str]()
     for row in rows:
         causes.update(row.causes)
@@ -105,7 +103,7 @@ def make_cause_totals(rows: Sequence[Row]) -> Markup:
 
 def sort_key(row: Row) -> tuple[int, str]:
     """Return a key that sorts refused pairs first, then pairs that were not judged, then waived and
-    relative pairs, then accepted pairs."""
+    relative pairs, and accepted pairs last."""
     ranks = {NOT_JUDGED: 1, WAIVED: 2, RELATIVE: 2, ACCEPTED: 3}
     return ranks.get(row.verdict, 0), row.name
 
@@ -147,7 +145,8 @@ TABLE_HEADS = ("pair", "verdict", "faults", "worst fault")
 
 
 def collect(args: argparse.Namespace) -> int:
-    """Combine the JSON results in a folder into a page and files; return the exit status."""
+    """Combine the JSON results in a folder into one page and the requested files. Return the exit
+    status."""
     folder = args.collect
     refuse_output_names(args)
     if not os.path.isdir(folder):
@@ -200,12 +199,13 @@ def write_collection(args: argparse.Namespace, rows: Sequence[Row], sources: Seq
     return status()
 
 
-PAIRS_PER_SECOND = 1000  # limits how often the page of a watched folder is rewritten
+# A page with N pairs in a watched folder is rewritten at most every N / 1000 seconds.
+PAIRS_PER_SECOND = 1000
 
 
 class FolderRows:
     """The rows of the results in a folder. `identities` has the members of each result that show
-    whether the result is up to date."""
+    whether it is up to date."""
 
     IDENTITY_KEYS = "request", "files_at_start", "program", "verdict"
 
@@ -221,7 +221,7 @@ class FolderRows:
                                          if key in result}
 
     def add(self, row: Row) -> None:
-        """Print the verdict on a pair, and keep its row for the page."""
+        """Print the verdict on a pair, and add its row to the page."""
         self.rows[row.name], self.is_page_old = row, True
         line = worst_fault(row)
         when = time.strftime("%Y-%m-%d %H:%M:%S")
@@ -230,7 +230,7 @@ class FolderRows:
 
     def write_page(self, is_last: bool = False) -> None:
         """Write the page if there is a new verdict. Unless `is_last`, wait one second per thousand
-        pairs between writes, since a longer page takes longer to write."""
+        pairs after each write, since a longer page takes longer to write."""
         if not self.is_page_old or not is_last and time.monotonic() < self.next_page:
             return
         try:
@@ -243,7 +243,8 @@ class FolderRows:
 
 def refuse_output_names(args: argparse.Namespace, inputs: Inputs = NO_INPUTS,
                         folder: str | None = None) -> None:
-    """Raise `Stop` if an output file, or the page of a folder, can't be written or is an input."""
+    """Raise `Stop` if an output file can't be written or is an input. Do the same for the page in a
+    folder."""
     for path in (args.json, args.csv, args.junit):
         if path is not None:
             refuse_output_name(path)
@@ -253,7 +254,7 @@ def refuse_output_names(args: argparse.Namespace, inputs: Inputs = NO_INPUTS,
 
 
 def write_index(folder: str | None, rows: Sequence[Row]) -> None:
-    """Write the page with all pairs of a folder; do nothing if the folder is `None`."""
+    """Write the page with all pairs of a folder. If the folder is `None`, do nothing."""
     if folder is None:
         return
     with open_result(index_path(folder)) as file:
@@ -291,7 +292,8 @@ def format_progress(rows: dict[str, Row], count: int, kept: int, began: float) -
 
 
 def worst_fault(row: Row) -> str:
-    """Return in one line the worst fault of a pair and its hint, or why the pair was not judged."""
+    """Return in one line the worst fault of a pair with its hint, or the reason why the pair was
+    not judged."""
     if row.verdict == ACCEPTED or not row.line:
         return ""
     if row.verdict == RELATIVE and not row.faults:
@@ -313,7 +315,7 @@ def json_chunks(sources: Sequence[ResultSource], status: int, date: str) -> Iter
 
 
 def load_result(source: ResultSource) -> dict[str, Any]:
-    """Return the JSON result of a pair; the result is `not judged` if its file was deleted."""
+    """Return the JSON result of a pair. If its file was deleted, return a result `not judged`."""
     if isinstance(source, dict):
         return source
     name = os.path.basename(source).removesuffix(ENDING)

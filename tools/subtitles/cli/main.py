@@ -16,14 +16,13 @@ from ..request.request import (
 from ..results import files
 
 
-# The options that apply to more than one pair, and the modes that accept each of them
-
 CALLS = (PAIR, ALONE, BATCH, WATCH)
 OUTPUT_MODES = (PAIR, ALONE, BATCH, COLLECT)
 
 
 def make_number_parser(what: str, least: int, most: int) -> Callable[[str], int]:
-    """Return a parser for numbers from a minimum to a maximum."""
+    """Return a parser for numbers from `least` to `most`. `what` names the number in error
+    messages."""
 
     def parse_number(text: str) -> int:
         is_number = text.isascii() and text.isdecimal() and len(text) <= len(str(most))
@@ -75,7 +74,7 @@ OPTION_MODES = {one.name: one.modes for one in (*OPTIONS, *CALL_OPTIONS)}
 
 
 def find_mode(args: argparse.Namespace) -> Mode:
-    """Return the mode of a command line; raise `Stop` if there are two modes."""
+    """Return the mode that a command line selects. Raise `Stop` if it selects more than one."""
     values = {BATCH: args.batch, COLLECT: args.collect, WATCH: args.watch,
              MEASURE: args.measure}
     given = [mode for mode, value in values.items() if value is not None]
@@ -93,7 +92,7 @@ def list_given_options(parser: ToolParser, line: Sequence[str]) -> list[str]:
     values = parser.parse_args([*line], argparse.Namespace(**dict.fromkeys(
         names.values(), missing)))
     given = {field for field, value in vars(values).items() if value is not missing}
-    # If two options set the same field, return the option on the command line.
+    # If two options set the same field, only return the option on the command line.
     words = {word.partition("=")[0] for word in line}
     return [name for name in OPTION_MODES if names.get(name) in given and (
         name in words or not words & {other for other in names if names[other] == names[name]})]
@@ -106,9 +105,8 @@ def refuse_options(parser: ToolParser, line: Sequence[str], mode: Mode) -> None:
             raise Stop(describe_mode_conflict(name, OPTION_MODES[name], mode))
 
 
-# The command line.
 def make_parser(text: str) -> ToolParser:
-    """Return the argument parser of tools/qc; its help begins with `text`."""
+    """Return the argument parser of tools/qc. Its help begins with `text`."""
     parser = ToolParser(text)
     parser.add_argument("stl", metavar="STL", nargs="?", help="the subtitle file")
     parser.add_argument("recording", metavar="RECORDING", nargs="?",
@@ -119,8 +117,8 @@ def make_parser(text: str) -> ToolParser:
 
 
 def main(text: str, program_name: str, line: list[str]) -> int:
-    """Run a command line of qc and return the exit status. If it fails before judging, write the
-    reason to the files of --json, --csv and --junit."""
+    """Run a command line of qc and return the exit status. If it fails before judging begins, write
+    the reason to the files of --json, --csv and --junit."""
     try:
         status = dispatch(text, program_name, line)
         sys.stdout.flush()
@@ -142,7 +140,7 @@ def write_unjudged(name: str, paths: dict[str, str | None], reason: str) -> None
 
 
 def make_testcase(result: dict[str, Any]) -> list[bytes]:
-    """Return the JUnit file for a pair that was not judged."""
+    """Return the JUnit file, with its single test case, for a pair that was not judged."""
     case = files.TestCase(result["name"], result["verdict"], result["status"], result["reason"], [],
                           0.0)
     return [files.junit_file([case], single.now())]
@@ -168,13 +166,13 @@ def find_output_path(line: Sequence[str], option: str) -> str | None:
 
 def find_pair_name(line: Sequence[str]) -> str:
     """Return the name of the pair, from the first argument that ends in .stl, even if other
-    arguments are invalid. Return an empty text if no argument ends in .stl."""
+    arguments are invalid. Return an empty string if no argument ends in .stl."""
     stl = next((word for word in line if word.lower().endswith(".stl")), "")
     return os.path.splitext(os.path.basename(stl))[0]
 
 
 def dispatch(text: str, program_name: str, line: list[str]) -> int:
-    """Run the mode of a command line and return the exit status."""
+    """Run qc in the mode that the command line selects. Return the exit status."""
     refuse_options(make_parser(text), line, find_mode(make_parser(text).parse_args(line)))
     args = read_options(make_parser(text), line, {}, {}, is_typed=True)
     if args.is_kept and args.out is None:

@@ -1,4 +1,4 @@
-"""--measure: propose a profile from correct recordings, with evidence for each option."""
+"""Propose a profile from correct recordings (`--measure`), with evidence for each option."""
 from __future__ import annotations
 
 import argparse
@@ -41,25 +41,27 @@ from .single import now
 
 
 MAX_EXAMPLES = 5  # maximum number of counterexamples to list
-MAX_EARLY = 25  # frames before a TCI in which to search for its page
-GOOD_STATUSES = {0, 3}  # exit statuses of the verdicts accepted and relative
+MAX_EARLY = 25  # number of frames before a TCI in which to search for the subtitle's page
+GOOD_STATUSES = {0, 3}  # exit statuses for the verdicts accepted and relative
 
 
 class Finding(NamedTuple):
-    """A proposed option as text, empty if no option is proposed, and lines with the evidence."""
+    """A proposed option and lines with the evidence. The option is an empty string if none is
+    proposed."""
 
     text: str
     lines: Sequence[str]
 
     def list_subtitles(self) -> Iterator[str]:
-        """Yield the lines of the finding in a profile."""
+        """Yield the lines that this finding adds to a profile."""
         yield from (f"# {line}" for line in self.lines)
         if self.text:
             yield self.text
 
 
 class ReceivedSubtitle(NamedTuple):
-    """A subtitle, and the page with its text that was sent at its time."""
+    """A subtitle of the file `stl`, and the page with the subtitle's text that was sent while the
+    subtitle was expected."""
 
     stl: str
     subtitle: Subtitle
@@ -67,12 +69,9 @@ class ReceivedSubtitle(NamedTuple):
 
     @property
     def name(self) -> str:
-        """Return the file, the position and the time of the subtitle."""
+        """Return a description of the subtitle: its file, position and time."""
         subtitle = self.subtitle
         return f"{self.stl}, {subtitle.name} at {time_of(subtitle.begin)}"
-
-
-# Repetition of the page
 
 
 def propose_every(all_repeats: Sequence[Repeats]) -> Finding:
@@ -92,8 +91,6 @@ def propose_every(all_repeats: Sequence[Repeats]) -> Finding:
             for since, frames in repeats.exceptions if frames > worst.longest]))
 
 
-# Intervals between PES packets
-
 WHY_NONE = {
     IRREGULAR: "PES packets come at irregular intervals", PAUSED: "PES packets pause",
     BY_EVERY: "--every shows each loss", TOO_FEW: "PES packets are too few, or "
@@ -101,7 +98,7 @@ WHY_NONE = {
 
 
 def propose_pace(paces: Sequence[Pace]) -> Finding:
-    """Propose --pace: the maximum PES interval in all recordings."""
+    """Propose --pace: the longest interval between PES packets in all recordings."""
     frames = [pace.frames for pace in paces]
     known_frames = [pace for pace in frames if pace is not None]
     if not known_frames or len(known_frames) < len(frames):
@@ -115,12 +112,10 @@ def propose_pace(paces: Sequence[Pace]) -> Finding:
         "one PES packet to the next"])
 
 
-# Delays of cues, if the clock was given
-
-
 class Delays(NamedTuple):
-    """The number of in-cues and out-cues with each delay in frames; descriptions of early cues and
-    of subtitles that were never sent; and the late cues with their delays."""
+    """The delays of cues. `begins` and `ends` count the in-cues and out-cues with each delay in
+    frames. `early` and `unseen` describe early cues and subtitles that were never sent. `late` has
+    the late cues with their delays."""
 
     begins: collections.Counter[int]
     ends: collections.Counter[int]
@@ -131,8 +126,8 @@ class Delays(NamedTuple):
 
 def measure_delays(stl: str, subtitles: Sequence[Subtitle], held: Timeline,
                    option: NationalOption) -> Delays:
-    """Measure the delays of a file's cues by the decoded text. If two subtitles adjoin, the first
-    one ends when the text of the second one begins."""
+    """Measure the delays of a file's cues from the decoded text. If a subtitle ends when the next
+    begins, do not count its out-cue."""
     late = list[tuple[int, str]]()
     delays = Delays(collections.Counter(), collections.Counter(), [], [], late)
     rows = [(one, find_text_letters(one.text, option)) for one in subtitles]
@@ -160,7 +155,8 @@ def measure_delays(stl: str, subtitles: Sequence[Subtitle], held: Timeline,
 
 def add_delays(counts: collections.Counter[int], early: list[str], late: list[tuple[int, str]],
          delay: int, name: str) -> None:
-    """Count the delay of a cue; a negative delay is early."""
+    """Count the delay of a cue in `counts`. If the delay is negative, describe the cue in `early`
+    instead. If it is positive, add it to `late` too."""
     if delay < 0:
         early.append(f"{name} {counted(-delay, 'frame')} early")
         return
@@ -170,7 +166,7 @@ def add_delays(counts: collections.Counter[int], early: list[str], late: list[tu
 
 
 def remove_unusual(delays: collections.Counter[int]) -> collections.Counter[int]:
-    """Return the delays except the longest ones, as long as these are rare."""
+    """Return the delays without the longest ones, which are removed if they are rare."""
     usual, rest = collections.Counter(delays), 0
     for delay in sorted(delays, reverse=True):
         rest += delays[delay]
@@ -181,8 +177,8 @@ def remove_unusual(delays: collections.Counter[int]) -> collections.Counter[int]
 
 
 def find_text_begin(held: Timeline, subtitle: Subtitle, letters: bytes, earlier: int) -> int | None:
-    """Return the first frame with the text of a subtitle, from `earlier` frames before its TCI
-    on."""
+    """Return the first frame with the text of a subtitle, or `None`. The search starts `earlier`
+    frames before its TCI."""
     numbers = held.page_numbers(max(subtitle.begin - earlier, 0), subtitle.end)
     return next((held.page_span(number).first for number in numbers
                  if find_page_letters(held.pages[number]) == letters), None)
@@ -190,7 +186,8 @@ def find_text_begin(held: Timeline, subtitle: Subtitle, letters: bytes, earlier:
 
 def find_text_end(held: Timeline, subtitle: Subtitle, letters: bytes, first: int,
                   limit: int) -> int:
-    """Return the last frame with the text of a subtitle, up to some frames after its TCO."""
+    """Return the last frame with the text of a subtitle. The search ends soon after its TCO, and
+    not after frame `limit`."""
     end = min(subtitle.end + MAX_WITHIN + 1, limit)
     numbers = held.page_numbers(first, max(end, subtitle.end))
     return max(held.page_span(number).last for number in numbers
@@ -199,9 +196,11 @@ def find_text_end(held: Timeline, subtitle: Subtitle, letters: bytes, first: int
 
 def propose_lateness(several: Sequence[Delays], without: Sequence[str],
                off_frame: tuple[int, int] = (0, 0)) -> Iterator[Finding]:
-    """Propose --within and --late from the recordings whose clock was given. `without` are the
-    recordings without a clock. `off_frame` counts the PTS that are not on a frame, and all PTS: if
-    the former are not rare, --within is at least 1."""
+    """Propose --within and --late from the recordings whose clock was given.
+
+    `without` are the recordings without a clock. `off_frame` has the number of PTS that are not on
+    a frame, and the number of all PTS. If the PTS off a frame are not rare, --within is at least 1.
+    """
     off, count = off_frame
     least = int(off * RARE >= count > 0)
     lines = [f"within: {off} of {count} PTS are off their frames, which "
@@ -242,19 +241,17 @@ def format_delays(counts: collections.Counter[int]) -> str:
 
 
 def named_lines(what: str, names: Sequence[str]) -> list[str]:
-    """Return a line with the first names in a list, and the number of other names."""
+    """Return one line with the first names in a list and the number of other names. If the list is
+    empty, return no line."""
     if not names:
         return []
     more = f", and {len(names) - MAX_EXAMPLES} more" if len(names) > MAX_EXAMPLES else ""
     return [f"{what}: {'; '.join(names[:MAX_EXAMPLES])}{more}"]
 
 
-# C4 (erase page) and the national option in page headers
-
-
 def propose_keeping(headers: int, keeping: int, is_alone: bool) -> Finding:
-    """Propose --keeping if many headers keep the page. `is_alone` says that no header has any other
-    fault."""
+    """Propose --keeping if many headers keep the page. `is_alone` is true if no header has any
+    other fault."""
     lines = [f"keeping: C4 (erase page) is clear in {keeping} of {counted(headers, 'header')}"]
     is_habit = keeping > 0 and keeping * RARE >= headers
     if keeping and not is_habit:
@@ -265,22 +262,21 @@ def propose_keeping(headers: int, keeping: int, is_alone: bool) -> Finding:
 
 
 def propose_option(options: Iterable[str], judged: str) -> Finding:
-    """Propose the national option that all page headers have."""
+    """Propose the national option if it is the same in all page headers. `judged` is the option
+    with which the text was decoded."""
     sent = sorted(options)
     lines = [f"option: {' and '.join(sent) or 'unknown'} by C12 to C14 of the headers; the text "
              f"was read as {judged}"]
     return Finding(f"--option {sent[0]}" if len(sent) == 1 else "", lines)
 
 
-# The layout of the inserter
-
 # Matches spaces after the codes that open a box, or before the codes that close it.
 SPACE_IN_BOX = re.compile(rb"^[\x00-\x1f]*\x0b[\x00-\x1f]* | [\x00-\x1f]*\x0a[\x00-\x1f]*$")
 
 
 def propose_layout(sendings: Sequence[ReceivedSubtitle], option: NationalOption) -> Finding:
-    """Propose the layout that draws nearly all subtitles as they were sent, with counterexamples.
-    If there is no such layout, describe the nearest one."""
+    """Propose the layout that draws nearly all subtitles as they were sent, and list the
+    exceptions. If there is no such layout, describe the nearest one."""
     closest, choice = choose_layouts([sending.sent for sending in sendings], option)
     if closest.total < FEWEST:
         return Finding("", [f"layout: {counted(closest.total, 'subtitle')} found with their text, "
@@ -298,7 +294,8 @@ def propose_layout(sendings: Sequence[ReceivedSubtitle], option: NationalOption)
 
 
 def list_omitted_items(choice: LayoutChoice) -> list[str]:
-    """Describe which items would draw more subtitles as sent, and why they are not proposed."""
+    """Return a line for each item that was not proposed although more subtitles would be drawn as
+    sent, with the reason."""
     return [f"{left.text} would draw {left.more} more of {choice.total}: "
             f"{explain_omission(left.whole)}" for left in choice.left]
 
@@ -316,7 +313,7 @@ def list_counterexamples(choice: LayoutChoice, sendings: Sequence[ReceivedSubtit
 
 
 def page_text(choice: LayoutChoice, sent: SentSubtitle, option: NationalOption) -> str:
-    """Return the page with a subtitle in a layout."""
+    """Describe the page on which the chosen layout draws a subtitle."""
     lines = draw_text(sent.text, sent.row, sent.justify, choice.layout, option)
     return f"nothing: refused {lines.number}" if isinstance(lines, TextFault) else \
         format_cells(make_page_rows(lines))
@@ -325,7 +322,7 @@ def page_text(choice: LayoutChoice, sent: SentSubtitle, option: NationalOption) 
 def explain_missing_layout(nearest: LayoutChoice, sendings: Sequence[ReceivedSubtitle],
                            option: NationalOption) \
         -> Iterator[str]:
-    """Yield the reasons why no layout is proposed, and the nearest layout."""
+    """Yield the reasons why no layout is proposed, and a description of the nearest layout."""
     others = [sending.sent for sending in sendings
               if not draws_as_sent(nearest.layout, sending.sent, option)]
     text = format_layout(nearest.layout)
@@ -339,13 +336,13 @@ def explain_missing_layout(nearest: LayoutChoice, sendings: Sequence[ReceivedSub
 
 
 def is_spaced(sent: SentSubtitle, _: LayoutChoice, option: NationalOption) -> bool:
-    """Return whether a line has spaces at its beginning or end, within the box."""
+    """Return whether a sent line has spaces at its beginning or end, within the box."""
     return any(SPACE_IN_BOX.search(row.strip(b" ")) for row in sent.rows)
 
 
 def is_block(sample: SentSubtitle, nearest: LayoutChoice, option: NationalOption) -> bool:
-    """Return whether all sent lines begin in the same column, but not the lines that the layout
-    draws."""
+    """Return whether all sent lines begin in the same column, while the lines that the layout draws
+    do not."""
     lines = draw_text(sample.text, sample.row, sample.justify, nearest.layout, option)
     if isinstance(lines, TextFault):
         return False
@@ -359,13 +356,14 @@ KINDS: Sequence[tuple[str, Callable[[SentSubtitle, LayoutChoice, NationalOption]
 
 def find_sendings(stl: str, subtitles: Iterable[Subtitle], held: Timeline, option: NationalOption) \
         -> list[ReceivedSubtitle]:
-    """Return the subtitles whose text was decoded at their time, with the decoded pages."""
+    """Return the subtitles whose text was decoded while they were expected, with the decoded
+    pages."""
     return [ReceivedSubtitle(stl, subtitle, sent) for subtitle in subtitles
             for sent in find_sent_subtitles([subtitle], held, option)]
 
 
 def explain_omission(text: str) -> str:
-    """Explain why a layout that draws more subtitles as sent is not proposed."""
+    """Explain why a layout is not proposed although it draws more subtitles as they were sent."""
     layout = parse_layout(text) or PLAIN
     brought, taken = layout.before + layout.behind, find_questionable_items(layout)
     if FLASH in brought:
@@ -381,9 +379,6 @@ def explain_omission(text: str) -> str:
 def format_counts(choice: LayoutChoice) -> str:
     """Describe how many subtitles a layout draws as they were sent."""
     return f"{choice.as_sent} of {counted(choice.total, 'subtitle')} as they were sent"
-
-
-# Measuring recordings
 
 
 class SilentPrinter(Printer):
@@ -402,9 +397,12 @@ class SilentPrinter(Printer):
 
 
 class Measured(NamedTuple):
-    """Measurements of one recording: its PID and lines about it from the PMT, intervals of page
-    headers and PES packets, and delays of cues. `headers` counts all headers, and headers that keep
-    the page; `is_alone` says that no header has any other fault."""
+    """Measurements of one recording.
+
+    `pid` is its PID and `lines` describe this choice. `repeats` and `paces` are the intervals of
+    page headers and of PES packets. `headers` has the number of all headers, and of headers that
+    keep the page. `is_alone` is true if no header has any other fault.
+    """
 
     pid: str | None
     lines: Sequence[str]
@@ -415,12 +413,12 @@ class Measured(NamedTuple):
     is_alone: bool
     options: set[str]
     sendings: Sequence[ReceivedSubtitle]
-    off_frame: tuple[int, int] = (0, 0)  # number of PTS that are not on a frame, and of all PTS
+    off_frame: tuple[int, int] = (0, 0)  # number of PTS off a frame, and number of all PTS
     option: str = "english"  # national option used to decode the text
 
 
 def measure(args: argparse.Namespace, program_name: str) -> int:
-    """Measure the pairs on a command line and print their profile; return the exit status."""
+    """Measure the pairs on a command line and print their profile. Return the exit status."""
     command_paths, requests = CommandPaths(program_name, args.program), read_requests(args)
     with make_temporary_folder("subttx-qc-") as folder:
         recordings = [measure_recording(request, command_paths, os.path.join(folder, str(number)))
@@ -440,7 +438,7 @@ def measure(args: argparse.Namespace, program_name: str) -> int:
 
 
 def read_requests(args: argparse.Namespace) -> list[Request]:
-    """Return the pairs that are given as arguments or in a list."""
+    """Return the pairs given as arguments or in a list."""
     names = args.measure
     if len(names) == 1 and not is_stl(names[0]):
         return requests_in(names[0], args)
@@ -460,7 +458,8 @@ def is_stl(path: str) -> bool:
 
 
 def requests_in(path: str, args: argparse.Namespace) -> list[Request]:
-    """Return the pairs in a list with the options of each line; raise `Stop` for a faulty line."""
+    """Return the pairs in a list with the options of each line. Raise `Stop` for an invalid
+    line."""
     items = read_pairs(path, args)
     for item in items:
         if item.reason:
@@ -469,7 +468,7 @@ def requests_in(path: str, args: argparse.Namespace) -> list[Request]:
 
 
 def measure_recording(request: Request, command_paths: CommandPaths, folder: str) -> Measured:
-    """Measure the recording of a pair; raise `Stop` if that fails."""
+    """Measure the recording of a pair. Raise `Stop` if that fails."""
     os.mkdir(folder)
     try:
         refuse_files(request)
@@ -494,7 +493,8 @@ def make_pair(request: Request, command_paths: CommandPaths, folder: str) -> Pai
 
 def list_refused(requests: Sequence[Request], command_paths: CommandPaths,
                  folder: str) -> Iterator[str]:
-    """Yield why the profile does not accept a recording, or that it accepts all recordings."""
+    """Yield a line for each recording that is not accepted with the profile. If all are accepted,
+    yield one line that reports this."""
     refused = 0
     for request in requests:
         pair = make_pair(request, command_paths, folder)
@@ -513,7 +513,7 @@ def list_refused(requests: Sequence[Request], command_paths: CommandPaths,
 
 
 def measure_pair(pair: PairJudge) -> Measured:
-    """Measure the recording of a pair after finding its parts."""
+    """Find the parts of a pair and measure its recording."""
     request, option = pair.request, BY_WORD[pair.request.option]
     recording, clocks, subtitles = pair.located_recording
     parts = [add_part_packets(clocks.search, part) for part in pair.parts_in(
@@ -555,13 +555,13 @@ def decode_pages(part: Part) -> Timeline:
 
 
 def find_subtitles(part: Part, subtitles: Iterable[Subtitle]) -> list[Subtitle]:
-    """Return the subtitles of a file that begin in the frames of a part."""
+    """Return the subtitles that begin in the frames of a part."""
     return [one for one in subtitles if part.request.between.has(one.begin)]
 
 
 def find_pid(pair: PairJudge) -> tuple[str | None, list[str]]:
     """Return the PID that carries the page, and lines with the evidence and the entry in the PMT.
-    There is no PID in a file of PES packets."""
+    Return no PID for a file of PES packets."""
     recording, name = pair.located_recording.recording, pair.request.page_name
     lines = [one.line for one in pair.listener.selections if one.option == PID_CHOICE]
     if not recording.is_stream:
@@ -574,8 +574,6 @@ def find_pid(pair: PairJudge) -> tuple[str | None, list[str]]:
                              f"0x{other:X}: {', '.join(one.line() for one in pages)}")
     return f"0x{pid:X}", [*dict.fromkeys(lines)] or [f"PID 0x{pid:X} was given"]
 
-
-# Printing the profile
 
 def profile_lines(requests: Sequence[Request], recordings: Sequence[Measured]) -> Iterator[str]:
     """Yield the lines of the profile, which `--profile` can read."""

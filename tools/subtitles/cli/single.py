@@ -40,7 +40,7 @@ from ..stream.gaps import first_lines
 
 RESULT = re.compile(rb'\{\s*"format": [0-9]+,\s*"(verdict": "|status": )')
 PREFIX_BYTES = 4096  # maximum number of bytes to read to recognise a file
-KEPT_SECONDS = 600  # maximum time between the writing of a recording and of its result
+KEPT_SECONDS = 600  # maximum number of seconds from writing a recording to writing its result
 
 
 class FilesInUse(Stop):
@@ -56,14 +56,15 @@ def refuse_pair_files(folder: str, name: str, inputs: Inputs, parts: PartFiles |
 
 
 def refuse_folder_files(folder: str, inputs: Inputs) -> None:
-    """Raise `Stop` if the files about all pairs in a folder would replace an input, or a file that
-    these tools did not write."""
+    """Raise `Stop` if the page or the lock of a folder would replace an input, or a file that these
+    tools did not write."""
     for path in (index_path(folder), lock_path(folder, "")):
         refuse_file(path, inputs)
 
 
 def is_own_file(path: str) -> bool:
-    """Return whether these tools wrote a file, from its first bytes or a recording's time."""
+    """Return whether these tools wrote a file. Examine the file's first bytes, or for a recording
+    the time at which it was written."""
     stem, ending = os.path.splitext(path)
     if ending in (".pes", ".ts"):
         return is_kept_recording(path, f"{os.path.splitext(stem)[0]}.json")
@@ -77,7 +78,8 @@ def is_own_file(path: str) -> bool:
 
 
 def is_kept_recording(path: str, result: str) -> bool:
-    """Return whether a recording was kept with a result, which is written soon after it."""
+    """Return whether a recording was kept by the run that wrote the file `result`. The run writes
+    the result soon after the recording."""
     if not os.path.isfile(result) or not is_own_file(result):
         return False
     return 0 <= os.stat(result).st_mtime_ns - os.stat(path).st_mtime_ns < KEPT_SECONDS * 10**9
@@ -135,8 +137,8 @@ def hold_lock(folder: str | None, name: str, refusal: str) -> Iterator[None]:
 
 
 def open_locked(path: str) -> int | None:
-    """Open and lock a file; return `None` if another process has locked it. A symbolic link is
-    replaced with a file."""
+    """Open and lock a file. Return `None` if another process has locked it. If the path is a
+    symbolic link, replace the link with a file."""
     while True:
         if os.path.islink(path):
             os.unlink(path)
@@ -162,15 +164,13 @@ def is_file_at(handle: int, path: str) -> bool:
         return False
 
 
-# Judging one pair: print the verdict and write the output files
-
 ESCAPED = re.compile("[\ud800-\udfff]")  # bytes of a file name that are not UTF-8
 SIGNALS = (signal.SIGINT, signal.SIGTERM, signal.SIGHUP)
 SUMMARY_LINES = 100  # maximum number of lines of a list in a summary, and in a JUnit file
 
 
 def now(seconds: float | None = None) -> str:
-    """Format a time in seconds since the epoch, by default the current time, in UTC."""
+    """Format a time in seconds since the epoch as UTC. The default is the current time."""
     return time.strftime("%Y-%m-%dT%H:%M:%SZ", time.gmtime(seconds))
 
 
@@ -178,8 +178,8 @@ class PairOptions(NamedTuple):
     """The program and the output files for a pair.
 
     `name` overrides the name from the subtitle file. Files are written into `staging_folder` if the
-    caller moves them later. `is_claimed` says that the caller has locked them. `examine` is called
-    with the verdict before it is written; if it raises `Unclear`, the pair is not judged.
+    caller moves them later. `is_claimed` is true if the caller has locked them. `examine` is called
+    with the verdict before it is written. If `examine` raises `Unclear`, the pair is not judged.
     """
 
     program: str | None
@@ -196,14 +196,14 @@ class PairOptions(NamedTuple):
 
 
 def judge_command(args: argparse.Namespace, program_name: str) -> int:
-    """Judge the pair on a command line; return the exit status."""
+    """Judge the pair on a command line. Return the exit status."""
     return judge_and_report(make_request(args), PairOptions(
         args.program, args.out or None, args.is_kept, args.json, args.csv, args.junit,
         is_quiet=args.is_quiet), program_name).status
 
 
 def judge_and_report(request: Request, call: PairOptions, program_name: str) -> Verdict:
-    """Judge a pair, print the verdict and write the output files; return the verdict."""
+    """Judge a pair, print the verdict and write the output files. Return the verdict."""
     out, staging_folder = call.out, call.staging_folder or call.out
     is_output_taken = any(path in STANDARD_OUTPUTS for path in (call.json, call.csv, call.junit))
     printer = Printer(Progress(), is_output_taken)
@@ -246,7 +246,8 @@ def new_verdict(request: Request, listener: Listener) -> Verdict:
 
 
 def refuse_outputs(call: PairOptions, request: Request, out: str | None, name: str) -> None:
-    """Raise `Stop`, before any work, if an output can't be written or is an input."""
+    """Raise `Stop` if an output can't be written or is an input. Call this before judging
+    begins."""
     inputs = Inputs(request.stl, request.recording, *request.other_files)
     for path in (call.json, call.csv, call.junit):
         if path:
@@ -257,7 +258,8 @@ def refuse_outputs(call: PairOptions, request: Request, out: str | None, name: s
 
 
 def judge_pair(pair: PairJudge, files: OutputFiles) -> None:
-    """Judge a pair and write its files. If it is not judged, the verdict has the reason."""
+    """Judge a pair and write its output files. If the pair is not judged, the verdict contains the
+    reason."""
     verdict, began = pair.verdict, time.monotonic()
     try:
         pair.judge()
@@ -266,7 +268,7 @@ def judge_pair(pair: PairJudge, files: OutputFiles) -> None:
     except Unclear as unclear:
         verdict.unjudged = Unjudged(unclear.reason, unclear.commands,
                                     isinstance(unclear, IncompleteAnswer))
-    except Exception as reason:  # after any error the pair is not judged
+    except Exception as reason:  # any error means that the pair is not judged
         verdict.unjudged = Unjudged(format_error(reason), is_temporary=isinstance(
             reason, (ProgramInterrupted, OSError, MemoryError)))
     except KeyboardInterrupt:
@@ -282,7 +284,7 @@ def judge_pair(pair: PairJudge, files: OutputFiles) -> None:
 
 
 def report_pair(verdict: Verdict, printer: Printer, files: OutputFiles) -> None:
-    """Print the verdict. If that fails, write a verdict `not judged` to all files."""
+    """Print the verdict. If that fails, write the verdict `not judged` to all output files."""
     try:
         print_verdict(verdict, printer, files.page)
     except KeyboardInterrupt as reason:
@@ -298,20 +300,21 @@ def report_pair(verdict: Verdict, printer: Printer, files: OutputFiles) -> None:
 
 
 def handle_signals() -> None:
-    """Let signals interrupt this run, except signals that are ignored, for example under nohup."""
+    """Make signals interrupt this run, except signals that are already ignored, for example under
+    nohup."""
     for signal_number in SIGNALS:
         if signal.getsignal(signal_number) != signal.SIG_IGN:
             signal.signal(signal_number, signal.default_int_handler)
 
 
 def ignore_signals() -> None:
-    """Ignore all further signals that would interrupt this run."""
+    """Ignore further signals."""
     for signal_number in SIGNALS:
         signal.signal(signal_number, signal.SIG_IGN)
 
 
 def print_verdict(verdict: Verdict, printer: Printer, page: str | None = None) -> None:
-    """Print the verdict after gaps, notes and warnings. `page` is the path of the report."""
+    """Print the verdict after losses, notes and warnings. `page` is the path of the report."""
     causes = [part.causes for part in verdict.parts if part.causes]
     if causes:
         printer.print_line(format_cause_counts(causes))
@@ -347,8 +350,8 @@ def print_verdict(verdict: Verdict, printer: Printer, page: str | None = None) -
 
 
 def reference_text(verdict: Verdict, page: str | None) -> str:
-    """Return a reference for a refusal: to the report, or to the manual's text about the number
-    reported first."""
+    """Return a sentence that refers the reader of a refusal to the report, or else to the manual's
+    text about the first reported number."""
     if verdict.word == ACCEPTED or verdict.word == RELATIVE and not verdict.fault_count:
         return ""
     if page:
@@ -360,7 +363,7 @@ def reference_text(verdict: Verdict, page: str | None) -> str:
 
 
 class Output(NamedTuple):
-    """A requested file, and the function that makes its contents. `is_result` is set for files in
+    """A requested file, and the function that makes its contents. `is_result` is true for files in
     the output folder, `is_raw` for files that do not contain the verdict."""
 
     path: str
@@ -371,7 +374,7 @@ class Output(NamedTuple):
 
     @property
     def is_replaced(self) -> bool:
-        """Return whether an output can be written a second time."""
+        """Return whether the output can be replaced, so that it can be written again."""
         return self.is_result or is_replaced(self.path)
 
 
@@ -382,7 +385,7 @@ class OutputFiles:
                  names: OutputNames, stamps: Mapping[str, Stamp | None] = {}) -> None:
         self.call, self.verdict, self.names = call, verdict, names
         self.command_paths = command_paths
-        self.stamps = stamps  # stamps of the input files when judging began
+        self.stamps = stamps  # from the time when judging began
         self.written: list[Output] = []
 
     @property
@@ -391,13 +394,13 @@ class OutputFiles:
         return self.names.display_path("html") if self.names.out else None
 
     def needs_sums(self) -> bool:
-        """Return whether any output has the checksums of the inputs."""
+        """Return whether an output contains the checksums of the inputs."""
         return bool(self.call.out or self.call.json or self.call.csv)
 
     def write(self, recording: Recording | None = None) -> None:
         """Write all outputs. If an output can't be written, the verdict becomes `not judged`, and
-        earlier outputs are written again if possible. The JSON result in the folder comes last,
-        except for outputs that can't be written twice."""
+        earlier outputs are written again if possible. The JSON result in the folder is the last of
+        these; only outputs that can't be written again follow."""
         for output in sorted(self.list_outputs(recording), key=lambda one: not one.is_replaced):
             self.find_changes()
             if self.try_to_write(output):
@@ -407,7 +410,7 @@ class OutputFiles:
         self.find_changes()
 
     def find_changes(self) -> None:
-        """Withdraw the verdict if an input file has changed: the file was read several times, so it
+        """Withdraw the verdict if an input file has changed. The file was read several times, so it
         is unknown which bytes were judged."""
         changed = [name for name, stamp in self.stamps.items() if read_stamp(name) != stamp]
         if changed:
@@ -418,13 +421,14 @@ class OutputFiles:
             self.write_again()
 
     def write_again(self) -> None:
-        """Write the outputs again, with the failures found since."""
+        """Write the outputs again, since a failure has changed the verdict."""
         for output in self.written:
             if output.is_replaced and not output.is_raw:
                 self.try_to_write(output)
 
     def try_to_write(self, output: Output) -> bool:
-        """Write an output; return whether that succeeded, or add the reason to the verdict."""
+        """Write an output. If that fails, add the reason to the verdict. Return whether it
+        succeeded."""
         try:
             self.write_output(output)
         except Exception as reason:
@@ -469,7 +473,7 @@ class OutputFiles:
         return lists
 
     def make_testcase(self) -> Iterator[bytes]:
-        """Return the JUnit file about the pair."""
+        """Yield the JUnit file, which has one test case for the pair."""
         verdict = self.verdict
         case = results.TestCase(pair_title(verdict.request), verdict.word, verdict.status,
                                verdict.worst_line or verdict.unjudged_reason or "",
@@ -493,10 +497,10 @@ class OutputFiles:
 
 
 def encode_text(text: str) -> bytes:
-    """Encode the text of a JSON result, escaping bytes of file names that are not UTF-8."""
+    """Encode the text of a JSON result, and escape bytes of file names that are not UTF-8."""
     return ESCAPED.sub(lambda found: "\\" + escape_character(found[0]), text).encode()
 
 
 def pair_title(request: Request) -> str:
-    """Return the title of a pair in tables: the names of its files."""
+    """Return the title of a pair in tables, which consists of the names of its files."""
     return " ".join([request.stl, *([request.recording] if request.recording else [])])

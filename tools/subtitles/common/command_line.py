@@ -19,9 +19,9 @@ from .times import CLOCK, frame_of
 HIDDEN = re.compile("[\x00-\x1f\x7f-\x9f\u061c\u200e\u200f\u2028-\u202e\u2066-\u2069"
                     "\ud800-\udfff\ufffe\uffff]")
 INSTALLED = "subttx-"  # prefix of the names of installed tools
-MAX_EVERY = 2_160_000  # most frames for --every and --pace: a day
-MAX_WITHIN = 50  # most frames for --within
-MAX_DIGITS = 3  # most digits of the number for --breaks
+MAX_EVERY = 2_160_000  # maximum number of frames for --every and --pace: one day
+MAX_WITHIN = 50  # maximum number of frames for --within
+MAX_DIGITS = 3  # maximum number of digits for --breaks
 TCP_WORD = "tcp"  # for --start: use the TCP of the GSI block
 NO_PID = 0x1FFF  # PID of null packets
 PACKET_SIZE, PACKET_SIZES = 188, (188, 192, 204)  # bytes from one TS packet to the next
@@ -29,11 +29,12 @@ HOME = os.path.realpath(os.path.join(os.path.dirname(__file__), "..", "..", ".."
 
 
 class Stop(Exception):
-    """Raised to end a tool with status 2 and this message on standard error."""
+    """Raised to exit a tool with status 2. The message is printed on standard error."""
 
 
 class ProgramInterrupted(Stop):
-    """Raised if the program ended before its output was complete, as when it is killed."""
+    """Raised if the program ended before its output was complete, for example because it was
+    killed."""
 
 
 def version() -> str:
@@ -46,8 +47,8 @@ def version() -> str:
 
 
 class ToolParser(argparse.ArgumentParser):
-    """An argument parser that raises `Stop` for wrong arguments. Its help begins with `text`; if
-    that is `None`, as for a line of a list, it has no --help."""
+    """An argument parser that raises `Stop` for wrong arguments. Its help begins with `text`. If
+    `text` is `None`, as for a line of a list, there is no --help."""
 
     def __init__(self, text: str | None) -> None:
         self.fields: dict[str, str] = {}  # names of the fields, by option
@@ -69,7 +70,7 @@ class ToolParser(argparse.ArgumentParser):
         return self.record(self.groups[title].add_argument(*names, **known))
 
     def record(self, action: argparse.Action) -> argparse.Action:
-        """Store the name of the field that holds an option's value."""
+        """Record the name of the field that holds an option's value, and return the action."""
         self.fields.update(dict.fromkeys(action.option_strings, action.dest))
         return action
 
@@ -102,7 +103,7 @@ def decode_page(text: str) -> tuple[int, int] | None:
 
 
 def parse_page(text: str) -> tuple[int, int]:
-    """Return the magazine (0 means 8) and the number of a page such as 888."""
+    """Parse a page such as 888. Return its magazine (0 means 8) and its number."""
     page = decode_page(text)
     if page is None:
         raise argparse.ArgumentTypeError(f"{text} is not a page: give a digit 1 to 8 and two "
@@ -111,7 +112,7 @@ def parse_page(text: str) -> tuple[int, int]:
 
 
 def parse_time(text: str) -> int:
-    """Return the frame of a time of day HH:MM:SS:FF."""
+    """Parse a time of day HH:MM:SS:FF. Return its frame."""
     frame = frame_of(text)
     if frame is None:
         raise argparse.ArgumentTypeError(
@@ -120,7 +121,8 @@ def parse_time(text: str) -> int:
 
 
 def parse_number(text: str, least: int, most: int, refusal: str) -> int:
-    """Return a decimal number from `least` to `most`; leading zeros are allowed."""
+    """Parse a decimal number from `least` to `most`, with or without leading zeros. If the text is
+    not such a number, the error message contains `refusal`."""
     digits = text.lstrip("0") or "0"
     is_number = text.isascii() and text.isdecimal() and len(digits) <= len(str(most))
     if not is_number or not least <= int(digits) <= most:
@@ -129,12 +131,12 @@ def parse_number(text: str, least: int, most: int, refusal: str) -> int:
 
 
 def parse_origin(text: str) -> int:
-    """Return the PTS of frame 0, in ticks of 90 kHz."""
+    """Parse the PTS of frame 0, in 90 kHz ticks."""
     return parse_number(text, 0, CLOCK - 1, f"PTS: give 0 to {CLOCK - 1}")
 
 
 def parse_packet_range(text: str) -> tuple[int, int]:
-    """Return the numbers of the first and the last PES packet of a range such as 0-99."""
+    """Parse a range of PES packets such as 0-99. Return the numbers of the first and the last."""
     found = re.fullmatch(r"(\d{1,12})-(\d{1,12})", text, re.ASCII)
     if not found or int(found[1]) > int(found[2]):
         raise argparse.ArgumentTypeError(f"{text} is not a range of PES packets: give it as 0-99")
@@ -142,22 +144,22 @@ def parse_packet_range(text: str) -> tuple[int, int]:
 
 
 def parse_repeat_interval(text: str) -> int:
-    """Return the maximum repeat interval, in frames."""
+    """Parse the maximum repeat interval, in frames."""
     return parse_number(text, 1, MAX_EVERY, f"repeat interval: give 1 to {MAX_EVERY} frames")
 
 
 def parse_pes_interval(text: str) -> int:
-    """Return the maximum PES interval, in frames."""
+    """Parse the maximum PES interval, in frames."""
     return parse_number(text, 1, MAX_EVERY, f"PES interval: give 1 to {MAX_EVERY} frames")
 
 
 def parse_within(text: str) -> int:
-    """Return the number of frames within which a page has to be complete."""
+    """Parse the number of frames within which a page must be complete."""
     return parse_number(text, 0, MAX_WITHIN, f"number of frames: give 0 to {MAX_WITHIN}")
 
 
 def parse_break_count(text: str) -> int:
-    """Return the number of breaks."""
+    """Parse the number of breaks in a programme."""
     if not (text.isascii() and text.isdecimal() and len(text) <= MAX_DIGITS):
         raise argparse.ArgumentTypeError(f"{text} is not a number of breaks: give 0 to "
                                          f"{10 ** MAX_DIGITS - 1}")
@@ -165,7 +167,7 @@ def parse_break_count(text: str) -> int:
 
 
 def parse_start(text: str) -> str:
-    """Return the time code of the first picture, or `tcp`, after checking it."""
+    """Parse the time code of the first picture, or `tcp`. Return the text unchanged."""
     if text != TCP_WORD and frame_of(text) is None:
         raise argparse.ArgumentTypeError(
             f"{text} is not a time code: give HH:MM:SS:FF, 25 frames a second, or {TCP_WORD}")
@@ -173,7 +175,7 @@ def parse_start(text: str) -> str:
 
 
 def parse_pid(text: str) -> int:
-    """Return a PID, given as a decimal number or as 0x101."""
+    """Parse a PID in decimal, or in hexadecimal as 0x101."""
     try:
         pid = int(text, 0)
     except ValueError:
@@ -189,22 +191,23 @@ def format_pid(pid: int) -> str:
 
 
 def stream_options(pid: int | None, packet_size: int = PACKET_SIZE) -> list[str]:
-    """Return the options that select a PID of a transport stream; none for a PES file."""
+    """Return the options that select a PID of a transport stream. A PES file has none."""
     if pid is None:
         return []
     size = ["--packet-size", str(packet_size)] if packet_size != PACKET_SIZE else []
     return ["--pid", f"0x{pid:X}", *size]
 
 
-# The usual delays of a subtitle inserter
+# The usual delays of an inserter
 
 MAX_SHARE = 1_000_000  # a share is a number of cues or a percentage
 SHARE = re.compile(r"([0-9]{1,2}):([0-9]{1,7})", re.ASCII)
 
 
 class Lateness(NamedTuple):
-    """The shares of in-cues and of out-cues with each delay in frames, as in the option
-    `--late 0:31,1:40/0:100`. Their sum does not matter; no cue had a delay that is not listed."""
+    """How often in-cues (`begins`) and out-cues (`ends`) have each delay in frames, as in the
+    option `--late 0:31,1:40/0:100`. The counts may be percentages. A delay that is not listed never
+    occurred."""
 
     begins: Mapping[int, int]
     ends: Mapping[int, int]
@@ -216,7 +219,8 @@ class Lateness(NamedTuple):
 
 
 def parse_lateness(text: str) -> Lateness:
-    """Parse shares such as `0:31,1:40/0:100`: those of in-cues, a slash, and those of out-cues."""
+    """Parse a value of --late such as `0:31,1:40/0:100`. The delays of in-cues come before the
+    slash, those of out-cues after it."""
     kinds = text.split("/")
     if len(kinds) != 2:
         raise argparse.ArgumentTypeError(
@@ -226,7 +230,8 @@ def parse_lateness(text: str) -> Lateness:
 
 
 def parse_shares(text: str) -> dict[int, int]:
-    """Return the share of each delay from text such as `0:31,1:40`, with the delays rising."""
+    """Parse the counts of delays, such as `0:31,1:40`. Return the count of each delay. The delays
+    must be in ascending order."""
     shares: dict[int, int] = {}
     for piece in text.split(","):
         found = SHARE.fullmatch(piece)
@@ -241,7 +246,7 @@ def parse_shares(text: str) -> dict[int, int]:
 
 
 def format_lateness(late: Lateness) -> str:
-    """Return shares of delays as text for the option --late."""
+    """Return the value of --late."""
     return "/".join(",".join(f"{delay}:{share}" for delay, share in kind.items())
                     for kind in late)
 
@@ -277,8 +282,8 @@ def format_frame_range(least: int, most: int) -> str:
 
 
 def escape_hidden(text: str) -> str:
-    """Escape control characters, characters that change the writing direction, and bytes that are
-    not UTF-8 (as \\x1b), so that a text is safe for terminals and text files."""
+    """Escape characters that are not safe in terminals and text files: control characters,
+    characters that change the writing direction, and bytes that are not UTF-8 (as \\x1b)."""
     return HIDDEN.sub(lambda found: escape_character(found[0]), text)
 
 
@@ -295,7 +300,7 @@ def escape_character(letter: str) -> str:
 
 
 def quote_argument(word: str) -> str:
-    """Quote an argument for a shell; if it has hidden characters, use the syntax of bash."""
+    """Quote an argument for a shell. If it has hidden characters, use the syntax of bash."""
     if not HIDDEN.search(word):
         return shlex.quote(word)
     return "$'" + escape_hidden(word.replace("\\", "\\\\").replace("'", "\\'")) + "'"
@@ -307,8 +312,8 @@ def print_stdout(line: str) -> None:
 
 
 def print_stderr(line: str) -> None:
-    """Print a line on standard error, after earlier output. Ignore errors, since standard error may
-    be closed or on a full disk."""
+    """Print a line on standard error, after all earlier output. Ignore errors, since standard error
+    may be closed or on a full disk."""
     with contextlib.suppress(OSError, AttributeError):  # standard output is closed
         sys.stdout.flush()  # `run_main` reports an error
     try:
@@ -323,7 +328,7 @@ def run(main: Callable[[list[str]], int]) -> NoReturn:
     status = 2
     with contextlib.suppress(KeyboardInterrupt):  # from a second signal
         status = run_main(main, sys.argv[1:])
-        signal.signal(signal.SIGINT, signal.SIG_IGN)  # the exit must not end with another status
+        signal.signal(signal.SIGINT, signal.SIG_IGN)  # a signal must not change the exit status
     sys.exit(status)
 
 
@@ -345,7 +350,7 @@ def run_main(main: Callable[[list[str]], int], words: Sequence[str]) -> int:
 
 
 def call_main(main: Callable[[list[str]], int], words: Sequence[str]) -> int:
-    """Call `main` and return its status, which is 0 after --help and --version."""
+    """Call `main` and return its status. The status is 0 after --help and --version."""
     try:
         return main([*words])
     except SystemExit as end:
@@ -382,5 +387,5 @@ def locate_error(reason: BaseException) -> str:
 def discard_output(out: TextIO | None) -> None:
     """Redirect a stream that failed to /dev/null, because Python writes to it again at exit."""
     with contextlib.suppress(OSError):
-        if out is not None:  # None if the tool was started with it closed
+        if out is not None:  # standard output was closed when the tool started
             os.dup2(os.open(os.devnull, os.O_WRONLY), out.fileno())

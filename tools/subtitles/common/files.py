@@ -17,8 +17,6 @@ from typing import BinaryIO, Iterator, NamedTuple, Tuple, TypeVar
 from .command_line import Stop
 
 
-# Input files are opened without blocking, checked once they are open, and read with a limit.
-
 STANDARD = "-"  # standard input or output, as the name of a file
 READ_SIZE = 1 << 20  # maximum number of bytes to read at once
 SPECIAL = ("-", "=", "+", "@")  # first characters of options and of spreadsheet formulas
@@ -36,7 +34,8 @@ InputType = TypeVar("InputType", bound="Input")
 
 
 class Input:
-    """A file to read while it is written. Errors contain its name as typed; `-`: standard input."""
+    """A file that may still be written while it is read. The name `-` means standard input. Error
+    messages contain the name as typed."""
 
     is_stream = True  # more data may arrive
 
@@ -58,8 +57,8 @@ class Input:
         self.file.close()
 
     def read(self, size: int = READ_SIZE, /) -> bytes:
-        """Return the bytes that are available, without waiting for a full buffer. Return at least
-        one byte, except at the end of the file."""
+        """Return the available bytes without waiting until `size` bytes have arrived. Return at
+        least one byte, except at the end of the file."""
         with name_errors(self.name):
             data: bytes | None = self.file.read(size)
             while data is None:  # nothing has arrived yet
@@ -81,14 +80,14 @@ def name_errors(name: str) -> Iterator[None]:
 
 
 def describe_kind(mode: int) -> str | None:
-    """Return a description such as `a folder` for a file mode; `None` for a regular file."""
+    """Return a description such as `a folder` for a file mode. Return `None` for a regular file."""
     return next((words for is_one, words in FILE_KINDS if is_one(mode)), None)
 
 
 class File(Input):
-    """A regular file to read, or a pipe if that is allowed; anything else is refused. It is opened
-    without blocking and checked once it is open, since another file may get its name in between.
-    If it is a pipe, wait until a program writes to it."""
+    """A regular file to read, or a pipe if that is allowed. Anything else is refused. The file is
+    opened without blocking and then checked, since the name may get another file at any time. If it
+    is a pipe, wait until a program writes to it."""
 
     def __init__(self, name: str, may_be_pipe: bool = False, is_followed: bool = True) -> None:
         self.flags = os.O_RDONLY | os.O_NONBLOCK | os.O_NOCTTY | os.O_CLOEXEC
@@ -124,12 +123,12 @@ class File(Input):
         if kind and self.name != STANDARD:
             ready = select.poll()
             ready.register(self.file, select.POLLIN)
-            ready.poll()  # until a program writes to the pipe
+            ready.poll()  # wait until a program writes to the pipe
 
 
 def read_first_bytes(name: str, most: int, may_be_pipe: bool = False,
                      is_followed: bool = True) -> bytes:
-    """Return the first `most` bytes of a file, or all if it has fewer."""
+    """Return the first `most` bytes of a file, or all bytes if it has fewer."""
     data, left = [], most
     with File(name, may_be_pipe, is_followed) as file:
         while left and (piece := file.read(min(left, READ_SIZE))):
@@ -162,7 +161,8 @@ def make_stamp(about: os.stat_result) -> Stamp:
 
 
 def read_stamp(path: str) -> Stamp | None:
-    """Return the stamps of a regular file and of the link to it; `None` for anything else."""
+    """Return the stamp of a regular file. If the path is a link, the stamp covers the link and its
+    target. Return `None` for any other kind of file."""
     with contextlib.suppress(OSError, ValueError):
         link, about = os.lstat(path), os.stat(path)
         if path != STANDARD and stat.S_ISREG(about.st_mode):
@@ -185,21 +185,21 @@ def is_utf_8(name: str) -> bool:
     return True
 
 
-# Output files are written completely or not at all, and never over an input file. In a folder of
-# results no link is followed.
+# Output files are written completely or not at all, and never replace an input file. Links in a
+# folder of results are not followed.
 
 STANDARD_OUTPUTS = {STANDARD, "/dev/stdout", "/dev/fd/1", "/proc/self/fd/1"}
 TEMPORARY_PREFIX = ".subttx-"  # prefix of the name of a file that is not complete yet
 
 
 class OutputIsInput(Stop):
-    """Raised if an output file is also an input file, which is not changed."""
+    """Raised if an output file is also an input file. The input file is left unchanged."""
 
 
 class Inputs:
-    """The input files, which no output file may replace under any name. Nor may it replace a link
-    to them. Check their identities only if an output file exists: there may be thousands of input
-    files on a remote disk."""
+    """The input files. No output file may replace one of them, or a link to one, under any name.
+    The input files are only examined if an output file exists, since there may be thousands on a
+    remote disk."""
 
     def __init__(self, *names: str | None) -> None:
         self.names = [name for name in names if name]
@@ -211,14 +211,14 @@ class Inputs:
 
     def refuse(self, path: str, is_followed: bool) -> None:
         """Raise `OutputIsInput` if writing to `path` would change an input file or remove its name.
-        Compare again on a match: if an input file was removed, another may have its inode."""
+        Examine a matching input file again: if it was removed, another file may have its inode."""
         for one in find_identities(path, is_followed):
             if one in self.known and one in find_identities(self.known[one], True):
                 raise OutputIsInput(f"{path} is also an input: give another name")
 
 
 def find_identities(name: str, is_followed: bool) -> set[tuple[int, int]]:
-    """Return the device and inode of a file, and those of the target of a link to follow."""
+    """Return the device and inode of a file and, if links are followed, of a link's target."""
     found = set()
     for follow in (False, True)[:1 + is_followed]:
         with contextlib.suppress(OSError, ValueError):
@@ -232,7 +232,7 @@ NO_INPUTS = Inputs()
 
 
 def refuse_output_name(name: str) -> None:
-    """Raise `Stop` before any work if no output file can have this name."""
+    """Raise `Stop` if no output file can have this name. Call this before judging begins."""
     target = os.path.realpath(name)
     if name != STANDARD and not os.path.isdir(os.path.dirname(target)):
         raise Stop(f"{name}: {os.strerror(errno.ENOENT)}")
@@ -242,8 +242,8 @@ def refuse_output_name(name: str) -> None:
 
 @contextlib.contextmanager
 def open_output(path: str) -> Iterator[BinaryIO]:
-    """Open an output file that the operator named, following links. Replace an earlier file only
-    after all data are written without an error.
+    """Open an output file that the user named, following links. Replace an earlier file only after
+    all data are written without an error.
 
     Write directly to a pipe, a device or standard output, `-`.
     """
@@ -262,27 +262,29 @@ def open_output(path: str) -> Iterator[BinaryIO]:
 @contextlib.contextmanager
 def open_result(path: str, is_stored: bool = False) -> Iterator[BinaryIO]:
     """Open an output file in a folder of results. Replace a link instead of following it, since
-    other users may write to the folder. If `is_stored`, the file survives a power failure."""
+    other users may write to the folder. If `is_stored`, ensure that the file survives a power
+    failure."""
     yield from open_replacement(path, path, is_stored)
 
 
 def is_replaced(path: str) -> bool:
-    """Return whether `open_output` writes a new file and renames it to `path`; false for a pipe, a
-    device or standard output."""
+    """Return whether `open_output` writes a new file and renames it to `path`. It does not for a
+    pipe, a device or standard output."""
     return path not in STANDARD_OUTPUTS and (
         not os.path.exists(path) or stat.S_ISREG(os.stat(path).st_mode))
 
 
 @contextlib.contextmanager
 def open_standard_output() -> Iterator[BinaryIO]:
-    """Open standard output for bytes, after flushing the text that Python has buffered."""
+    """Open standard output in binary mode, after flushing buffered text."""
     sys.stdout.flush()
     with open(sys.stdout.fileno(), "wb", closefd=False) as file:
         yield file
 
 
 def open_replacement(path: str, target: str, is_stored: bool = False) -> Iterator[BinaryIO]:
-    """Open a temporary file and rename it to `target` at the end. Errors contain `path`."""
+    """Open a temporary file and finally rename it to `target`. Error messages contain `path`
+    instead. If `is_stored`, ensure that the file survives a power failure."""
     name = make_temporary_name(os.path.dirname(target), TEMPORARY_PREFIX)
     try:
         with name_errors(path):
@@ -302,7 +304,7 @@ def open_replacement(path: str, target: str, is_stored: bool = False) -> Iterato
 
 
 def sync_folder(folder: str) -> None:
-    """Write the file names of a folder to disk, if its file system supports that."""
+    """Flush the entries of a folder to disk, if its file system supports that."""
     handle = os.open(folder, os.O_RDONLY | os.O_DIRECTORY | os.O_CLOEXEC)
     with contextlib.suppress(OSError):
         os.fsync(handle)
@@ -310,13 +312,15 @@ def sync_folder(folder: str) -> None:
 
 
 def make_temporary_name(folder: str, begin: str) -> str:
-    """Return a random name for a temporary file, so that it can be removed even after a signal."""
+    """Return a random path in a folder. The path is known before the file exists, so that a signal
+    can't leave the file behind."""
     return os.path.join(folder, begin + os.urandom(8).hex())
 
 
 @contextlib.contextmanager
 def make_temporary_folder(begin: str) -> Iterator[str]:
-    """Make a temporary folder, and remove it at the end, even if a signal arrives."""
+    """Make a temporary folder whose name starts with `begin`. Remove it when the context ends, even
+    after a signal."""
     path = make_temporary_name(tempfile.gettempdir(), begin)
     try:
         os.mkdir(path, 0o700)
@@ -324,13 +328,13 @@ def make_temporary_folder(begin: str) -> Iterator[str]:
     finally:
         try:
             shutil.rmtree(path, ignore_errors=True)
-        finally:  # again, if a signal interrupted the removal
+        finally:  # try again in case a signal interrupted the removal
             shutil.rmtree(path, ignore_errors=True)
 
 
 @contextlib.contextmanager
 def close_after_writing(file: BinaryIO, path: str) -> Iterator[None]:
-    """Close a file at the end; give an `OSError` without a file name the name `path`."""
+    """Close a file when the context ends. If an `OSError` has no file name, set it to `path`."""
     try:
         with file:
             yield
@@ -339,9 +343,7 @@ def close_after_writing(file: BinaryIO, path: str) -> Iterator[None]:
         raise
 
 
-# SHA-256 and sizes of files.
-
-BUFFER_SIZE = 1 << 18  # bytes to read at once
+BUFFER_SIZE = 1 << 18  # size of the buffer in bytes, to compute the SHA-256 of a file
 
 
 class SummedFile(NamedTuple):
@@ -363,7 +365,7 @@ class BackgroundSum:
             self.thread.start()
 
     def work(self) -> None:
-        """Compute the SHA-256; store an error for `result`."""
+        """Compute the SHA-256. If that fails, keep the error so that `result` can raise it."""
         try:
             self.found.append(sum_file(self.name, self.name))
         except (Stop, OSError) as reason:

@@ -8,13 +8,13 @@ from typing import Iterable, Union
 from .command_line import escape_hidden_lines
 
 
-# The style is part of the page. The page loads nothing, runs no script and sends no form.
+# The page loads nothing, runs no scripts and submits no forms. Its style is part of the page.
 POLICY = ("default-src 'none'; style-src 'unsafe-inline'; base-uri 'none'; form-action 'none'")
 ANCHOR = re.compile(' id="| href="#')
 
 
 class Markup:
-    """Escaped markup. It is a separate class, so that it can't be mistaken for unescaped text."""
+    """Escaped markup. It has its own class, so that it can't be mistaken for unescaped text."""
 
     __slots__ = ("source",)
 
@@ -38,8 +38,8 @@ class Markup:
         return Markup(self.source[:1].upper() + self.source[1:])
 
     def anchored(self, prefix: str) -> Markup:
-        """Add a prefix to each anchor and each link to an anchor, since a page has several parts.
-        Quotes in text are escaped, so these patterns match only in tags."""
+        """Add a prefix to each anchor and each link to an anchor, so that anchors of several parts
+        of a page differ. Quotes in text are escaped, so text never matches `ANCHOR`."""
         return Markup(ANCHOR.sub(lambda found: found[0] + prefix, self.source))
 
     def page(self) -> bytes:
@@ -51,13 +51,15 @@ Value = Union[Markup, str, int, float]
 
 
 def escape(text: str) -> str:
-    """Escape a text for XML; replace hidden characters by their numbers."""
+    """Escape a text for XML, and replace hidden characters with escape sequences such as \\x1b."""
     return html.escape(escape_hidden_lines(text))
 
 
 def markup(template: str, *values: Value) -> Markup:
-    """Replace each `{}` in a template by markup, a number, or text, which is escaped. The template
-    has to be a literal, which a test checks; a `{}` within a tag has to be in quotes."""
+    """Return a template with each `{}` replaced with markup, a number, or text, which is escaped.
+
+    The template must be a literal; a test checks this. A `{}` in a tag must be in quotes.
+    """
     return Markup(template.format(*map(format_value, values)))
 
 

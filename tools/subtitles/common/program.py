@@ -29,14 +29,14 @@ def sources() -> str:
 
 
 def find_program(top: str) -> tuple[str, str]:
-    """Return the path that `tools/program` prints in a repository, and its error message."""
+    """Run `tools/program` in a repository. Return the path and the error message that it prints."""
     done = subprocess.run([os.path.join(top, "tools", "program")], stdin=subprocess.DEVNULL,
                           stdout=subprocess.PIPE, stderr=subprocess.PIPE, check=False)
     return done.stdout.decode().rstrip("\n"), done.stderr.decode().strip()
 
 
 def find_built_program(path: str | None = None) -> str:
-    """Return the program at `path`, or by default the one built from the current sources."""
+    """Return the program at `path`, or by default the program built from the current sources."""
     if path:
         if os.path.isdir(path) or not os.access(path, os.X_OK):
             raise Stop(f"{path} is not an executable program")
@@ -58,7 +58,7 @@ def resolve_script(path: str) -> str:
 
 
 def read(path: str) -> str | None:
-    """Return the text of a file; `None` if the file does not exist."""
+    """Return the text of a file, or `None` if the file does not exist."""
     if not os.path.isfile(path):
         return None
     with open(path, encoding="utf-8", errors="replace") as file:
@@ -90,12 +90,13 @@ def describe_program(path: str) -> ProgramInfo:
 
 @functools.lru_cache(maxsize=None)
 def compute_sum(path: str, like: Stamp) -> str:
-    """Return the SHA-256 of a file; compute it again only if the stamp has changed."""
+    """Return the SHA-256 of a file. Compute it again only if the stamp `like` has changed."""
     return sum_file(path, path).sha256
 
 
 def find_proved_line(program: str, sha256: str) -> str | None:
-    """Return the prover's line from the file PROVED that has the SHA-256 of this program."""
+    """Return the prover's line about a program from the file PROVED that contains the program's
+    SHA-256. Return `None` if there is no such file."""
     beside = os.path.dirname(program)
     for folder in (beside, os.path.dirname(beside), os.path.join(TOP, "dist")):
         lines = (read(os.path.join(folder, PROVED)) or "").splitlines()
@@ -105,8 +106,6 @@ def find_proved_line(program: str, sha256: str) -> str | None:
     return None
 
 
-# Install the program, man pages, tools and documents
-
 TOOLS = ["qc", "air"]
 PAGES = ["subttx.1", "subttx-qc.1", "subttx-air.1"]
 READ = ["README.md", os.path.join("docs", "MANUAL.md"),
@@ -115,12 +114,13 @@ COMPLETION = os.path.join("tools", "completion.bash")
 HOME = os.path.join("lib", "subttx")
 MAN = os.path.join("share", "man", "man1")
 COMPLETIONS = os.path.join("share", "bash-completion", "completions")
-FOLDERS = "FOLDERS"  # file in HOME: the shared folders that the installation made
+FOLDERS = "FOLDERS"  # file in HOME that lists the shared folders created by the installation
 LINK = re.compile(r"!?\[([^\]]*)\]\(([^)\s#]+)[^)\s]*\)")
 
 
 def copy(source: str, target: str, mode: int = 0o644) -> None:
-    """Copy a file under a temporary name and rename it: this can replace a running program."""
+    """Copy a file under a temporary name, then rename the copy. This works even if the target is a
+    running program."""
     os.makedirs(os.path.dirname(target), exist_ok=True)
     shutil.copyfile(source, target + ".new")
     os.chmod(target + ".new", mode)
@@ -128,7 +128,7 @@ def copy(source: str, target: str, mode: int = 0o644) -> None:
 
 
 def write(path: str, text: str) -> None:
-    """Write a text file under a temporary name and rename it."""
+    """Write a text file under a temporary name, then rename it."""
     os.makedirs(os.path.dirname(path), exist_ok=True)
     with open(path + ".new", "w", encoding="utf-8") as file:
         file.write(text)
@@ -195,7 +195,7 @@ def copy_documents(home: str) -> None:
 
 
 def remove_dead_links(text: str, folder: str) -> str:
-    """Replace each link to a missing file in a document by the text of the link."""
+    """Replace each link to a missing file in a document with the text of the link."""
     def kept(link: re.Match[str]) -> str:
         is_there = ":" in link[2] or os.path.exists(os.path.join(folder, link[2]))
         return link[0] if is_there else link[1]
@@ -212,7 +212,7 @@ def copy_completion(prefix: str) -> None:
 
 
 def install(program: str, prefix: str) -> list[str]:
-    """Install everything in a folder; return the paths of the commands and the man pages."""
+    """Install everything in a folder. Return the paths of the commands and the man pages."""
     copy(program, os.path.join(prefix, "bin", "subttx"), 0o755)
     pages = [os.path.join(prefix, MAN, page) for page in PAGES]
     for page in pages:
@@ -224,7 +224,7 @@ def install(program: str, prefix: str) -> list[str]:
 
 
 def list_shared_folders(prefix: str) -> list[str]:
-    """Return the installation's folders that other software may use too, innermost first."""
+    """Return the installation's folders that other software may also use, innermost first."""
     names = ["bin", MAN, COMPLETIONS, "lib"]
     folders: list[str] = []
     for name in names:
@@ -247,7 +247,7 @@ def install_and_note(program: str, prefix: str) -> list[str]:
 
 
 def remove(prefix: str) -> list[str]:
-    """Remove an installation, and the folders that it made if they are empty. Return the removed
+    """Remove an installation, and the folders that it created if they are empty. Return the removed
     paths."""
     home = os.path.join(prefix, HOME)
     if not os.path.isfile(os.path.join(home, "tools", "qc")):

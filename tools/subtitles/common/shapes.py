@@ -1,4 +1,4 @@
-"""Types of JSON values, which write values, check values that were read, and make a schema."""
+"""Types of JSON values, to write values, to check values that were read, and to make a schema."""
 from __future__ import annotations
 
 import itertools
@@ -9,24 +9,24 @@ from .command_line import NO_PID
 from .times import CLOCK
 
 
-# `find_misfit` returns the path of the first value that does not fit its type, such as
-# `.faults[3].number`; an empty path means the value itself.
-
-MAX_TEXT = 65_536  # maximum length of a text in characters, by default
+MAX_TEXT = 65_536  # default maximum length of a text, in characters
 Schema = dict[str, Any]
 
 
 class Shape:
-    """A type of JSON value. A type with a `name` is defined once in the schema, under that name."""
+    """A type of JSON values. A type with a `name` is defined once in the schema, under this
+    name."""
 
     name, meaning = "", ""
 
     def to_json(self, value: Any) -> Any:
-        """Return a value in the form that is written to JSON."""
+        """Convert a value to its JSON form."""
         return value
 
     def find_misfit(self, value: object) -> str | None:
-        """Return the path at which a value does not fit this type; `None` if it fits."""
+        """Return the path of the first value that does not fit this type, such as
+        `.faults[3].number`. An empty path means the value itself. Return `None` if everything
+        fits."""
         raise NotImplementedError
 
     def schema(self) -> Schema:
@@ -43,7 +43,8 @@ class Shape:
 
 
 class Text(Shape):
-    """A text of limited length that matches a pattern. Without a pattern, a long text is cut."""
+    """A string of limited length that matches a pattern. Without a pattern, a longer string is
+    shortened when it is written."""
 
     def __init__(self, pattern: str = "", most: int = MAX_TEXT, least: int = 0) -> None:
         self.pattern, self.most, self.least = pattern and re.compile(pattern), most, least
@@ -92,7 +93,7 @@ class Number(Shape):
 
 
 class OneOf(Shape):
-    """One of several constants, such as texts or numbers."""
+    """One of several constants, such as strings or numbers."""
 
     def __init__(self, *values: str | int | None) -> None:
         self.values = values
@@ -134,7 +135,7 @@ class Maybe(Shape):
 
 
 class Listed(Shape):
-    """A list of values of the same type; values after the first `most` are not written."""
+    """A list of values of the same type. Values after the first `most` are not written."""
 
     def __init__(self, shape: Shape, most: int, least: int = 0) -> None:
         self.shape, self.most, self.least = shape, most, least
@@ -161,8 +162,8 @@ class Listed(Shape):
 
 
 class Member(NamedTuple):
-    """A member of a JSON object: its name, type and meaning. `getter` gets it from the value to
-    write; by default it is the attribute or item of the same name."""
+    """A member of a JSON object: its name, type and meaning. `getter` extracts the member from the
+    object to write. By default it is the attribute or item of the same name."""
 
     name: str
     shape: Shape
@@ -171,7 +172,7 @@ class Member(NamedTuple):
     is_required: bool = True  # whether every object has this member
 
     def to_json(self, value: Any) -> Any:
-        """Return this member of a value in the form that is written to JSON."""
+        """Return the JSON form of this member of an object."""
         if self.getter is not None:
             member = self.getter(value)
         else:
@@ -187,7 +188,7 @@ class Member(NamedTuple):
 
 
 class Record(Shape):
-    """A JSON object with exactly these members. It also has to fit each of `rules`."""
+    """A JSON object with exactly these members. The object must also satisfy each of `rules`."""
 
     def __init__(self, name: str, meaning: str, *members: Member,
                  rules: Sequence[Rules] = ()) -> None:
@@ -226,12 +227,13 @@ class Record(Shape):
 
 
 class Rules(NamedTuple):
-    """Alternative types of some members of an object, at least one of which has to fit."""
+    """Alternative types for some members of an object. At least one of the alternatives must
+    fit."""
 
     rows: Sequence[dict[str, Shape | Rules]]
 
     def find_misfit(self, value: Any) -> str | None:
-        """Return the path of the first member if no alternative fits; `None` if one fits."""
+        """Return `None` if an alternative fits, else the path of the first member in the rules."""
         is_one = any(all(shape.find_misfit(value[name]) is None for name, shape in row.items())
                      for row in self.rows)
         return None if is_one else f".{next(iter(self.rows[0]))}"
@@ -249,7 +251,7 @@ def name_shape(name: str, shape: Shape, meaning: str = "") -> Shape:
 
 
 def make_definitions(shapes: Sequence[Shape]) -> Schema:
-    """Return the schemas of all named types that are, or are contained in, some types."""
+    """Return the schemas of all named types among `shapes` and the types that they contain."""
     known: Schema = {}
     waiting = [*shapes]
     while waiting:
@@ -263,9 +265,7 @@ def make_definitions(shapes: Sequence[Shape]) -> Schema:
     return known
 
 
-# Types that occur in several places of JSON results
-
-Members = dict[str, Any]  # members of a fault, cause or cell, by name
+Members = dict[str, Any]  # members of a JSON object, by name
 MAX_NUMBER = (1 << 53) - 1  # largest integer that every JSON parser reads exactly
 
 TIME = name_shape("time", Text(r"[0-9]{2}:[0-9]{2}:[0-9]{2}:[0-9]{2}"))

@@ -18,13 +18,14 @@ from typing import Callable, Iterable, Iterator, NamedTuple, Sequence, TypeVar
 FRAMES_A_SECOND = 25
 FRAMES_OF_A_DAY = 2_160_000
 CLOCK = 2**33  # number of ticks after which a PTS of 33 bits wraps around
-TICKS = 3600  # ticks of 90 kHz in a frame
+TICKS = 3600  # 90 kHz ticks in a frame
 NO_FRAME = -1  # result for a PTS that belongs to no frame; less than every frame
-EARLY_TICKS = TICKS // 4  # most ticks by which a PTS may be early, with --within 1 or more
+EARLY_TICKS = TICKS // 4  # maximum ticks by which a PTS may be early, with --within 1 or more
 
 
 class Between(NamedTuple):
-    """The frames from `begin` up to `end`, exclusive. A subtitle belongs to its TCI's frame."""
+    """The frames from `begin` up to, but not including, `end`. A subtitle belongs to the frame of
+    its TCI."""
 
     begin: int = 0
     end: int = FRAMES_OF_A_DAY
@@ -34,7 +35,7 @@ class Between(NamedTuple):
         return self.begin <= frame < self.end
 
     def words(self) -> list[str]:
-        """Return the options --from and --to for this range; none for the whole day."""
+        """Return the options --from and --to for this range. The whole day needs no options."""
         return [*(["--from", time_of(self.begin)] if self.begin else []),
                 *(["--to", time_of(self.end)] if self.end < FRAMES_OF_A_DAY else [])]
 
@@ -43,15 +44,16 @@ ALL_DAY = Between()
 
 
 def frame_of(time: str) -> int | None:
-    """Return the frame of the day for a time HH:MM:SS:FF; `None` if the text is not valid."""
+    """Return the frame of the day for a time HH:MM:SS:FF. Return `None` if the text is not
+    valid."""
     if not re.fullmatch(r"\d\d:\d\d:\d\d:\d\d", time, re.ASCII):
         return None
     return frame_of_code(map(int, time.split(":")))
 
 
 def frame_of_code(code: Iterable[int]) -> int | None:
-    """Return the frame of the day for hours, minutes, seconds and frames; `None` if out of range.
-    """
+    """Return the frame of the day for hours, minutes, seconds and frames. Return `None` if a number
+    is too large."""
     hours, minutes, seconds, frames = code
     if hours > 23 or minutes > 59 or seconds > 59 or frames > 24:
         return None
@@ -59,12 +61,13 @@ def frame_of_code(code: Iterable[int]) -> int | None:
 
 
 def time_of_code(code: bytes) -> str:
-    """Return four bytes of a TTI block as HH:MM:SS:FF, even if that is not a valid time of day."""
+    """Format four bytes of a TTI block as HH:MM:SS:FF, even if that is not a valid time of day."""
     return ":".join(f"{part:02}" for part in code)
 
 
 def time_of(frame: int) -> str:
-    """Return the time HH:MM:SS:FF of a frame; 24:00:00:00 follows the last frame of the day."""
+    """Return the time HH:MM:SS:FF of a frame. The time 24:00:00:00 follows the last frame of the
+    day."""
     seconds, frames = divmod(frame, FRAMES_A_SECOND)
     return f"{seconds // 3600:02}:{seconds // 60 % 60:02}:{seconds % 60:02}:{frames:02}"
 
@@ -83,20 +86,22 @@ def wrap_pts(ticks: int) -> int:
 
 
 def ticks_between(first: int, second: int) -> int:
-    """Return the ticks from the first PTS to the second; negative if the second is earlier."""
+    """Return the ticks from the first PTS to the second. The result is negative if the second is
+    earlier."""
     return wrap_pts(second - first + CLOCK // 2) - CLOCK // 2
 
 
 def ticks_within(first: int, length: int, pts: int) -> int:
-    """Return the ticks from the PTS `first` to another PTS; negative if that is earlier. A distance
-    of up to `length` ticks counts as later, even if it is more than 2^32."""
+    """Return the ticks from the PTS `first` to another PTS, which may be up to `length` ticks
+    later. If it is not, the result is negative. `length` may be more than half of the clock's
+    range."""
     before = (CLOCK - length) // 2
     return wrap_pts(pts - first + before) - before
 
 
 def ticks_after(origin: int, pts: int) -> int:
-    """Return the ticks from an origin to a PTS of the day after it; negative if the PTS is up to an
-    hour before the origin."""
+    """Return the ticks from an origin to a PTS of the following 24 hours. The result is negative if
+    the PTS is up to an hour before the origin."""
     return ticks_within(origin, TICKS * FRAMES_OF_A_DAY, pts)
 
 
@@ -106,31 +111,36 @@ def pts_of(frame: int, origin: int) -> int:
 
 
 def frame_in(pts: int, origin: int, within: int = 0) -> int:
-    """Return the frame in which a PTS lies, even if it is after the end of the day."""
+    """Return the frame of the day that contains a PTS, even if it is after the end of the day.
+    `origin` is the PTS of frame 0. If `within` is greater than 0, frames begin a quarter of a frame
+    earlier."""
     return wrap_pts(pts - origin + EARLY_TICKS * (within > 0)) // TICKS
 
 
 def time_in(pts: int, origin: int) -> str | None:
-    """Return the time of the frame in which a PTS lies; `None` after the end of the day."""
+    """Return the time of the frame that contains a PTS. Return `None` after the end of the day."""
     frame = frame_in(pts, origin)
     return time_of(frame) if frame < FRAMES_OF_A_DAY else None
 
 
 def frame_at(pts: int, origin: int, within: int = 0) -> int | None:
-    """Return the frame of the day to which a PTS belongs; `None` if there is none."""
+    """Return the frame of the day to which a PTS belongs. Return `None` if it belongs to no
+    frame."""
     frame = frames_at([pts], origin, within)[0]
     return None if frame == NO_FRAME else frame
 
 
 def frames_at(several: Sequence[int], origin: int, within: int = 0) -> Sequence[int]:
-    """Return the frame of the day to which each PTS belongs, or `NO_FRAME` if there is none."""
+    """Return the frame of the day to which each PTS belongs, or `NO_FRAME` for a PTS that belongs
+    to none."""
     early = EARLY_TICKS * (within > 0)
     end, count = TICKS * FRAMES_OF_A_DAY, len(several)
     if count and several[-1] == several[0] + TICKS * (count - 1) and all(
             map(operator.eq, several, range(several[0], several[-1] + 1, TICKS))):
         ticks = wrap_pts(several[0] - origin + early)
         if (within or ticks % TICKS == 0) and ticks // TICKS + count <= FRAMES_OF_A_DAY:
-            return range(ticks // TICKS, ticks // TICKS + count)  # as in most recordings
+            # most recordings have one PTS per frame
+            return range(ticks // TICKS, ticks // TICKS + count)
     distances = ((pts - origin + early) % CLOCK for pts in several)
     if within:
         return [ticks // TICKS if ticks < end else NO_FRAME for ticks in distances]
@@ -138,8 +148,8 @@ def frames_at(several: Sequence[int], origin: int, within: int = 0) -> Sequence[
 
 
 def split_rising_rows(frames: Sequence[int]) -> list[tuple[int, Sequence[int]]]:
-    """Split frames into rows that never decrease, each with the index of its first frame.
-    `NO_FRAME` is a row of its own."""
+    """Split frames into rows in which they never decrease, each with the index of its first frame.
+    Each `NO_FRAME` is a row of its own."""
     if isinstance(frames, range):
         return [(0, frames)]
     breaks = [at for at, (one, other) in enumerate(zip(frames, frames[1:]), 1)
@@ -154,8 +164,8 @@ Item = TypeVar("Item")
 
 
 def count_until(items: Sequence[Item], is_later: Callable[[Item], bool]) -> int:
-    """Return the number of items before the first for which `is_later` is true. `bisect_right` has
-    no `key` before Python 3.10."""
+    """Return the number of items before the first item for which `is_later` is true. `bisect_right`
+    has no `key` before Python 3.10."""
     low, high = 0, len(items)
     while low < high:
         middle = (low + high) // 2
@@ -164,7 +174,7 @@ def count_until(items: Sequence[Item], is_later: Callable[[Item], bool]) -> int:
 
 
 class Span(NamedTuple):
-    """The first and the last number of consecutive frames or PES packets."""
+    """The numbers of the first and the last of some consecutive frames or PES packets."""
 
     first: int
     last: int
@@ -185,7 +195,7 @@ class Spans:
         return len(self.begins)
 
     def add(self, begin: int, end: int) -> None:
-        """Add a span; join it with the last span if they touch."""
+        """Add a span. Join it with the last span if they touch."""
         if self.begins and self.begins[-1] <= begin <= self.ends[-1] + 1:
             self.ends[-1] = max(self.ends[-1], end)
         else:
@@ -193,11 +203,12 @@ class Spans:
             self.ends.append(end)
 
     def is_rising(self) -> bool:
-        """Return whether the spans are in rising order."""
+        """Return whether the spans are in ascending order."""
         return all(map(int.__le__, self.begins, self.begins[1:]))
 
     def between(self, begin: int, end: int) -> Iterator[Span]:
-        """Yield the spans that overlap `begin` up to `end`, exclusive. The spans must be rising."""
+        """Yield the spans that overlap `begin` up to, but not including, `end`. The spans must be
+        in ascending order."""
         first, last = bisect.bisect_left(self.ends, begin), bisect.bisect_left(self.begins, end)
         return map(Span, self.begins[first:last], self.ends[first:last])
 
@@ -216,6 +227,6 @@ class Spans:
 
 
 def join_spans(several: Iterable[Spans]) -> Spans:
-    """Return the spans of several lists as one list in rising order."""
+    """Join several lists of spans to one list in ascending order."""
     rising = [each if each.is_rising() else Spans(sorted(each)) for each in several]
     return Spans(heapq.merge(*rising))
