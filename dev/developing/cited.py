@@ -1,7 +1,8 @@
 """Check names and numbers in the documents.
 
-Names in backquotes must be names in the sources. The line counts of promises and the numbers about
-the proof must equal the numbers that this module counts.
+Names in backquotes must be names in the sources. The documents give the number of lines of the
+definitions on which a law depends, and numbers about the proof. They must equal the numbers that
+this module counts.
 """
 from __future__ import annotations
 
@@ -23,7 +24,7 @@ DOCUMENTS = {"docs/HEADLINE.md": "", "docs/ASSURANCE.md": "", "docs/CLAUSES.md":
 ROW = re.compile(r"^\| (.*) \| `(\S+)` \| (\d+) \| (\d+) \|$", re.M)
 # The maximum number of lines of definitions that each law may need.
 MAX_LINES = {"run_in_memory.headline": 450, "run_in_memory.acceptance": 800}
-# Patterns that find the line counts of promises in README.
+# Patterns that find the line counts of laws in README.
 IN_README = {"run_in_memory.headline": re.compile(r"\[(\d+)\s+lines\]")}
 NUMBERS = re.compile(r"^## The proof in numbers$.*?(?=^## )", re.M | re.S)
 NUMBER = re.compile(r"^\| (.*) \| ([\d,]+) \|$", re.M)  # a table row with a number

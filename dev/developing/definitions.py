@@ -1,8 +1,8 @@
-"""Find the definitions of crates/*/specs that a name or a clause depends on.
+"""Find the definitions of crates/*/specs on which a name or a clause depends.
 
-Files are read as text. A name in a definition refers to an import or a definition in the file,
-unless it is bound: as a parameter, a field's label or a variable of a pattern. A name that one
-equation binds is not bound in the next equation.
+Files are read as text. A name in a definition refers to an import or to another definition in the
+file, unless the definition binds the name as a parameter, the label of a field, or a variable of a
+pattern. A variable of one equation is not bound in the next equation.
 """
 from __future__ import annotations
 

@@ -1,8 +1,9 @@
 """Find which definitions, lemmas and functions use each other, and which promises depend on them.
 
-Files are read as text, with their `use` lines: a variable with the name of an imported item counts
-as a use, and a method call counts as a use of each method with that name in the crate and its
-dependencies.
+A promise is a law (a public function named `law_of_..` or `example_of_..`) or a clause of a public
+function. Files are read as text, with their `use` lines. Therefore a variable with the name of an
+imported item counts as a use, and a method call counts as a use of each method with that name in
+the crate and its dependencies.
 """
 from __future__ import annotations
 
@@ -60,7 +61,10 @@ class UseGraph:
             self.link_proof(node)
 
     def resolve(self, module: str, name: str, seen: frozenset[str] = frozenset()) -> Node | None:
-        """Return the node to which a name in a module refers, `None` if no file defines it."""
+        """Return the node to which a name in a module refers, or `None` if no file defines it.
+
+        `seen` contains the modules that are already being searched.
+        """
         file = self.files.get(module)
         if file is None:
             above, _, kind = module.rpartition(".")  # a constructor belongs to its type
@@ -80,7 +84,7 @@ class UseGraph:
         return self.resolve(*file.names[name]) if name in file.names else None
 
     def link(self, node: Node, text: str) -> None:
-        """Add uses from a node to everything that a text from its file names."""
+        """Add everything to which the names in `text` refer to the uses of `node`."""
         for source, name in list_names(node.file, node.file.own, text):
             node.add(self.resolve(source, name) if source else self.resolve_in(node.file, name))
 
@@ -113,7 +117,8 @@ class UseGraph:
                     body.add(callee)
 
     def add_lemmas(self, node: Node, text: str) -> None:
-        """Add uses from a node to the lemmas that tactics name, as crate::proofs::M::law."""
+        """Add the lemmas that tactics name, such as crate::proofs::M::law, to the uses of a node.
+        """
         for path in filter(None, map(str.strip, ",".join(USING.findall(text)).split(","))):
             crate, *inner = path.split("::")
             if len(inner) > 1:
@@ -137,10 +142,14 @@ class UseGraph:
                 if not function.owner and (function.file.crate == crate or is_imported)]
 
     def link_proof(self, node: Node) -> None:
-        """Link a lemma in a function's proof folder to the clause that it names or the body."""
+        """Add a lemma in a function's proof folder to the uses of the clause in the lemma's name.
+
+        If its name contains no clause, add it to the uses of the function's body.
+        """
         _, crate, _, *inner, name, _ = node.file.module.split(".")
         functions = self.functions_by_name.get((crate, name), [])
-        # A method's folder has the module name of its type, which another file may define.
+        # The proof folder of a method is named after the module of its type, which may not define
+        # it.
         nearest = [function for function in functions
                    if function.file.module.split(".")[3:] in (inner, inner[:-1])]
         for function in nearest or functions:
@@ -164,7 +173,7 @@ class UseGraph:
                 and node.file.crate == (crate or node.file.crate)]
 
     def list_promised_definitions(self) -> list[Node]:
-        """Return the definitions on which public clauses and laws depend."""
+        """Return the definitions on which laws and the clauses of public functions depend."""
         found: dict[Node, None] = {}
         left = [node for node in self.nodes if node.kind == "clause"
                 and (node.is_promise or node.function is not None and node.function.is_promise)]
@@ -183,7 +192,7 @@ class UseGraph:
                 for file in self.files.values() if ".proofs." in file.module}
 
     def find_promises(self, node: Node) -> list[Node]:
-        """Return the promises that use a node directly or through nodes that are no promises."""
+        """Return the promises that use a node directly, or through nodes that are not promises."""
         found: dict[Node, None] = {}
         done = {node}
         left = collections.deque(node.used_by)

@@ -64,7 +64,7 @@ class Option(NamedTuple):
     default: str
 
     def list_choices(self) -> list[str]:
-        """Return the values that the option accepts, if the table lists them."""
+        """Return the values that the option accepts, if the option table lists them."""
         values = [word for word in re.findall(r"`([a-z0-9]+)`", self.means)
                   if word not in self.commands]
         return values if len(values) > 2 else []
@@ -86,7 +86,7 @@ def parse_commands(text: str) -> list[Command]:
 
 
 def parse_options(text: str) -> list[Option]:
-    """Parse the options in the table."""
+    """Parse the options in the option table of the manual."""
     return [Option(row[1], row[2] or "", re.findall(r"`(\w+)`", row[3]), row[4].strip(),
                    row[5].strip()) for row in ROW.finditer(text)]
 
@@ -229,8 +229,11 @@ PREFIXES = {"verdict": "", "fault": "", "request": "", "subtitle": "subtitle_", 
 
 
 def make_results_parts() -> dict[str, str]:
-    """Return a list of keys for each object in JSON results, marked if a CSV column has them.
-    Consecutive keys with the same description, or none, share a line."""
+    """Return the lists of keys in JSON results, one list for each object.
+
+    A key is marked if a CSV column contains its value. Consecutive keys with the same description,
+    or without a description, share a line.
+    """
     lines = list[str]()
     for record in filter(needs_table, list_records(VERDICT)):
         lines += ["", f"## {to_title(record)}", ""]
@@ -261,14 +264,15 @@ def format_key(record: Record, member: Member) -> str:
 
 
 def find_record(member: Member) -> Record | None:
-    """Return the object that is the value of a member, or an item in the member's list."""
+    """Return the object that a member contains, either directly or in a list, or `None`."""
     record = next((shape for shape in (member.shape, *member.shape.inner_shapes())
                    if isinstance(shape, Record)), None)
     return CAUSE if record is LISTED_CAUSE else record
 
 
 def list_records(shape: Shape, found: tuple[Record, ...] = ()) -> tuple[Record, ...]:
-    """Return the objects in a result, each after the first object that contains it."""
+    """Return the distinct objects in a result. An object follows the first object that contains it.
+    """
     if isinstance(shape, Record):
         if shape in found:
             return found
@@ -292,7 +296,10 @@ def find_column(record: Record, member: Member) -> str:
 
 
 def describe_member(member: Member) -> str:
-    """Return the descriptions of a member and, if no table contains it, of its value."""
+    """Return the description of a member's value, and the description of the member.
+
+    Omit the description of the value if it has a table of its own.
+    """
     shape = next((shape for shape in (member.shape, *member.shape.inner_shapes()) if shape.name),
                  None)
     inner = find_record(member)
@@ -355,7 +362,7 @@ def fill_rows(words: list[str], width: int) -> list[str]:
 
 
 def replace_parts(text: str, parts: dict[str, str]) -> str:
-    """Replace the generated parts of a text."""
+    """Return a text in which the generated parts that `parts` names are replaced."""
     missing = set(parts) - {found[2] for found in MADE.finditer(text)}
     if missing:
         raise Stop(f"add a line `made: NAME` for these parts: {', '.join(sorted(missing))}")

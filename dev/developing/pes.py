@@ -27,7 +27,7 @@ Header = tuple[int, int, bytes]  # magazine, page number, and the decoded header
 
 
 class Source(Protocol):
-    """An input file. `read` returns no bytes only at its end."""
+    """An input file. `read` returns an empty result only at the end of the file."""
 
     def read(self, size: int, /) -> bytes:
         """Return at most `size` bytes."""
@@ -68,7 +68,7 @@ def decode_address(data: bytes) -> tuple[int, int] | None:
 
 
 def decode_header(data: bytes) -> bytes | None:
-    """Return the eight Hamming 8/4 values of a page header, `None` if one can't be decoded."""
+    """Return the eight Hamming 8/4 values of a page header, or `None` if one can't be decoded."""
     numbers = [number for number in map(NUMBER.__getitem__, data[2:10]) if number is not None]
     return bytes(numbers) if len(numbers) == 8 else None
 
@@ -112,7 +112,7 @@ def make_pes_packet(pts: int, packets: Sequence[bytes]) -> bytes:
 
 
 def find_starts(data: bytes) -> list[int]:
-    """Return the offsets of the complete PES packets at the start of `data`, and their end."""
+    """Return the offsets of complete PES packets at the start of `data`, and the last one's end."""
     begins = [0]
     while data.startswith(START, begins[-1]) and len(data) - begins[-1] >= HEAD:
         length = HEAD + int.from_bytes(data[begins[-1] + 4:begins[-1] + HEAD], "big")

@@ -140,7 +140,7 @@ class LoadedCopy:
         return {"passed": len(names), "failed": "", "by": ""}
 
     def select_tests(self, name: str) -> list[unittest.TestCase]:
-        """Return the tests of a test or class name, or the tests whose names contain `name`."""
+        """Return the tests of the group `name`, or the tests whose names contain `name`."""
         found = self.units.get(name) or [test for unit in self.units.values() for test in unit
                                          if name in runner.name_of(test)]
         if not found:
@@ -185,7 +185,10 @@ class LoadedCopy:
 
 
 def run_forked(serve: Callable[[], Answer], seconds: float) -> Answer:
-    """Run `work` in a forked process. Kill the process and its children after `seconds`."""
+    """Run `serve` in a forked process, and return its answer.
+
+    After `seconds`, kill the process and its children, and return an answer with TOO_LONG.
+    """
     reading, writing = os.pipe()
     child = os.fork()
     if not child:
@@ -211,7 +214,7 @@ def run_forked(serve: Callable[[], Answer], seconds: float) -> Answer:
 
 
 class Worker:
-    """A copy of the repository, partly links, and a process that runs tasks in it."""
+    """A process that runs tasks in a copy of the repository. Parts of the copy are links."""
 
     def __init__(self, folder: str, program: str) -> None:
         os.chmod(folder, 0o755)  # some tests run as another user, who must read the copy
@@ -243,7 +246,7 @@ class Worker:
 
 def serve(folder: str, program: str) -> None:
     """Run tasks from standard input: trace a test, or run tests with changed files."""
-    sys.dont_write_bytecode = False  # only mutants change the modules of the copy
+    sys.dont_write_bytecode = False  # store bytecode of the copy, but not of mutants
     copy = LoadedCopy(folder, program)
     sys.dont_write_bytecode = True
     out = os.fdopen(os.dup(1), "w")

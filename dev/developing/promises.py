@@ -12,7 +12,7 @@ HEAD = "\n## The index of clauses\n"
 
 
 def find_index(text: str) -> str:
-    """Return the text of the index, or the entire document if it has no such heading."""
+    """Return the text below the heading of the index, or the entire document if it has no index."""
     return text.rpartition(HEAD)[2].partition("\n## ")[0]
 
 

@@ -3,12 +3,13 @@
     sources SUM             the line of tools/sources
     program SUM             the program's SHA-256
     toolchain LINE          the output of `rt version`
-    crate NAME SUM LINE     for each crate, lowest first: the line of `tools/sources --crates` and
-                            the prover's line, logic=proved .., of the run that proved it
+    crate NAME SUM LINE     for each crate, after the crates that it uses: the checksum that
+                            `tools/sources --crates` prints, and the line logic=proved .. that the
+                            prover printed when it proved the crate
 
 out/ has the program that was proved and built here, dist/ the committed program. If `rt ci` reuses
-an earlier proof of a crate, it prints no line for it. So each line is stored in out/lines, with the
-checksum of the sources that were proved, and taken from there or from dist/PROVED.
+an earlier proof of a crate, it prints no line for the crate. So each line is stored in out/lines,
+with the checksum of the sources that were proved. It is taken from there or from dist/PROVED.
 """
 from __future__ import annotations
 
@@ -90,7 +91,10 @@ def read_toolchain_version() -> str:
 
 
 def parse_log(log: str) -> dict[str, str]:
-    """Return the prover's line for each crate that `rt ci` proved, by name, without test crates."""
+    """Return the prover's line for each crate that `rt ci` proved, by the crate's name.
+
+    Test crates are omitted.
+    """
     found: dict[str, str] = {}
     crate: str | None = None
     proof: str | None = None
@@ -113,7 +117,7 @@ def store_lines(lines: dict[str, str], sums: dict[str, str]) -> None:
 
 
 def list_known_lines(version: str | None) -> dict[tuple[str, str], str]:
-    """Return the stored lines from this version of the toolchain, by crate and checksum."""
+    """Return the stored lines of the prover for a toolchain version, by crate and checksum."""
     found: dict[tuple[str, str], str] = {}
     for proved in (read_proved(DIST), parse_proved(read(LINES_FILE))):
         if proved.toolchain == version:

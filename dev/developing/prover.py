@@ -1,8 +1,8 @@
 """Call the toolchain's prover, which proves a crate from the statements of the crates it uses.
 
-`rattle build` checks each function of a crate. If all are proved, it writes the crate's library, or
-for the program an object file, which `rattle-link` links. `rt ci` does the same, but gives a crate
-one job as long as another crate waits; here the caller chooses the number of jobs.
+`rattle build` checks each function of a crate. If all are proved, it writes the crate's library.
+For the program it writes an object file, which `rattle-link` links. `rt ci` does the same, but lets
+a crate use only one job while another crate waits. Here the caller chooses the number of jobs.
 """
 from __future__ import annotations
 
@@ -19,7 +19,7 @@ from .proved import read_toolchain_version
 
 PROGRAM = "subttx"
 TARGET = "x86_64-unknown-linux-gnu"
-# The words that may occur in a prover's line. Any other word counts something unproved.
+# The words that may occur in a prover's line. Any other word means that something is not proved.
 WORDS = {"functions", "axioms", "target", "cpu", "sum", "native", "logic-built", "libraries-built",
          "statements"}
 LINE = re.compile(r"^logic=proved .*$", re.M)
@@ -27,7 +27,10 @@ WARNING = re.compile(r"^(\S+ )?warning:", re.M)
 
 
 class Prover:
-    """The toolchain's prover, found by the `rt` on PATH, and the folder for built libraries."""
+    """The toolchain's prover, which is found by means of `rt` on the PATH.
+
+    `made` is the folder for built libraries.
+    """
 
     def __init__(self, lines: Lines, made: str) -> None:
         rt = shutil.which("rt")
@@ -51,7 +54,10 @@ class Prover:
                 else self.get_library_path(crate))
 
     def make_prove_command(self, crate: str, jobs: int) -> list[str]:
-        """Return the command that proves a crate and writes its library, for the crate's folder."""
+        """Return the command that proves a crate and writes its library.
+
+        It must run in the crate's folder.
+        """
         root = "src/main.rt" if crate == PROGRAM else "src/lib.rt"
         words = [os.path.join(self.programs, "rattle"), "build", "--crate-name", crate, root]
         for name in ["std", *self.lines[crate]]:
@@ -103,7 +109,8 @@ class BuildRecord:
         return hashlib.sha256(text.encode()).hexdigest()
 
     def find_line(self, crate: str) -> str | None:
-        """Return the prover's line for a crate if exactly these sources were proved here."""
+        """Return the prover's line for a crate if its current sources were proved here, or `None`.
+        """
         digest, _, line = (read(self.get_note_path(crate)) or "").partition("\n")
         is_there = os.path.exists(self.prover.get_output_path(crate))
         return line.strip() if is_there and digest == self.compute_sum(crate) else None
@@ -117,7 +124,10 @@ class BuildRecord:
 
 
 def compute_remaining_work(lines: Lines, sizes: dict[str, int]) -> dict[str, int]:
-    """Return for each crate, highest first, the work on its longest path to the program."""
+    """Return for each crate the greatest sum of `sizes` on a path of users from it to the program.
+
+    `sizes` lists each crate after the crates that it uses. The result has the opposite order.
+    """
     found: dict[str, int] = {}
     for name in reversed(sizes):
         above = (work for user, work in found.items() if name in lines[user])

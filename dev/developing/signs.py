@@ -4,7 +4,7 @@ from __future__ import annotations
 import re
 from typing import Iterable
 
-# The tokens of a symbol, its notation, and its meaning.
+# Columns: the tokens of a symbol, its notation, and its meaning.
 ROWS = """
 → | A → B | if A then B; also: functions from A to B
 → | (x : A) → P | for every x of A, P; (x y : ℕ) (p : List ℕ) → P the same for several

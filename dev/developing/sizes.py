@@ -56,7 +56,7 @@ def add_sizes(sizes: dict[str, collections.Counter[str]]) -> collections.Counter
 
 
 def count_promised_definitions(graph: UseGraph) -> collections.Counter[str]:
-    """Count the lines of definitions on which public contracts and laws depend, by crate."""
+    """Count, for each crate, the lines of definitions on which public contracts and laws depend."""
     lines: collections.Counter[str] = collections.Counter()
     for definition in graph.list_promised_definitions():
         lines[definition.file.crate] += definition.lines

@@ -37,7 +37,7 @@ class Node:
     is_promise: bool = False
     is_public: bool = False
     owner: str = ""
-    function: Node | None = None  # the function of a clause
+    function: Node | None = None  # the function to which a clause belongs
     uses: dict[Node, None] = field(default_factory=dict)
     used_by: dict[Node, None] = field(default_factory=dict)
 
@@ -64,11 +64,10 @@ class Source(File):
 
 
 def read_definitions(file: Source, kind: str) -> Iterator[Node]:
-    """Yield the definitions in a file of specs/ or proofs/, also those inside `module _ .. where`.
+    """Yield the definitions in a file of specs/ or proofs/, including those in `module _ .. where`.
 
-    A definition begins at a line with a type or a keyword such as `pub`, at the indentation of its
-    neighbours. It includes its equations, all lines with more indentation, and the parameters of
-    the enclosing modules.
+    A definition begins at a line with a type or a keyword such as `pub`. It includes its equations,
+    the following lines with more indentation, and the parameters of the enclosing modules.
     """
     now: Node | None = None
     # The indentation, the parameters and the inner indentation of each enclosing module.
@@ -101,7 +100,7 @@ def read_definitions(file: Source, kind: str) -> Iterator[Node]:
 
 
 def ends_head(bare: str) -> bool:
-    """Return whether a line ends the parameters of a module."""
+    """Return whether a line is the last line of a module's parameters."""
     return bare == "where" or bare.endswith(" where")
 
 
@@ -112,7 +111,8 @@ def find_defined_name(bare: str) -> str | None:
 
 
 def find_head_names(text: str) -> set[str]:
-    """Return the quoted names in a file's first comment, and the names of its main lemmas."""
+    """Return the quoted names in a file's first comment, and the names that follow `main lemmas:`.
+    """
     lines = itertools.takewhile(lambda line: line.startswith("--"), text.split("\n"))
     head = " ".join(line[2:].strip() for line in lines)
     listed_there = (re.split(r"[`,;\s]+", names) for names in MAIN.findall(head))
@@ -120,7 +120,8 @@ def find_head_names(text: str) -> set[str]:
 
 
 def read_functions(file: Source) -> list[str]:
-    """Add the functions in a file of src/ to `file`. Return the lines outside functions."""
+    """Add the functions in a source file to `file.functions`. Return the lines outside functions.
+    """
     other_lines: list[str] = []
     attributes: list[str] = []  # attributes of the next function
     owner, at = "", 0
@@ -151,7 +152,10 @@ def read_functions(file: Source) -> list[str]:
 
 
 def find_end_of_function(lines: list[str], at: int, indent: str) -> int:
-    """Return the last line of the function that begins at line `at` with this indentation."""
+    """Return the index of the last line of the function that begins at line `at`.
+
+    `indent` is the indentation of the function.
+    """
     depth = 0  # depth of braces in the contract
     for number in range(at, len(lines)):
         line = lines[number].rstrip()

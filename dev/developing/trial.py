@@ -68,8 +68,8 @@ void *realloc(void *old, size_t size) {
 }
 """
 
-# Let close fail like a file system that stores data at close. The first KEPT bytes of the file
-# remain; if KEPT is negative, the file is removed.
+# Let close fail like a file system that stores the data of a file when it is closed. The first KEPT
+# bytes of the file remain. If KEPT is negative, the file is removed.
 UPLOADER = rb"""
 #define _GNU_SOURCE
 #include <dlfcn.h>
@@ -103,7 +103,7 @@ int close(int fd) {
 
 
 class Command(NamedTuple):
-    """A command line, its output file, and its result if no call fails."""
+    """A command line, its output file, and the expected result if no system call fails."""
 
     name: str
     program_args: list[str]
@@ -147,10 +147,9 @@ class RunResult(NamedTuple):
     changed: tuple[str, ...] = ()
 
 
-# The name, run and faults of a case; a function that runs cases; an expected status and output.
-Found = tuple[str, Union[RunResult, Command], list[str]]
-Case = Callable[[], list[Found]]
-End = tuple[int, bytes]
+Found = tuple[str, Union[RunResult, Command], list[str]]  # name, run and faults of a case
+Case = Callable[[], list[Found]]  # runs cases
+End = tuple[int, bytes]  # expected status and output
 
 
 def read(path: str) -> bytes | None:
@@ -219,7 +218,8 @@ def collect_run(place: str, command: Command, before: dict[str, bytes | None], s
 
 
 class Trial:
-    """The program, its inputs and commands, and what this machine can test."""
+    """The program under test, its inputs and commands, and the tests that this machine can't run.
+    """
 
     def __init__(self, program: str, folder: str) -> None:
         self.program, self.folder = program, folder
@@ -258,7 +258,7 @@ class Trial:
         return f"{path}.so"
 
     def make_command(self, name: str, program_args: list[str]) -> Command:
-        """Return a command with its result if no call fails."""
+        """Return a command with its expected result, which it has if no system call fails."""
         out = program_args[2] if program_args[0] in ("normal", "schedule", "extract") else None
         run_result = self.run(Command(name, program_args, out, 0, b"", None))
         return Command(name, program_args, out, run_result.status, run_result.printed or b"",
@@ -284,7 +284,9 @@ class Trial:
             return collect_run(place, command, before_it, done.returncode, done.stdout, done.stderr)
 
     def run_each(self, command: Command, setups: Sequence[Setup]) -> list[RunResult]:
-        """Run the program with each setup, in new folders. A single shell takes a third less time.
+        """Run the program with each setup, in new folders.
+
+        One shell runs all of them; this saves a third of the time.
         """
         places = [tempfile.mkdtemp(dir=self.folder) for _ in setups]
         script = f"ulimit -c 0; ulimit -t {SECONDS}\n" + "".join(
@@ -335,7 +337,8 @@ def find_faults(run_result: RunResult, status: int | str, printed: bytes,
 def find_explanation_faults(run_result: RunResult, printed: bytes) -> list[str]:
     """Return the faults in the standard error of a run.
 
-    It must explain each file fault and each argument fault, and must be empty for status 0 and 1.
+    Standard error must explain each fault of a file and each fault of the arguments. It must be
+    empty for status 0 and 1.
     """
     if run_result.status in (0, 1) and run_result.error_text:
         return [f"unexpected standard error: {run_result.error_text!r}"]
@@ -359,9 +362,10 @@ def compare_with_normal_run(command: Command, run_result: RunResult) -> list[str
 
 
 def check_memory_failure(command: Command, run_result: RunResult) -> list[str]:
-    """Return faults unless a run's output is normal or reports that memory ran out.
+    """Return the faults in a run with little memory.
 
-    If memory runs out, the explanation of wrong arguments may be missing or incomplete.
+    The output must be the normal output, or must report that memory ran out. Then the explanation
+    of wrong arguments may be missing or incomplete.
     """
     found = NO_MEMORY.search(run_result.printed or b"")
     if not found or run_result.printed is None:
@@ -392,7 +396,7 @@ def count_packets_before(data: bytes, offset: int) -> int:
 
 
 def parse_block(line: bytes) -> int:
-    """Return the block number in a line `refused NN Name block N`."""
+    """Return the block number in a line of the form `refused NN Name block N`."""
     return int(line.split()[4])
 
 

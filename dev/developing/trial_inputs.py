@@ -14,7 +14,8 @@ SUBTITLES = 1700  # enough subtitles to fill each 64 KiB buffer three times
 FLAGS = 6  # offset of the flags in a PES packet, which begin with the bits 10
 HEADER = "1515d0d015d015d00215" + "20" * 32
 
-# Commands with their status if no call fails. The output file, if any, is the third argument.
+# Commands, each with its status if no system call fails. The output file, if any, is the third
+# argument.
 COMMANDS = [
     ("packet", 0, ["packet", HEADER]),
     ("usage", 2, ["check", "../long.stl"]),
@@ -59,7 +60,7 @@ def set_even_parity(sent: bytes) -> bytes:
 
 
 def make_unreadable(sent: bytes) -> bytes:
-    """Make each PES packet in the transmission unreadable, for two reasons in turn."""
+    """Make each PES packet in the transmission unreadable, alternately in two ways."""
     data = bytearray(sent)
     for number, begin in enumerate(find_starts(sent)[:-1]):
         data[begin + (DATA - 1 if number % 2 else FLAGS)] ^= 0x40

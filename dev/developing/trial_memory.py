@@ -1,7 +1,7 @@
 """Run the program with little memory, for dev/faults.
 
-These runs refuse a memory request, limit the address space, limit the stack, or check a file with
-many subtitles in a few megabytes.
+In these runs a memory request fails, the address space or the stack is limited, or a file with many
+subtitles is checked in a few megabytes.
 """
 from __future__ import annotations
 
@@ -79,7 +79,7 @@ def run_with_less_memory(trial: Trial) -> Iterator[Case]:
 
 
 def resolve_examples(program_args: list[str]) -> list[str]:
-    """Replace the names of example files by their paths."""
+    """Return the arguments with the names of example files replaced with their paths."""
     places = [os.path.join(TOP, "examples", word) for word in program_args]
     return [place if os.path.exists(place) else word for word, place in zip(program_args, places)]
 

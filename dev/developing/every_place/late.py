@@ -1,8 +1,8 @@
 """Make random transmissions that resemble the output of a subtitle inserter and a multiplexer.
 
-A page is sent in several PES packets, in two fields or in consecutive frames, late, with an inexact
-PTS, or repeated before it is complete: usually within the allowed frames, sometimes later. Some PES
-packets are unreadable.
+A page may be sent in several PES packets, in two fields or in consecutive frames. It may be late,
+have an inexact PTS, or be repeated before it is complete. It is usually complete within the allowed
+frames, occasionally later. Some PES packets are unreadable.
 """
 from __future__ import annotations
 

@@ -1,1 +1,1 @@
-"""A second implementation of `survey`, from docs/manual/survey.md alone, for dev/check-survey."""
+"""A second implementation of `survey` for dev/check-survey, written from the manual page only."""

@@ -7,9 +7,10 @@ from subtitles.common.times import ticks_between, wrap_pts
 from .packets import Packet
 
 SECOND, TENTH = 90_000, 9_000  # ticks
-MEDIANS, FEWEST = 100, 5  # distances in a median; minimum number of distances to detect a late PCR
+# Number of distances for the median, and minimum number of distances to detect a late PCR.
+MEDIANS, FEWEST = 100, 5
 MOST_BREAKS = 256
-NEAR = 256  # number of TS packets
+NEAR = 256  # number of TS packets after a PCR that are always near it
 Say = Callable[[str], None]
 
 
@@ -19,7 +20,7 @@ def number(value: int | None) -> str:
 
 
 class Seconds:
-    """Selects the times to print: one per second, and each time before the last printed time."""
+    """Selects the times to print: one in each second, and each time that jumps back."""
 
     def __init__(self) -> None:
         self.last: int | None = None
@@ -31,7 +32,7 @@ class Seconds:
 
 
 class Jump(NamedTuple):
-    """An irregular PCR: the fields of its line, and the positions of the last two PCRs."""
+    """An irregular PCR: the fields of its output line, and the positions of the last two PCRs."""
 
     fields: str
     first: int
@@ -46,7 +47,8 @@ class Clock:
         self.seconds = Seconds()
         self.last: int | None = None
         self.place = 0
-        self.is_compared = False  # whether the next PCR is compared: no jump was announced
+        # Whether the next PCR is compared. It is not compared after an announced jump.
+        self.is_compared = False
         self.distances: list[tuple[int, int]] = []
 
     def take(self, pcr: int, place: int) -> Jump | None:
@@ -103,7 +105,11 @@ class Counters:
         self.announced.discard(pid)
 
     def word(self, jump: Jump, pid: int) -> str:
-        """Return what the counters of other PIDs show about a jump: broken, whole or unknown."""
+        """Return the word that describes the counters of other PIDs near a jump.
+
+        It is `broken` if a counter is not continuous, `whole` if all are, and `unknown` without
+        counters.
+        """
         if any(other != pid and first < jump.last and last > jump.first
                for other, first, last in self.breaks):
             return "broken"

@@ -15,7 +15,7 @@ from .tables import PAT, PMT, Programme, Sections, pids_in, programme_of
 from .teletext import PesLines, Teletext
 
 READ = 65_536  # number of bytes in one read of the program
-MOST, MOST_TABLES = 64, 128  # maximum number of PIDs
+MOST, MOST_TABLES = 64, 128  # maximum number of PIDs of each kind, and of PIDs with tables
 NO_PCR = NULL = 0x1FFF  # PCR_PID of a programme without PCR; PID of null packets
 DATA_IDENTIFIERS = range(0x10, 0x20)
 
@@ -32,7 +32,7 @@ def survey(data: bytes, page: Page, pid: int | None = None, size: int | None = N
 
 
 def pes_file_lines(data: bytes, page: Page) -> list[str]:
-    """Return the lines for a file of PES packets."""
+    """Return the output lines of `survey` for a file of PES packets."""
     lines = ["size 0"]
     pes = PesLines(0, page, lines.append)
     place, damage = 0, ""
@@ -54,7 +54,7 @@ def pes_file_lines(data: bytes, page: Page) -> list[str]:
 
 
 class Stream:
-    """A transport stream."""
+    """Collects the output lines of `survey` for a transport stream."""
 
     def __init__(self, page: Page, pid: int | None, size: int) -> None:
         self.page, self.asked, self.size = page, pid, size

@@ -23,9 +23,10 @@ class Packet(TransportPacket):
 
 
 def size_of(data: bytes) -> tuple[int | None, bool]:
-    """Return the packet size, given by five sync bytes in a row or by fewer before the end.
+    """Return the packet size, and whether the data end within five packets.
 
-    The second value is whether the data end within these five packets.
+    The size is the distance between five consecutive sync bytes, or between fewer at the end of the
+    data. Return `None` if there are no such sync bytes.
     """
     place = data.find(SYNC)
     while 0 <= place <= min(MOST_BYTES, len(data) - PACKET):

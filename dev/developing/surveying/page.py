@@ -37,13 +37,13 @@ def decode_triplet(data: bytes) -> int | None:
 
 
 class DecodedPage:
-    """The decoded page, and its changes by one PES packet."""
+    """The decoded page, and the changes that one PES packet made to it."""
 
     def __init__(self, page: Page) -> None:
         self.magazine, self.number = page
         self.rows: Rows = {}
         self.is_open = self.is_received = False
-        self.is_last_of_magazine = False  # the magazine's last header was a header of the page
+        self.is_last_of_magazine = False  # whether the magazine's last header is of this page
         self.begin()
 
     def begin(self) -> None:
@@ -84,7 +84,7 @@ class DecodedPage:
             self.does += "c"
 
     def done(self) -> str:
-        """Return the changes by the PES packet, as the fields DOES/CONTROL."""
+        """Return what the PES packet did to the page, as the DOES/CONTROL field of a `pes` line."""
         is_blank = all(set(codes) <= {SPACE, EVEN_SPACE} for codes in self.rows.values())
         does = self.does + "o" * self.is_open + "b" * is_blank + "s" * self.has_strays
         return f"{does or '-'}/{'+'.join(self.control)}"

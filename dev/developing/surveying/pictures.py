@@ -1,4 +1,7 @@
-"""Compute the lines for a PID with video: its pictures, and the first group with random access."""
+"""Compute the output lines of `survey` for a PID with video.
+
+The lines report pictures, and the first group of pictures that has random access.
+"""
 from __future__ import annotations
 
 from developing.every_place.recordings import Stretch
@@ -45,25 +48,25 @@ def form_of(kind: int, data: bytes) -> str | None:
 
 
 class Video:
-    """A PID with video."""
+    """Collects the output lines of `survey` for a PID with video."""
 
     def __init__(self, pid: int, say: Say, pmt_entries: dict[int, tuple[int, int]]) -> None:
         self.pid, self.say, self.pmt_entries = pid, say, pmt_entries
         self.stretch = Stretch(None)
         self.header: bytes | None = None  # header of a picture whose PTS and DTS are unknown
-        self.is_flagged = False  # random_access_indicator is set for the next picture
-        self.is_next_flagged = False  # random_access_indicator of the picture that begins
+        self.is_flagged = False  # random_access_indicator was set before the next picture
+        self.is_next_flagged = False  # random_access_indicator is set for the current picture
         self.count = self.passed = 0
-        self.decoding: int | None = None  # decoding time of the last picture with a time
-        self.number = 0  # number of that picture
+        self.decoding: int | None = None  # decoding time of the last picture that has one
+        self.number = 0  # number of this last picture
         # State of the first group.
         self.has_begun = self.has_ended = False
         self.flagged: int | None = None
         self.least: int | None = None
         self.lost = self.scrambled = 0
         self.kind = 0
-        self.first: bytes | None = None  # payload of its first picture
-        self.header_left = 0  # bytes of that picture's PES header that are still to come
+        self.first: bytes | None = None  # payload of the group's first picture
+        self.header_left = 0  # bytes of the first picture's PES header that are still missing
         self.form: str | None = None
 
     @property

@@ -135,7 +135,7 @@ def teletext_pes(chance: Random, pts: int, packets: list[bytes]) -> bytes:
     """Return a PES packet with Teletext, sometimes with a fault."""
     data = make_pes_packet(wrap_pts(pts), packets) + bytes(chance.choice([0] * 60 + [20, 184]))
     if chance.random() < 0.02:
-        return data[:6] + b"\xff" * (len(data) - 6)  # a gap marker if it has 184 bytes
+        return data[:6] + b"\xff" * (len(data) - 6)  # a gap marker if the packet has 184 bytes
     if chance.random() < (0.03 if packets else 0.15):  # change PTS_DTS_flags
         return data[:7] + bytes([chance.choice([0, 0xC0])]) + data[8:]
     if chance.random() < 0.05:
@@ -145,7 +145,8 @@ def teletext_pes(chance: Random, pts: int, packets: list[bytes]) -> bytes:
     return data
 
 
-# Start codes or NAL unit headers that precede a picture, and those of the picture.
+# Start codes or NAL unit headers that precede a picture, and then those with which a picture
+# begins.
 BEFORE_PICTURE = {MPEG_1: [0xB3, 0xB2, 0xB8], MPEG_2: [0xB3, 0xB5, 0xB2, 0xB8], H264: [0x09],
                   HEVC: [0x46, 0x40, 0x42, 0x44, 0x4E]}
 OF_PICTURE = {MPEG_1: [0], MPEG_2: [0], H264: [0x65], HEVC: [2 * unit for unit in (
@@ -183,7 +184,7 @@ def picture_pes(chance: Random, kind: int, pts: int, dts: int, is_first: bool, i
 
 JUMPS = [90_000, -90_000, 3600, -3600, 400_000, 1 << 31, -900_000, 20_000]
 TimeJumps = list[tuple[int, int]]  # time and size of each jump in ticks
-Event = tuple[int, Callable[[], None]]  # transmission time, and function that sends
+Event = tuple[int, Callable[[], None]]  # transmission time, and function that sends a packet
 
 
 class Programme:
@@ -213,7 +214,8 @@ class Programme:
         self.change_pmt()
 
     def splice(self) -> None:
-        """Change counters, sometimes with an announcement, and lose TS packets."""
+        """Change continuity counters, announce some of these changes, and lose TS packets nearby.
+        """
         chance, mux = self.chance, self.mux
         for pid in [self.clock, *[pid for _, pid, _ in self.streams]]:
             if chance.random() < 0.3:

@@ -40,7 +40,7 @@ class PesLines:
         self.count = self.marks = 0
         self.ends_with_gap = False
         self.page = DecodedPage(page)
-        # The pending line: the PTS of its PES packets, and its fields after STEP.
+        # The PES packets of the next `pes` line: their PTS, and the fields of this line after STEP.
         self.times: list[int | None] = []
         self.rest = ""
         self.printed: dict[str, Rows | None] = {"rows": None, "strays": {}}
@@ -106,7 +106,8 @@ class PesLines:
             self.note_set(address[1], NUMBER[data[2]], decode_triplet(data[3:6]))
 
     def note_set(self, packet: int, designation: int | None, value: int | None) -> None:
-        is_of_page = self.page.is_last_of_magazine and not (value and value & 15)  # page function
+        # The lowest four bits of a triplet are the page function.
+        is_of_page = self.page.is_last_of_magazine and not (value and value & 15)
         if designation not in (0, 4) or packet == 28 and not is_of_page:
             return
         region, option = (value >> 10 & 15, value >> 7 & 7) if value is not None else "--"
@@ -125,14 +126,15 @@ class PesLines:
 
 
 class Teletext:
-    """A PID with Teletext."""
+    """Collects the output lines of `survey` for a PID with Teletext."""
 
     def __init__(self, pid: int, page: Page, say: Say, counters: Counters) -> None:
         self.pid, self.say, self.counters = pid, say, counters
         self.lines = PesLines(pid, page, say)
         self.packets = self.scrambled = 0
         self.refusal = 0
-        self.refused_stretch: Stretch | None = None  # set after a refused TS packet
+        # Used to detect repeated TS packets after a PES packet with a wrong start or length.
+        self.refused_stretch: Stretch | None = None
         # The payloads since the last start of a PES packet, break or announced jump.
         self.stretch = Stretch(None)
         self.part = b""
@@ -145,13 +147,16 @@ class Teletext:
         self.is_complete = True
         self.is_behind_gap = False
         self.aheads, self.leads = Seconds(), Seconds()
-        self.picture: tuple[Video | None, int] = None, 0  # picture of the last `lead` line
+        self.picture: tuple[Video | None, int] = None, 0  # picture in the last `lead` line
         self.settled: int | None = None  # last PTS before the last PCR
         # Pending jumps of the PCR, with the PTS before and after each jump.
         self.waiting: list[tuple[Jump, int | None, int | None]] = []
 
     def take(self, packet: Packet) -> int | None:
-        """Process a TS packet of the PID. Return the PTS if this packet completes it."""
+        """Process a TS packet of the PID.
+
+        Return the PTS of the last PES packet if the TS packet completes its header, or `None`.
+        """
         self.packets += 1
         self.is_behind_gap &= not self.refusal
         self.scrambled += packet.is_scrambled
@@ -232,7 +237,7 @@ class Teletext:
         self.settled = self.last_pts
 
     def print_jumps(self, place: float) -> None:
-        """Print the oldest pending jumps while there are too many or they are too old."""
+        """Print the oldest pending jumps until few remain and none is too old."""
         while len(self.waiting) > MOST_JUMPS or self.waiting \
                 and place - self.waiting[0][0].last > MOST_PACKETS:
             jump, before, after = self.waiting.pop(0)
