@@ -1,4 +1,4 @@
-"""Faults with their places and details, and hints on faults with certain numbers."""
+"""Convert the faults of a verdict to JSON values, and give hints on them."""
 from __future__ import annotations
 
 import itertools
@@ -29,12 +29,13 @@ from .transmissions import PageHeader, describe_effect, describe_header_faults, 
 from .verdict import Verdict
 
 
-# Cells and PES packets that faults refer to
-
-
 class FaultPlace(NamedTuple):
-    """A PES packet, or `None` between two packets; its PTS and the page decoded then; and, for
-    refused control bits (67), the headers of the page."""
+    """The place of a fault in the transmission.
+
+    `pes` is the number of the PES packet and `pts` its PTS; both are `None` between two packets.
+    `rows` has the page decoded after this packet. For refused control bits (67), `headers` has the
+    page headers.
+    """
 
     pes: int | None
     pts: int | None
@@ -47,7 +48,11 @@ NO_PLACE = FaultPlace(None, None, None)
 
 def find_fault_place(fault: FaultLine, packets: Packets, timeline: Timeline | None,
                      expected: Rows | None = None) -> FaultPlace:
-    """Return the place of a transmission fault; `expected` is the expected page."""
+    """Return the place of a transmission fault.
+
+    A frame may have several PES packets. If `expected`, the expected page, is given, choose the
+    last one after which the cell of the fault is wrong.
+    """
     if fault.pes is not None:
         return FaultPlace(fault.pes, packets.pts_at(fault.pes), None)
     if fault.frame is None or timeline is None:
@@ -69,8 +74,10 @@ def find_fault_place(fault: FaultLine, packets: Packets, timeline: Timeline | No
 
 
 def find_pes_packet(members: Sequence[PacketRun], packet: int) -> PacketRun:
-    """Return the PES packet of a frame that contains a Teletext packet. The packet numbers count
-    through all PES packets of the frame."""
+    """Return the PES packet, of the PES packets in one frame, that contains a Teletext packet.
+
+    `packet` is the number of the Teletext packet among all Teletext packets of the frame.
+    """
     ends = itertools.accumulate(run.units for run in members)
     return next((run for run, end in zip(members, ends) if packet < end), members[-1])
 
@@ -88,14 +95,12 @@ def find_code(rows: Rows | None, row: int, column: int) -> int | None:
     return rows[row - 1][column] & 0x7F
 
 
-# Hints on the first fault with a certain number
-
 HINTS_BY_NUMBER = {EMPTY_TIME, CHARACTER, OUT_OF_ORDER, OFF_FRAME, CONTROL, GAP, PARITY, SILENT}
-HINTS_ON_PAGES = {DISPLAY, CONTENT}  # faults whose hint names an option, or a difference
-LENGTH_FAULTS = {32, 35}  # wrong lengths of PES packets or their headers
+HINTS_ON_PAGES = {DISPLAY, CONTENT}
+LENGTH_FAULTS = {32, 35}  # wrong lengths of PES packets or of their headers
 RANGE_FAULTS = {BEGIN, END}  # the recording begins late or ends early
 FAULTS_WITH_HINT = HINTS_BY_NUMBER | HINTS_ON_PAGES | LENGTH_FAULTS | RANGE_FAULTS
-DSC = slice(11, 12)  # display standard code (DSC) in the GSI block
+DSC = slice(11, 12)  # the byte of the display standard code (DSC) in the GSI block
 
 
 def list_hints(verdict: Verdict) -> Iterator[str]:
@@ -107,7 +112,7 @@ def list_hints(verdict: Verdict) -> Iterator[str]:
 
 
 def describe_hint(fault: FaultLine, part: Part, verdict: Verdict) -> str:
-    """Return a hint on a fault, or an empty text."""
+    """Return a hint on a fault, or an empty string if there is none."""
     request = verdict.request
     if fault.number == CHARACTER:
         if not fault.block or fault.at is None:
@@ -143,8 +148,10 @@ def describe_hint(fault: FaultLine, part: Part, verdict: Verdict) -> str:
 
 
 def describe_first_hint(fault: FaultLine, part: Part, verdict: Verdict) -> str:
-    """Return the hint on the fault to report first. For a header fault, begin with the subtitle and
-    the effect on receivers."""
+    """Return the hint on the fault to report first.
+
+    For a header fault, the hint begins with the subtitle and the effect on receivers.
+    """
     words = describe_hint(fault, part, verdict)
     if fault.number != CONTROL or not words or fault.frame is None:
         return words
@@ -154,8 +161,10 @@ def describe_first_hint(fault: FaultLine, part: Part, verdict: Verdict) -> str:
 
 
 def describe_subtitle_at(frame: int, part: Part) -> str:
-    """Describe the subtitle that is expected in a frame, with its text; in a pause, the decoded
-    page and the previous subtitle."""
+    """Return the name and the text of the subtitle that is expected in a frame.
+
+    In a pause, return text such as `the page after subtitle 5`.
+    """
     due = part.expected_pages()
     count, is_due = due.count_begun(frame)
     if not is_due:
@@ -165,7 +174,10 @@ def describe_subtitle_at(frame: int, part: Part) -> str:
 
 
 def describe_parity_fault(fault: FaultLine, part: Part) -> str:
-    """Describe which character of a subtitle has even parity; empty if it is unknown."""
+    """Describe which character of a subtitle has even parity.
+
+    Return an empty string if the frame or its page is unknown.
+    """
     rows = find_fault_place(fault, part.packets, part.decoded_pages).rows
     if fault.frame is None or rows is None:
         return ""
@@ -183,15 +195,16 @@ def describe_parity_fault(fault: FaultLine, part: Part) -> str:
 
 
 def describe_pid_end(part: Part) -> str:
-    """Describe why there is no Teletext after the last judged PES packet; return an empty text if
-    there is."""
+    """Explain why the PID has no Teletext after the last judged PES packet.
+
+    Return an empty string if it has.
+    """
     is_last = part.pes is not None and part.pes[1] == part.packets.count - 1
     return (explain_refusal(part.packets) or "") if is_last and part.packets.refusal else ""
 
 
 def describe_unrecorded(fault: FaultLine, part: Part) -> str:
-    """Describe how many subtitles were not recorded, and the option to judge only the recorded
-    subtitles."""
+    """Describe how many subtitles were not recorded, and which option judges only the others."""
     frame, subtitles = fault.frame, part.expected_pages().subtitles
     if frame is None or not subtitles or part.causes and fault.number in part.causes.by_end_fault:
         return ""
@@ -211,8 +224,10 @@ def describe_unrecorded(fault: FaultLine, part: Part) -> str:
 
 
 def describe_block_subtitle(fault: FaultLine, subtitles: SubtitleFile) -> str:
-    """Describe the subtitle in the block of a fault, with its time and text; return an empty text
-    if the fault has no block."""
+    """Return the name, the time and the text of the subtitle in the block of a fault.
+
+    Return an empty string if the fault has no block.
+    """
     subtitle = subtitles.find_by_block(fault.block) if fault.block else None
     if subtitle is None or not fault.block:
         return ""
@@ -235,13 +250,16 @@ def format_stored_text(text: bytes) -> str:
 
 
 def describe_open_option(subtitles: SubtitleFile) -> str:
-    """Describe how to accept a display standard code of open subtitles, or a blank code."""
+    """Return the hint that --open accepts the display standard code (DSC) of the file.
+
+    Return an empty string if --open does not accept this code.
+    """
     kind = {b"0": "0 (open subtitles)", b" ": "blank"}.get(subtitles.data[DSC])
     return f"its DSC is {kind}: --open accepts it" if kind else ""
 
 
 def describe_silence(fault: FaultLine, part: Part) -> str:
-    """Describe since when, and for how many frames, there was no PES packet."""
+    """Describe the start and the length of the interval without a PES packet before a fault."""
     request, pes, origin = part.request, part.pes, part.origin
     if request is None or request.pace is None or pes is None or origin is None \
             or fault.frame is None:
@@ -255,8 +273,12 @@ def describe_silence(fault: FaultLine, part: Part) -> str:
 
 def describe_longest_gap(sent: tuple[Sequence[int], Sequence[int]], origin: int, request: Request,
                          numbers: set[int], times: Sequence[tuple[int, int]]) -> str:
-    """Describe the longest interval without a page header; return an empty text if some PES packets
-    can't be read. `sent` has the PTS of headers and of the last PES packet."""
+    """Describe the longest interval without a page header.
+
+    Return an empty string if the interval is short enough, or if some PES packets can't be read.
+    `sent` has the PTS of the page headers, and a list with the last PTS. `numbers` has the numbers
+    of all faults, and `times` the TCI and TCO of each subtitle.
+    """
     headers, last = ([frame for pts in some if (frame := frame_at(pts, origin, request.within))
                       is not None] for some in sent)
     end = last[0] + 1 if last else 0
@@ -268,11 +290,8 @@ def describe_longest_gap(sent: tuple[Sequence[int], Sequence[int]], origin: int,
     return f"{words} ({usual} are usual)" if usual and usual <= request.every else words
 
 
-# The faults of a verdict as JSON values
-
-
 class PartFaults:
-    """Makes JSON values of the faults in one part, with details."""
+    """Converts the faults in one part, with their details, to JSON values."""
 
     def __init__(self, verdict: Verdict, part: Part) -> None:
         self.verdict, self.part, self.request = verdict, part, verdict.request
@@ -322,7 +341,10 @@ class PartFaults:
         }
 
     def make_cause(self, fault: FaultLine) -> Members | None:
-        """Return the cause of a fault 63, 72 or 74, as a JSON value."""
+        """Return the cause of a fault as a JSON value, or `None` if it has none.
+
+        Only faults with the numbers 63, 72 and 74 have a cause.
+        """
         if self.wording is None or fault.number not in WITH_CAUSE or fault.frame is None:
             return None
         cause = self.wording.causes.find_cause(fault.number, fault.frame)
@@ -335,14 +357,14 @@ class PartFaults:
         return self.subtitles.find_by_frame(fault.frame) if fault.frame is not None else None
 
     def format_time(self, pts: int | None) -> str | None:
-        """Return the time code of a PTS; `None` if the PTS is not on a frame."""
+        """Return the time code of a PTS, or `None` if no frame starts at the PTS."""
         if pts is None or self.part.origin is None:
             return None
         frame = frame_at(pts, self.part.origin, self.request.within)
         return None if frame is None else time_of(frame)
 
     def make_cell(self, rows: Rows | None, fault: FaultLine) -> Members | None:
-        """Return the JSON value of the cell that a fault refers to."""
+        """Return the JSON value of the cell that a fault refers to, or `None` if it is unknown."""
         if fault.row is None or fault.column is None:
             return None
         code = find_code(rows, fault.row, fault.column)
@@ -351,7 +373,7 @@ class PartFaults:
         return {"code": f"{code:02X}", "character": self.letters[code] if code >= 0x20 else None}
 
 
-# Details that faults without a number do not have
+# Keys of details that faults without a number do not have.
 KEYS_WITHOUT_NUMBER = ("number", "byte", "character", "text_offset", "pes", "pes_pts", "pes_time",
                        "packet", "row", "column", "expected", "decoded", "last_pes", "cause")
 
@@ -379,7 +401,8 @@ def make_named_fault(verdict: Verdict, fault: NamedFault) -> Members:
 
 
 def make_faults(verdict: Verdict) -> Iterator[Members]:
-    """Yield the JSON values of faults without a number, then of numbered faults, in all parts."""
+    """Yield the JSON values of all faults: first those without a number, then the numbered ones.
+    """
     yield from (make_named_fault(verdict, fault) for fault in verdict.named_faults)
     for part in verdict.parts:
         if part.check_output.fault_count:

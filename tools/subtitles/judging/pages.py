@@ -1,4 +1,4 @@
-"""The text of pages, differences between two pages, and rows that no receiver shows."""
+"""Format and compare pages, and find rows that no receiver shows."""
 from __future__ import annotations
 
 import enum
@@ -15,8 +15,6 @@ from ..stream.layout import find_sent_subtitles
 from ..stream.receiver import Rows, Timeline
 
 
-# Text of pages, and differences between pages with the same text
-
 ATTRIBUTES = (
     "alpha black", "alpha red", "alpha green", "alpha yellow", "alpha blue", "alpha magenta",
     "alpha cyan", "alpha white", "flash", "steady", "end box", "start box", "normal height",
@@ -29,8 +27,8 @@ SPACES = bytes(max(code, SPACE) for code in range(256))  # translates attributes
 
 
 class TextRow(NamedTuple):
-    """A row that has characters: its number, the column of its first character, the text between
-    the first and the last character, and the attributes."""
+    """A row with characters: its number, the column of its first character, the text from the first
+    to the last character, and all its attributes."""
 
     row: int
     column: int
@@ -52,19 +50,22 @@ def find_text_rows(rows: Rows) -> tuple[TextRow, ...]:
 
 
 def join_page_text(rows: Rows) -> str:
-    """Return the text of a page as one line, ignoring where the text is on the page."""
+    """Return the text of a page as one line, without its positions on the page."""
     return " ".join(b" ".join(line.text for line in find_text_rows(rows)).decode("latin-1").split())
 
 
 def format_page_text(rows: Rows, option: int) -> str:
-    """Return the text of a page, row by row, in the characters of a national option."""
+    """Return the text of a page, with slashes between rows.
+
+    `option` is the number of the national option that selects the characters.
+    """
     table = character_table(option)
     return " / ".join("".join(table[code & 0x7F] for code in line.text)
                       for line in find_text_rows(rows))
 
 
 def format_cells(rows: Rows) -> str:
-    """Return the rows of a page that have any cells: attributes in hexadecimal, and characters."""
+    """Return the rows of a page that are not blank, as text. Attributes are hexadecimal numbers."""
     lines = []
     for number, row in enumerate(rows, 1):
         cells = row.strip(b" ")
@@ -100,8 +101,10 @@ def describe_move(due: Rows, sent: Rows) -> str:
 
 
 def describe_attribute_difference(due: Rows, sent: Rows) -> str:
-    """Describe the first cell that differs between two pages, and how the ends of its row
-    differ."""
+    """Describe the first cell that differs between two pages.
+
+    If its row begins or ends at another column, describe this too.
+    """
     for number, (row, other) in enumerate(zip(due, sent), 1):
         for column, (code, held) in enumerate(zip(row, other)):
             if code != held:
@@ -111,7 +114,10 @@ def describe_attribute_difference(due: Rows, sent: Rows) -> str:
 
 
 def describe_row_ends(due: bytes, sent: bytes) -> str:
-    """Describe by how many columns a row, with its attributes, begins or ends early or late."""
+    """Describe how many columns too early or too late a row begins or ends.
+
+    The row includes its attributes. Return an empty string if it begins and ends as expected.
+    """
     (first, end), (begins, ends) = find_extent(due), find_extent(sent)
     words = [] if begins == first else [describe_columns("begins", begins - first)]
     words += [] if ends == end else [describe_columns("ends", ends - end)]
@@ -119,20 +125,23 @@ def describe_row_ends(due: bytes, sent: bytes) -> str:
 
 
 def find_extent(row: bytes) -> tuple[int, int]:
-    """Return the first column of a row that is not a space, and the column after the last such
-    column."""
+    """Return the column of the first cell that is not a space, and the column after the last one.
+    """
     return len(row) - len(row.lstrip(b" ")), len(row.rstrip(b" "))
 
 
 def describe_columns(what: str, columns: int) -> str:
-    """Return text such as `begins a column early`. A positive number of columns is late."""
+    """Return text such as `begins a column early`. A positive number of columns means `late`."""
     count = "a column" if abs(columns) == 1 else counted(abs(columns), "column")
     return f"{what} {count} {'late' if columns > 0 else 'early'}"
 
 
 def is_text_moved(due: Rows, sent: Rows) -> bool:
-    """Return whether the same text is in other positions on two pages, except if only an attribute
-    differs, which also takes a cell."""
+    """Return whether the same text has different positions on two pages.
+
+    Ignore a shift by columns if the attributes differ too: an attribute takes a cell, so adding one
+    shifts the text.
+    """
     rows, other = find_text_rows(due), find_text_rows(sent)
     if [line.row for line in rows] != [line.row for line in other]:
         return True
@@ -141,8 +150,10 @@ def is_text_moved(due: Rows, sent: Rows) -> bool:
 
 
 def describe_extra_rows(due: Rows, sent: Rows) -> str:
-    """Describe the rows that a page has besides the expected rows, if all expected rows are
-    correct."""
+    """Describe the rows that a page has in addition to the expected rows.
+
+    Return an empty string if there are none, or if an expected row is wrong.
+    """
     if any(row != other for row, other in zip(due, sent) if row.strip()):
         return ""
     *others, last = ["", *(str(line.row) for line in find_text_rows(sent)
@@ -158,12 +169,9 @@ def is_partial_page(sent: Rows, due: Rows) -> bool:
     return all(row == wanted or not row.strip() for row, wanted in zip(sent, due))
 
 
-# Subtitles that have the correct characters but are drawn differently
-
-
 class CodedRow(NamedTuple):
-    """A row that has characters: its number, the column of its first cell, the codes before the
-    first character, the cells from the first to the last character, and the codes after it."""
+    """A row with characters: its number, the column of its first cell, the codes before the first
+    character, the cells from the first to the last character, and the codes after it."""
 
     row: int
     column: int
@@ -184,8 +192,10 @@ def find_coded_rows(rows: Rows) -> Iterator[CodedRow]:
 
 def describe_drawing_differences(subtitles: Sequence[Subtitle], pages: Sequence[Rows],
                                  held: Timeline, option: NationalOption) -> str:
-    """Describe how many subtitles were sent with the correct characters but drawn differently, and
-    the difference in the first of them."""
+    """Describe how many subtitles have the correct characters in a different layout.
+
+    Also describe the difference in the first of these subtitles. `held` has the decoded pages.
+    """
     differing = [(subtitle, page, sent.rows) for subtitle, page in zip(subtitles, pages)
                  for sent in find_sent_subtitles([subtitle], held, option) if sent.rows != page]
     if not differing:
@@ -198,8 +208,10 @@ def describe_drawing_differences(subtitles: Sequence[Subtitle], pages: Sequence[
 
 
 def describe_row_difference(due: Rows, sent: Rows) -> str:
-    """Describe the first row that differs on a page with the correct characters: row, column and
-    codes."""
+    """Describe the first row that differs between two pages with the same characters.
+
+    The row, its column or its attributes may differ.
+    """
     lines, others = [*find_coded_rows(due)], [*find_coded_rows(sent)]
     if len(lines) != len(others):
         return f"{counted(len(others), 'row')} instead of {len(lines)}"
@@ -216,25 +228,26 @@ def describe_row_difference(due: Rows, sent: Rows) -> str:
 
 
 def format_codes(codes: bytes) -> str:
-    """Format codes in hexadecimal, including spaces."""
+    """Return codes as hexadecimal numbers; a space is the code 20."""
     return " ".join(f"{code:02X}" for code in codes) or "nothing"
 
 
-# Rows that all receivers or some receivers hide
-#
-# Receivers show only the boxes of a subtitle page. libzvbi opens a box at two start boxes in a row
-# (0B 0B), ffmpeg at the first; two end boxes (0A 0A) close it. Characters in the colour of their
-# background are invisible. docs/FIELD.md has a table of both decoders.
+# Receivers show only the boxes of a subtitle page. libzvbi opens a box at two consecutive start box
+# codes (0B 0B), ffmpeg at the first one. Two end box codes (0A 0A) close the box. Characters in the
+# colour of their background are invisible. docs/FIELD.md has a table of both decoders.
 
 START_BOX, END_BOX, BLACK_BACKGROUND, NEW_BACKGROUND = 0x0B, 0x0A, 0x1C, 0x1D
 WHITE, BLACK = 7, 0
 HIDING = bytes((START_BOX, END_BOX, NEW_BACKGROUND))  # codes that may hide characters of a text
-HIDDEN = "hidden"  # kind of a warning on hidden rows
+HIDDEN = "hidden"  # kind of the warnings about hidden rows
 
 
 class Cell(NamedTuple):
-    """A character of a row: its column and code; whether two start boxes open its box, or at least
-    one start box; and whether it has the same colour as its background."""
+    """A character of a row.
+
+    `is_boxed` is true if two start box codes open its box, and `is_after_start_box` if at least one
+    does. `is_invisible` is true if it has the colour of its background.
+    """
 
     column: int
     code: int
@@ -254,7 +267,7 @@ class Cell(NamedTuple):
 
 
 class Visibility(enum.Enum):
-    """The amount of a row that receivers show."""
+    """How much of a row receivers show."""
 
     ALL = "all of it, or it has no letters"
     SOME = "some letters, or all by some receivers"
@@ -283,7 +296,7 @@ def decode_cells(cells: bytes) -> Iterator[Cell]:
 
 @functools.lru_cache(maxsize=1000)
 def find_visibility(cells: bytes) -> Visibility:
-    """Return how much of a row receivers show; cached, since most rows are blank."""
+    """Return how much of a row receivers show."""
     drawn_cells = [*decode_cells(cells)]
     if all(cell.is_shown for cell in drawn_cells):
         return Visibility.ALL
@@ -292,7 +305,7 @@ def find_visibility(cells: bytes) -> Visibility:
 
 
 def describe_hidden_characters(cells: bytes, option: str) -> str:
-    """Describe which characters of a row are hidden, by which decoders, and for which reason."""
+    """Describe which characters of a row are hidden, by which decoders, and why."""
     table = character_table(BY_WORD[option].bits)
 
     def text(several: Sequence[Cell]) -> str:
@@ -311,21 +324,24 @@ def describe_hidden_characters(cells: bytes, option: str) -> str:
 
 
 class HiddenRows(NamedTuple):
-    """Faults of rows that no receiver shows, and warnings on rows that some receivers hide."""
+    """The results of `find_hidden_rows`.
+
+    `faults` has the rows that no receiver shows, and `warnings` the rows that some receivers hide.
+    """
 
     faults: list[NamedFault]
     warnings: list[Notice]
 
 
 def may_hide_rows(subtitles: Sequence[Subtitle], has_layout: bool) -> bool:
-    """Return whether a row may be hidden: only certain codes in a text or layout do that."""
+    """Return whether a row may be hidden. Only a layout or certain codes in a text can hide one."""
     return has_layout or any(bytes([code]) in subtitle.text
                              for subtitle in subtitles for code in HIDING)
 
 
 def find_hidden_rows(subtitles: Sequence[Subtitle], pages: Sequence[Rows], file: SubtitleFile,
                      option: str) -> HiddenRows:
-    """Return the faults and the warnings on hidden rows in all subtitles."""
+    """Return the faults of hidden rows in all subtitles, and the warnings about them."""
     hidden = HiddenRows([], [])
     for subtitle, page in zip(subtitles, pages):
         for row, cells in enumerate(page, 1):

@@ -1,4 +1,4 @@
-"""Judge a subtitle file with its recording, step by step."""
+"""Judge a pair, a subtitle file and its recording, step by step."""
 from __future__ import annotations
 
 import contextlib
@@ -36,12 +36,11 @@ from .transmissions import ExpectedPages, count_keeping_headers, read_subtitles,
 from .verdict import DELAYING_FAULTS, Verdict, find_gaps, measure_delay
 
 
-# Explaining why `check` refuses a part of the recording
-
-
 def explain_part(part: Part, verdict: Verdict, listener: Listener, is_result_written: bool) -> Part:
-    """Return a part with the explanation of its faults. If `is_result_written`, compute the delays
-    even if --within is 0, since results contain them."""
+    """Return a copy of a part with the causes of its faults, its hints and its delays.
+
+    With --within 0, compute the delays only if a result is written, since results contain them.
+    """
     request, numbers = verdict.request, part.check_output.fault_numbers
     causes = find_part_causes(part) if numbers & WITH_CAUSE else None
     if causes:
@@ -61,7 +60,7 @@ def explain_part(part: Part, verdict: Verdict, listener: Listener, is_result_wri
 
 
 def describe_part_drawing(part: Part, causes: Causes, option: str) -> str:
-    """Describe how a refused page is drawn differently although all its characters are correct."""
+    """Describe how a refused page with the correct characters differs from the expected page."""
     if CONTENT not in part.check_output.fault_numbers:
         return ""
     due = part.expected_pages()
@@ -70,7 +69,7 @@ def describe_part_drawing(part: Part, causes: Causes, option: str) -> str:
 
 def measure_delays(part: Part, causes: Causes | None, request: Request, is_result_written: bool) \
         -> Sequence[int | None]:
-    """Return the delay of each subtitle in frames; an empty list if no output needs the delays."""
+    """Return the delay of each subtitle in frames. Return an empty list if no output needs them."""
     timeline = causes.timeline if causes else part.decoded_pages
     if not (is_result_written or request.within) or not timeline:
         return ()
@@ -82,11 +81,8 @@ def measure_delays(part: Part, causes: Causes | None, request: Request, is_resul
 
 
 def find_hint(lead: WorstFault | None, part: Part, verdict: Verdict) -> str:
-    """Return the hint on the fault to report first, or an empty text."""
+    """Return the hint on `lead`, the fault to report first, or an empty string."""
     return describe_first_hint(lead.fault, part, verdict) if lead else ""
-
-
-# Running `check` on a part of the recording
 
 
 def list_check_options(part: Part) -> list[str]:
@@ -109,11 +105,8 @@ def check_part(part: Part, command_paths: CommandPaths, listener: Listener) -> N
     listener.printer.end_list(part.check_output.last_line)
 
 
-# The steps of judging a pair
-
-
 class LocatedRecording(NamedTuple):
-    """A recording that was read, its parts and their clocks, and the subtitles in the file."""
+    """A recording, its parts and their clocks, and the subtitles of the file."""
 
     recording: Recording
     clocks: PartClocks
@@ -121,7 +114,10 @@ class LocatedRecording(NamedTuple):
 
 
 def find_adjoining_end(part: Part) -> int | None:
-    """Return the last TCO of a part if its only fault is the page decoded then, or `None`."""
+    """Return the last TCO of a part if the page decoded at this TCO is its only fault.
+
+    Otherwise return `None`.
+    """
     fault, (_, alignment) = part.check_output.first_fault, part.judged_recording
     is_alone = part.check_output.fault_count == 1 and fault is not None and fault.number == CONTENT
     frame = fault.frame if fault else None
@@ -130,8 +126,10 @@ def find_adjoining_end(part: Part) -> int | None:
 
 
 def find_nearest_pauses(subtitles: Sequence[Subtitle], at: int) -> list[int]:
-    """Return the nearest TCO before frame `at` that a pause follows, and the nearest such TCO after
-    it. The end of the file counts as a pause."""
+    """Return the TCOs, nearest before and nearest after frame `at`, at which a pause begins.
+
+    The end of the file counts as a pause.
+    """
     ends = [subtitle.end for subtitle, other in zip(subtitles, subtitles[1:])
             if subtitle.end < other.begin]
     ends += [subtitles[-1].end] if subtitles else []
@@ -147,10 +145,10 @@ class PairJudge:
         self.command_paths, self.names, self.listener = command_paths, names, listener
         self.is_result_written = is_result_written
         self.recording: Recording | None = None
-        self.current_part: Part | None = None  # the part judged now or last
+        self.current_part: Part | None = None  # the part that is being judged, or was last
 
     def format_call(self, *more: str) -> str:
-        """Return the command line of this run with additional arguments."""
+        """Return the command line of this run, with the additional arguments `more`."""
         return make_qc_command(self.request, self.command_paths, *more)
 
     def judge(self) -> None:
@@ -174,8 +172,7 @@ class PairJudge:
 
     @contextlib.contextmanager
     def catch_missing_page(self) -> Iterator[None]:
-        """If a page is never sent, add this fault to the verdict; then nothing more can be
-        judged."""
+        """Return a context manager that handles `NeverSent`: add this fault to the verdict."""
         try:
             yield
         except NeverSent as never:
@@ -186,8 +183,10 @@ class PairJudge:
                 self.listener.print_line(line)
 
     def stop(self, now: str) -> str:
-        """Keep the faults that were reported before a signal. Return the text `now` with the time
-        up to which the recording was judged."""
+        """Keep the faults that were reported before a signal.
+
+        Return the message `now`, with the time up to which the recording was judged.
+        """
         part = self.current_part
         if part is None or any(known.check_output is part.check_output
                                for known in self.verdict.parts):
@@ -197,11 +196,11 @@ class PairJudge:
         time = part.check_output.find_last_time()
         return f"{now}, when check had reported {f'all up to {time}' if time else 'nothing yet'}"
 
-    # Judging the subtitle file
-
     def judge_file(self) -> CheckOutput:
-        """Return the faults of the subtitle file alone. If some subtitles are refused, store in the
-        verdict which of the other subtitles are judged."""
+        """Return the faults of the subtitle file.
+
+        If some subtitles are refused, store in the verdict which of the others are judged.
+        """
         request, verdict = self.request, self.verdict
         if self.is_result_written:
             verdict.stl = sum_file(request.stl_path, request.stl)
@@ -215,8 +214,7 @@ class PairJudge:
         return answer
 
     def check_hidden_rows(self) -> None:
-        """Add faults for rows that no receiver shows, and warnings for rows that some receivers do
-        not show."""
+        """Add faults for rows that no receiver shows, and warnings for rows that some hide."""
         request, file = self.request, SubtitleFile(self.names.program_stl)
         if not may_hide_rows(decode_subtitles(file.data), bool(request.layout)):
             return
@@ -228,8 +226,7 @@ class PairJudge:
         self.verdict.warn(hidden.warnings)
 
     def check_alone(self) -> CheckOutput:
-        """Return the faults of the subtitle file, including the fault that there is no PES
-        packet."""
+        """Return the faults of the subtitle file, and the fault that there is no PES packet."""
         answer = check_file_alone(self.request, self.command_paths.program_path, self.names)
         if answer.verdict != REFUSED or not answer.fault_numbers <= STL_FAULTS | {EMPTY}:
             raise IncompleteAnswer(
@@ -237,8 +234,10 @@ class PairJudge:
         return answer
 
     def find_valid_subtitles(self, answer: CheckOutput) -> CheckOutput:
-        """Store which subtitles can be judged although others are refused. Return the faults of the
-        file alone."""
+        """Find the subtitles that can be judged although others are refused.
+
+        Return `answer` without the fault that there is no PES packet.
+        """
         if self.request.recording is not None:
             file = SubtitleFile(self.names.program_stl, self.request.between)
             faults = (fault for fault, _ in answer.read_faults())
@@ -252,7 +251,10 @@ class PairJudge:
             if self.verdict.valid_subtitles else frozenset()
 
     def judge_alone(self, answer: CheckOutput, is_refused: bool) -> None:
-        """Complete the verdict if the subtitle file is refused, or if there is no recording."""
+        """Decide the verdict from the subtitle file only.
+
+        `answer` has its faults, if `is_refused` is true. Otherwise there is no recording to judge.
+        """
         report_file_check(self.request, self.command_paths, self.listener)
         answer.move_file(self.names.list_path)
         if is_refused:
@@ -272,8 +274,10 @@ class PairJudge:
                                                        part.open_subtitle_file()))
 
     def find_subtitles(self) -> list[Subtitle]:
-        """Return the subtitles to judge; raise `Unclear` if no subtitle is between --from and
-        --to."""
+        """Return the subtitles to judge.
+
+        Raise `Unclear` if there is no subtitle between --from and --to.
+        """
         between = self.request.between
         if self.verdict.valid_subtitles:
             return self.verdict.valid_subtitles.judged
@@ -284,12 +288,12 @@ class PairJudge:
                           f"{time_of(between.begin)} or later and before {time_of(between.end)}")
         return subtitles
 
-    # Judging the recording
-
     @functools.cached_property
     def located_recording(self) -> LocatedRecording:
-        """Read the recording once, and find its parts; raise `Unclear` if the parts are not
-        clear."""
+        """Read the recording once, and find its parts and their clocks.
+
+        Raise `Unclear` if they are ambiguous.
+        """
         request = self.request
         subtitles = self.find_subtitles()
         self.verdict.subtitle_count = len(subtitles)
@@ -316,8 +320,8 @@ class PairJudge:
         return LocatedRecording(recording, clocks, subtitles)
 
     def is_continued(self, first: Subtitle) -> bool:
-        """Return whether the subtitle before the first judged subtitle ends where it begins, and
-        has the same text."""
+        """Return whether the first judged subtitle, `first`, follows a subtitle with the same text
+        without a pause."""
         request, option = self.request, BY_WORD[self.request.option]
         if not request.between.begin and not self.skipped_positions:
             return False
@@ -334,8 +338,10 @@ class PairJudge:
                           self.format_call("--pes", f"0-{count - 1}"))
 
     def judge_valid_subtitles(self, answer: CheckOutput) -> None:
-        """Judge the transmission of subtitles that are not refused. If that fails, the file is
-        still refused, and a note gives the reason."""
+        """Judge the transmission of the subtitles that are not refused.
+
+        If this is impossible, refuse the file only, and add a note with the reason.
+        """
         try:
             with self.catch_missing_page():
                 self.judge_transmission()
@@ -385,8 +391,7 @@ class PairJudge:
         return parts
 
     def judge_part(self, part: Part, programme: PartSearch, subtitles: list[Subtitle]) -> None:
-        """Judge a part: find its PES packets, measure their intervals, run `check`, and explain the
-        faults."""
+        """Judge a part: find its PES packets, run `check`, explain the faults, and add warnings."""
         listener, request, (recording, _) = self.listener, part.request, part.judged_recording
         own = [subtitle for subtitle in subtitles if request.between.has(subtitle.begin)]
         due = functools.lru_cache(maxsize=None)(lambda: self.make_expected_pages(request, own))
@@ -407,8 +412,11 @@ class PairJudge:
         self.add_part_warnings(part, subtitles)
 
     def refuse_adjoining_cut(self, part: Part) -> None:
-        """Raise `Unclear` if the only fault is that the next subtitle comes at the last TCO,
-        because --to cuts the file between adjoining subtitles."""
+        """Raise `Unclear` if the page at the last TCO is the only fault, and the next subtitle
+        begins there.
+
+        The option --to then cuts the file between two subtitles without a pause.
+        """
         at = find_adjoining_end(part) if self.request.to_time and \
             not self.verdict.valid_subtitles else None
         if at is None or part.decoded_pages is None:
@@ -423,7 +431,8 @@ class PairJudge:
         if not due.pages or not fault or \
                 part.decoded_pages.page_at(fault.frame or at) != due.pages[0]:
             return
-        # A range other than the default skips refused subtitles instead of raising `Unclear`.
+        # Use a range other than the default, for which `read_subtitles` skips refused subtitles.
+        # With the default it would raise `Unclear` with another message.
         subtitles = read_subtitles(program, given, Between(0, FRAMES_OF_A_DAY + 1), request.is_open)
         raise Unclear(f"--to cuts the file at {time_of(at)}, where the next subtitle follows "
                       "directly: the page is right up to there, and is not erased",
@@ -431,7 +440,7 @@ class PairJudge:
                         for end in find_nearest_pauses(subtitles, at)))
 
     def check_pictures(self, part: Part) -> None:
-        """Add a fault for each time when pictures drift from the subtitles of a part."""
+        """Add a fault for each interval in which the pictures drift from the subtitles."""
         recording, alignment = part.judged_recording
         faults, notes = find_desync(recording.survey, recording.packets.pid, alignment,
                                     part.request.within, part.number)
@@ -439,16 +448,16 @@ class PairJudge:
         self.listener.add_notes(*notes)
 
     def make_expected_pages(self, request: Request, subtitles: list[Subtitle]) -> ExpectedPages:
-        """Return the expected pages of a part; in a file with refused subtitles, only the expected
-        pages of the other subtitles."""
+        """Return the expected pages of subtitles.
+
+        If the file has refused subtitles, draw the pages in Python, not with `subttx schedule`.
+        """
         if self.verdict.valid_subtitles:
             layout = parse_layout(request.layout or "") or PLAIN
             return draw_valid_pages(subtitles, request.page, request.option, layout)
         return schedule_pages(self.command_paths.program_path, self.names.program_stl, subtitles,
                               request.page,
                               request.option, request.between, request.schedule_arguments())
-
-    # Anomalies that violate no rule
 
     def add_recording_warnings(self, recording: Recording, origin: int, part: TimedPart) -> None:
         """Add warnings about the recording and the PID."""

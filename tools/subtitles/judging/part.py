@@ -1,4 +1,4 @@
-"""A part of a pair that is judged separately: its subtitles, and why they are refused."""
+"""A part of a pair, which is judged separately, and the causes of its faults."""
 from __future__ import annotations
 
 import array
@@ -29,20 +29,19 @@ from .transmissions import ExpectedPages, KeepingHeaders
 
 
 def no_expected_pages() -> ExpectedPages:
-    """Return an object without pages: a refused subtitle file has no expected pages."""
+    """Return an object without pages, since a refused subtitle file has no expected pages."""
     return ExpectedPages([], [])
 
 
 @dataclasses.dataclass(frozen=True)
 class Part:
-    """A pair, or the subtitles of one clock, which are judged separately. Each step of judging
-    returns a part with more fields.
+    """A pair, or the part of a pair that has one clock. It is judged separately.
 
-    `alignment`, the frames and their clock, comes first; a subtitle file alone has none. Then come
-    `pes`, the PES packets, with the file `judged_file` if the packets came through a pipe; then an
-    option of the request for the pace, and `jumps`, the PTS around announced jumps of the counter
-    during which more time passes than usual. Then `check` fills `check_output`, and the other
-    fields explain the result of `check`.
+    Each step of judging returns a copy with more fields. `alignment` has the frames and the clock;
+    it is `None` if only the subtitle file is judged. `pes` is the range of PES packets, and
+    `judged_file` the file with them if the recording came through a pipe. `jumps` has the PTS
+    before and after each announced jump of the continuity counter that may hide lost packets.
+    `check_output` has the faults that `check` reports, and the other fields explain them.
     """
 
     number: int
@@ -65,13 +64,13 @@ class Part:
     block_subtitle: str = ""  # description of the refused block's subtitle
     transmission_hint: str = ""  # hint on the first fault of the transmission
     header_problem: str = ""  # fault in the headers of PES packets
-    drawing_differences: str = ""  # how receivers draw correct characters differently
-    # Headers that do not erase the page but have no other fault
+    drawing_differences: str = ""  # the different layout of pages with the correct characters
+    # Number of headers with C4 clear, if this is their only fault
     keeping_headers: KeepingHeaders | None = None
 
     @property
     def packets(self) -> Packets:
-        """Return the packets with the PID of the recording."""
+        """Return the packets on the PID that is judged."""
         return self.recording.packets if self.recording else Packets(PES)
 
     @property
@@ -84,38 +83,42 @@ class Part:
 
     @property
     def stream(self) -> tuple[int, int] | None:
-        """Return the PID and the TS packet size in bytes; `None` unless the recording is a
-        transport stream."""
+        """Return the PID and the TS packet size in bytes, or `None` for a file of PES packets."""
         return self.recording.stream() if self.recording else None
 
     @property
     def judged_recording(self) -> tuple[Recording, TimedPart]:
-        """Return the recording and the frames of the part, which must have both."""
+        """Return the recording, and the frames and the clock of the part.
+
+        The part must have a recording.
+        """
         assert self.recording and self.alignment
         return self.recording, self.alignment
 
     @property
     def waived_numbers(self) -> set[int]:
-        """Return the fault numbers that the severity file makes warnings; no numbers if these are
-        all faults of the part, since then they decide the verdict."""
+        """Return the numbers of the faults that the severity file turns into warnings.
+
+        Return an empty set if the part has no other faults: these faults then decide the verdict.
+        """
         numbers = {number for number in self.check_output.fault_numbers
                    if self.severity and not self.severity.is_error(number)}
         return numbers if numbers != self.check_output.fault_numbers else set()
 
     @functools.cached_property
     def worst_fault(self) -> WorstFault | None:
-        """Return the fault to report first, which is never waived; `None` if there is none."""
+        """Return the fault to report first, or `None` if there is none."""
         return find_worst_fault(self.check_output, self.causes, self.waived_numbers)
 
     @functools.cached_property
     def worst_transmission_fault(self) -> WorstFault | None:
-        """Return the transmission fault to report first, if the file has refused subtitles."""
+        """Return the transmission fault to report first, or `None` if there is none."""
         return find_worst_fault(self.check_output, self.causes,
                                 STL_FAULTS | {UNDECIDED} | self.waived_numbers)
 
     @property
     def worst_fault_line(self) -> FaultLine | None:
-        """Return the fault line to report first."""
+        """Return the fault line to report first, or `None` if there is none."""
         return self.worst_fault.fault if self.worst_fault else None
 
     @property
@@ -129,7 +132,8 @@ class Part:
         return self.timeline()
 
     def add_packets(self, pes: Range, judged: SummedFile | None = None) -> Part:
-        """Return the part with the PES packets to judge, and the pages decoded from them."""
+        """Return a copy of the part with the PES packets to judge, and the pages decoded from them.
+        """
         recording, alignment = self.judged_recording
         request = self.request
 
@@ -165,13 +169,15 @@ class Part:
         return count > self.check_output.skipped_packets.total()
 
     def find_loss_places(self) -> list[LossPlace]:
-        """Return the places in the recording of the part where packets are missing."""
+        """Return the places in the recording where packets are missing."""
         return self.recording.list_losses(self.jumps) if self.recording else []
 
     @functools.cached_property
     def unmarked_losses(self) -> list[Span]:
-        """Return the frames that lack packets although there is no gap marker, which `check` would
-        report: only the PCR shows these losses."""
+        """Return the frames with lost packets that `check` can't report.
+
+        These losses have no gap marker; only the PCR shows them.
+        """
         if self.alignment is None:
             return []
         places = [place for place in self.find_loss_places() if place.gap_marker is None
@@ -180,12 +186,14 @@ class Part:
 
     @functools.cached_property
     def trusted_frames(self) -> Spans:
-        """Return the clean frames, except frames with lost packets."""
+        """Return the frames that `check` trusts, except frames with lost packets."""
         return self.check_output.trusted_frames.without(self.unmarked_losses)
 
     def list_pts(self, flags: str = "") -> array.array[int]:
-        """Return the PTS of the PES packets in the part, or only of packets that have some of the
-        flags `flags`."""
+        """Return the PTS of the PES packets in the part.
+
+        If `flags` is not empty, return only the PTS of packets with at least one of these flags.
+        """
         return array.array("q", self.packets.pts(self.pes, flags) if self.pes else ())
 
     def find_options(self) -> set[str]:
@@ -215,8 +223,11 @@ class Part:
 
 
 def belongs_to_part(place: LossPlace, part: Part) -> bool:
-    """Return whether missing packets belong to a part: their gap marker is among its PES packets
-    or, if there is no gap marker, some of its frames may lack packets."""
+    """Return whether missing packets belong to a part.
+
+    They do if their gap marker is among the PES packets of the part. If there is no gap marker,
+    they do unless they are certainly before or after the frames of the part.
+    """
     if part.alignment is None:
         return False
     if place.gap_marker is not None and part.pes is not None:
@@ -228,12 +239,12 @@ def belongs_to_part(place: LossPlace, part: Part) -> bool:
     return not is_before and not is_after
 
 
-# The subtitles in each part
-
-
 def choose_parts(alignments: Sequence[TimedPart], whole: TimedPart) -> list[TimedPart]:
-    """Return the parts to judge: one part with all subtitles of the file, or several parts, each
-    with the subtitles that begin in its frames."""
+    """Return the parts to judge.
+
+    A single part has all subtitles of the file. Each of several parts has the subtitles that begin
+    in its frames.
+    """
     if len(alignments) == 1:
         return [whole._replace(clock=alignments[0].clock, packets=alignments[0].packets)]
     return [alignment._replace(between=Between(alignment.begin, alignment.end))
@@ -242,8 +253,8 @@ def choose_parts(alignments: Sequence[TimedPart], whole: TimedPart) -> list[Time
 
 def refuse_missing_subtitles(parts: Sequence[TimedPart], subtitles: Sequence[Subtitle],
                              stl: str) -> None:
-    """Raise `Unclear` unless all parts together have the subtitles of the file `stl`, in the same
-    order."""
+    """Raise `Unclear` unless the parts together have all subtitles of the file, in the same order.
+    """
     own = [subtitle for part in parts for subtitle in subtitles if part.between.has(subtitle.begin)]
     left = len(subtitles) - len(own)
     if left > 0:
@@ -253,11 +264,8 @@ def refuse_missing_subtitles(parts: Sequence[TimedPart], subtitles: Sequence[Sub
         raise Unclear(f"the parts of {stl} would have other subtitles than the file")
 
 
-# Causes of the faults in a part, from the pages decoded around it
-
-
 def find_part_causes(part: Part) -> Causes | None:
-    """Return the causes of faults in a judged part; `None` if no fault has a cause."""
+    """Return the causes of the faults in a judged part, or `None` if no fault has a cause."""
     request, (recording, alignment) = part.request, part.judged_recording
     lost = part.find_loss_places() if recording.is_stream else []
     held = decode_near(part.packets, request.page, alignment.origin, request.within,
@@ -271,7 +279,10 @@ def find_part_causes(part: Part) -> Causes | None:
 
 
 def find_recorded_span(pts: tuple[int, int] | None, alignment: TimedPart) -> Span | None:
-    """Return the frames between two PTS, all of which were recorded; `None` if PTS decrease."""
+    """Return the frames between two PTS, from the first to the last recorded frame.
+
+    Return `None` if the PTS are unknown, or if PTS go back in the recording.
+    """
     if pts is None or alignment.packets:
         return None
     first, last = (ticks_within(pts_of(alignment.begin, alignment.origin),
@@ -282,8 +293,10 @@ def find_recorded_span(pts: tuple[int, int] | None, alignment: TimedPart) -> Spa
 def find_lost_spans(places: Sequence[LossPlace], origin: int, within: int,
                     is_with_next: bool = True) \
         -> Iterator[Span]:
-    """Find the frames that may lack packets because of losses at some places; include the frame of
-    the next PES packet or not."""
+    """Yield the frames that may lack packets because of losses.
+
+    If `is_with_next` is true, include the frame of the next PES packet after each loss.
+    """
     for place in places:
         first, last = (None if pts is None else frame_in(pts, origin, within)
                        for pts in (place.before, place.after))
