@@ -23,20 +23,20 @@ from .pages import format_page_text
 from .status import ACCEPTED, LOST, NOT_ANSWERED, NOT_JUDGED, REFUSED, RELATIVE, WAIVED, WARNED
 
 
-# Sentences, reports and batch tables begin with the fault of the worst rank.
-
-
 class Rank(enum.IntEnum):
-    """Severity of a fault for viewers; the worst rank comes first."""
+    """How severe a fault is for viewers; the worst rank comes first.
+
+    Sentences, reports and batch tables begin with a fault of the worst rank.
+    """
 
     FILE = 0  # the subtitle file is refused, so it should not be sent at all
-    NEVER = 1  # viewers see nothing of a subtitle
-    WRONG = 2  # viewers see a wrong text, or a text that something hides
+    NEVER = 1  # viewers do not see a subtitle
+    WRONG = 2  # viewers see a wrong text, or only part of a text
     MOVED = 3  # viewers see a text late or early
     COLOUR = 4  # viewers see a text in another colour, height or box
-    SOME = 5  # viewers with some receivers see a fault
-    UNSEEN = 6  # nothing was received at that time
-    LATER = 7  # viewers may see it with other receivers, with weak reception, or after switching on
+    SOME = 5  # some receivers show the fault
+    UNSEEN = 6  # nothing was received at the time of the fault
+    LATER = 7  # may be visible on other receivers, with weak reception, or after switching on
 
 
 CAUSE_RANKS = {
@@ -46,8 +46,9 @@ CAUSE_RANKS = {
     UNKNOWN_CAUSE: Rank.WRONG, LATE: Rank.MOVED, EARLY: Rank.MOVED,
     WRONG_ATTRIBUTE: Rank.COLOUR,
     NOT_RECEIVED: Rank.UNSEEN}
-# Receivers ignore PES packets with the faults 31 to 40; 60 to 62 are time faults, 67 and 68 header
-# and character faults. Without a cause, 63 and 74 mean an incomplete recording.
+# Receivers ignore PES packets with the faults 31 to 40. Faults 60 to 62 are about times, 67 about
+# headers, and 68 about characters. BEGIN (63) and END (74) without a cause mean that the recording
+# is incomplete.
 NUMBER_RANKS = {
     **dict.fromkeys(STL_FAULTS, Rank.FILE),
     CONTENT: Rank.WRONG, INCOMPLETE: Rank.WRONG,
@@ -59,32 +60,30 @@ NAME_RANKS = {NEVER_SENT: Rank.NEVER, NOT_SHOWN: Rank.WRONG, PICTURES_LEFT: Rank
 
 
 def find_worst_named_fault(faults: Sequence[NamedFault], than: Rank | None) -> NamedFault | None:
-    """Return the first named fault with the worst rank; `None` if the rank `than` is worse."""
+    """Return the first fault of the worst rank, or `None` if the rank `than` is worse."""
     worst = min(faults, key=lambda fault: NAME_RANKS[fault.name]) if faults else None
     return worst if worst and (than is None or NAME_RANKS[worst.name] <= than) else None
 
 
 def rank_number(number: int) -> Rank:
-    """Return the rank of a fault number: how severe it is for viewers."""
+    """Return the rank of the faults with a fault number."""
     return NUMBER_RANKS.get(number, Rank.LATER)
 
 
 def rank_cause(cause: Cause) -> Rank:
-    """Return the rank of a cause: how severe it is for viewers. A cause that may be no fault ranks
-    after certain causes."""
+    """Return the rank of a cause. A cause that may be no fault is less severe."""
     return Rank.UNSEEN if cause.may_be_correct else CAUSE_RANKS[cause.name]
 
 
 def find_worst_cause(causes: Iterable[Cause]) -> Cause | None:
-    """Return the first of the causes with the worst rank, or `None` if there is no cause."""
+    """Return the first cause of the worst rank, or `None` if there is no cause."""
     several = [*causes]
     return min(several,
                key=lambda cause: (rank_cause(cause), cause.subtitle_index)) if several else None
 
 
 class WorstFault(NamedTuple):
-    """The fault to report first: its rank, its position among the faults with this rank, and its
-    fault line."""
+    """The fault to report first: its rank, its position among faults of this rank, and its line."""
 
     rank: Rank
     place: int
@@ -94,8 +93,10 @@ class WorstFault(NamedTuple):
 
 def find_worst_fault(answer: CheckOutput, causes: Causes | None,
                      left_out: Collection[int] = ()) -> WorstFault | None:
-    """Return the first of the faults with the worst rank in a part, ignoring the fault numbers in
-    `left_out`."""
+    """Return the first fault of the worst rank in a part, or `None` if there is no fault.
+
+    Ignore the fault numbers in `left_out`.
+    """
     is_caused = bool(causes and causes.by_index)
     leads = [WorstFault(rank_number(number), at, told)
              for at, (number, told) in enumerate(answer.first_faults.items())
@@ -108,8 +109,11 @@ def find_worst_fault(answer: CheckOutput, causes: Causes | None,
 
 
 def find_fault_line(answer: CheckOutput, causes: Causes, cause: Cause) -> FaultLine | None:
-    """Return the fault line for a cause: the last line up to the first frame with a wrong page, or
-    else the first line of the list."""
+    """Return the line of the fault that a cause explains.
+
+    This is the last fault at or before the first frame with a wrong page. If there is none, it is
+    the first fault of the same kind.
+    """
     edge = next((number for number in (BEGIN, END)
                  if causes.by_end_fault.get(number) == cause.subtitle_index
                  and number in answer.first_faults), None)
@@ -125,7 +129,8 @@ def find_fault_line(answer: CheckOutput, causes: Causes, cause: Cause) -> FaultL
     return last
 
 
-# Clauses by fault number, after `Refused: at TIME`. The tables of the manual explain all cases.
+# Clauses by fault number, which follow `Refused: at TIME`. The tables of the manual explain all
+# cases.
 
 FAULT_CLAUSES = {
     10: "the file ends within the GSI block (1024 bytes) or within a TTI block (128 bytes)",
@@ -189,9 +194,7 @@ FAULT_CLAUSES = {
 }
 
 
-# The sentence of a verdict: the fault, its first time, and the number of subtitles
-
-# Predicate for a cause, with one subtitle and with several
+# Predicates for a cause, with one subtitle and with several subtitles
 CAUSE_PREDICATES = {
     NEVER: ("was never sent", "were never sent"),
     OTHER_TEXT: ("has another subtitle's text", "have other subtitles' texts"),
@@ -203,8 +206,8 @@ CAUSE_PREDICATES = {
     ERASED: ("is erased before its TCO", "are erased before their TCO"),
     NOT_RECEIVED: ("was not received", "were not received"),
     UNKNOWN_CAUSE: ("is not as expected", "are not as expected")}
-HINTS_ON_ALL = {GAP, OFF_FRAME}  # faults whose hint is about all judged frames
-HINTS_FOR_CLAUSE = {CONTROL, PARITY}  # faults whose hint replaces their clause
+HINTS_ON_ALL = {GAP, OFF_FRAME}  # faults whose hint is about all frames, not about the first fault
+HINTS_FOR_CLAUSE = {CONTROL, PARITY}  # faults whose hint replaces their `FAULT_CLAUSES`
 MAX_NUMBERS = 4  # maximum number of fault numbers listed in a sentence
 
 
@@ -217,10 +220,10 @@ class FaultCount(NamedTuple):
 
 
 class Facts(NamedTuple):
-    """The facts from which the sentence of a verdict is made.
+    """The facts that the sentence about a verdict reports.
 
-    `word` is the verdict, `first` the fault to report first, and `hint` explains this fault.
-    `counts` has the number of faults by fault number, `lost` the lines about gaps, `warnings` the
+    `word` is the verdict. `first` is the fault to report first, and `hint` explains it. `counts`
+    has the number of faults for each fault number. `lost` has the lines about gaps, `warnings` the
     kinds of warnings, and `named` the text of the first fault without a number.
     """
 
@@ -237,18 +240,18 @@ class Facts(NamedTuple):
     lost: Sequence[str] = ()
     warnings: Sequence[str] = ()
     reason: str | None = None
-    is_file: bool = False  # whether there is no recording
-    refused: str = ""  # description of refused subtitles, if other subtitles are judged
+    is_file: bool = False  # whether only a subtitle file was judged
+    refused: str = ""  # description of refused subtitles, if the others are judged
     within: int = 0
     named: str = ""
     waived: Sequence[FaultCount] = ()  # set only if other faults are not waived
-    parts: int = 1  # number of parts with their own clock
-    delay: int = 0  # delay in frames that all subtitles have by a given clock
-    has_picture: bool = False  # whether --start can give the time of a first picture
+    parts: int = 1  # number of parts, each with its own clock
+    delay: int = 0  # delay of all subtitles in frames, if the operator gave the clock
+    has_picture: bool = False  # whether the operator may use --start
 
 
 def write_sentence(seen: Facts) -> str:
-    """Return the sentence of a verdict."""
+    """Return the sentence about a verdict."""
     if seen.word == NOT_JUDGED:
         return f"Not judged: {(seen.reason or NOT_ANSWERED).splitlines()[0]}."
     if seen.word == REFUSED:
@@ -272,12 +275,15 @@ def write_sentence(seen: Facts) -> str:
 
 
 def describe_waived_faults(seen: Facts) -> str:
-    """Describe the faults that the severity file makes warnings."""
+    """Describe the faults that the severity file turns into warnings."""
     return f"Waived, since these faults are declared as warnings: {describe_faults(seen)}"
 
 
 def describe_relative_match(seen: Facts) -> str:
-    """Describe how well the subtitles match an estimated clock, and which delay was not checked."""
+    """Return a clause for the verdict `relative`.
+
+    It says what matches if the clock is estimated, and which delay was not checked.
+    """
     within = f" within {counted(seen.within, 'frame')}" if seen.within else ""
     if seen.faults or seen.refused:
         found, delay = describe_waived_faults(seen), "a delay that all subtitles share"
@@ -293,7 +299,7 @@ def describe_relative_match(seen: Facts) -> str:
 
 
 def describe_success(seen: Facts) -> str:
-    """Describe that subtitles have no fault."""
+    """Return the clause that the subtitles have no fault."""
     subtitles = counted(seen.subtitles, "subtitle")
     if seen.is_file:
         return f"{subtitles} without a fault"
@@ -316,13 +322,13 @@ def describe_valid_subtitles(seen: Facts) -> str:
 
 
 def describe_text_period(seen: Facts) -> str:
-    """Describe the frames in which subtitles must have their text."""
+    """Return the clause that says how soon each subtitle must have the right text."""
     return f"within {counted(seen.within, 'frame')}" if seen.within else \
         "from the first frame to the last"
 
 
 def describe_faults(seen: Facts) -> str:
-    """Describe the worst fault and its first place, and count the other faults."""
+    """Describe the worst fault, its first place, and the number of other faults."""
     if seen.refused:
         return describe_valid_subtitles(seen)
     words = describe_first_fault(seen)
@@ -334,13 +340,13 @@ def describe_faults(seen: Facts) -> str:
 
 
 def describe_delay(subtitles: int, delay: int) -> str:
-    """Describe by how many frames all subtitles are late or early, if all have the same delay."""
+    """Return a clause with the delay that all subtitles share, in frames."""
     which = f"all {subtitles:,} subtitles" if subtitles > 1 else "the subtitle"
     return f"{which} appeared {counted(abs(delay), 'frame')} {LATE if delay > 0 else EARLY}"
 
 
 def describe_first_fault(seen: Facts) -> str:
-    """Describe the first fault and its place, and count the faults with this fault number."""
+    """Describe the first fault, its place, and the number of faults with each fault number."""
     fault = seen.first
     if fault is None and seen.named:
         return seen.named + f"; {seen.faults:,} faults in all" * (seen.faults > 1)
@@ -364,7 +370,10 @@ def describe_first_fault(seen: Facts) -> str:
 
 
 def describe_other_faults(seen: Facts) -> str:
-    """Count the faults that are not content faults and differ in number from the first fault."""
+    """Describe the number of faults with other fault numbers than the first fault.
+
+    Faults that have a cause are left out.
+    """
     first = seen.first.number if seen.first else None
     others = [count for count in seen.counts
               if count.number not in WITH_CAUSE and count.number != first]
@@ -372,7 +381,7 @@ def describe_other_faults(seen: Facts) -> str:
 
 
 def describe_counts(several: Sequence[FaultCount]) -> str:
-    """Describe the number of faults by fault number, worst first, for the first few numbers."""
+    """Return the worst fault numbers with their numbers of faults, and the count of the others."""
     rising = sorted(several, key=lambda count: (rank_number(count.number), count.number))
     words = [f"{count.number} {count.name}" +
              (f" ({count.fault_count:,})" if count.fault_count > 1 else "") for count in rising]
@@ -382,7 +391,7 @@ def describe_counts(several: Sequence[FaultCount]) -> str:
 
 
 def describe_causes(causes: Causes, option: str) -> str:
-    """Describe the worst cause and its first subtitle, and count the other causes."""
+    """Describe the worst cause, its first subtitle, and the number of other causes."""
     every = causes.list_causes()
     worst = find_worst_cause(every)
     assert worst
@@ -399,7 +408,7 @@ def describe_causes(causes: Causes, option: str) -> str:
 
 
 def describe_single_cause(cause: Cause, causes: Causes, option: str) -> str:
-    """Describe a cause that applies to only one subtitle."""
+    """Describe a cause that only one subtitle has."""
     subtitle = causes.expected.subtitles[cause.subtitle_index]
     if cause.name == TEXT_IN_PAUSE:
         sent = format_page_text(cause.sent_page, BY_WORD[option].bits) if cause.sent_page else ""
@@ -418,7 +427,7 @@ def describe_single_cause(cause: Cause, causes: Causes, option: str) -> str:
 
 
 def describe_shared_cause(causes: Sequence[Cause], subtitles: Sequence[Subtitle]) -> str:
-    """Describe the cause of several subtitles: their number, the first and the last of them."""
+    """Describe a cause that several subtitles have, with the first and the last subtitle."""
     first, last = subtitles[causes[0].subtitle_index], subtitles[causes[-1].subtitle_index]
     name = causes[0].name
     if name == TEXT_IN_PAUSE:

@@ -1,4 +1,5 @@
-"""Decide the verdict, its exit status, and which faults are errors. No other module does so."""
+"""Decide the verdict, its exit status, and which faults are errors. No other module decides them.
+"""
 from __future__ import annotations
 
 from typing import Collection, Iterable, NamedTuple, Sequence
@@ -9,22 +10,21 @@ from ..formats.listing import ENDS_READING, FAULT_NAMES, LOST_PACKETS, SILENT
 from ..request.lines import MAX_PROFILE_BYTES, decode_text
 
 
-# Severity of faults
-
 ERROR, WARNING = "error", "warning"
-OTHERS = "others"  # in a severity file: all numbers and names that the file does not list
-# Fault numbers that any command reports: of packets and files, of texts, of transmissions
+OTHERS = "others"  # stands for all numbers and names that the severity file does not list
+# The fault numbers of all commands
 FAULT_NUMBERS = {3, 4, *range(10, 26), *range(30, 41), 44, LOST_PACKETS, *range(50, 58),
                  *range(60, 75), *range(76, 80), 82}
 CHECK_FAULTS = FAULT_NUMBERS - {3, 4, 82}  # fault numbers that `check` reports
 
 
 class Severity:
-    """The severity of each fault number and fault name: an error, unless the severity file at
-    `path` makes it a warning.
+    """The severity of each fault number and fault name.
 
-    `is_loss_allowed` (--allow-lost) makes lost packets a warning; `others` never does. If lost
-    packets are a warning, too long a time without PES packets (79) is a warning too by default.
+    A fault is an error unless the severity file at `path` makes it a warning. Lost packets are a
+    warning only with `is_loss_allowed` (--allow-lost) or if the file lists them; `others` does not
+    include them. If they are a warning, then so is too long an interval without a PES packet (79),
+    unless the file lists it.
     """
 
     def __init__(self, path: str | None, is_loss_allowed: bool = False) -> None:
@@ -37,7 +37,7 @@ class Severity:
                 self.read_line(path, at, line.partition("#")[0].split())
 
     def read_line(self, path: str, line_number: int, words: list[str]) -> None:
-        """Parse the words on one line of the severity file; raise `Stop` if the line is invalid."""
+        """Parse one line of the severity file. Raise `Stop` if it is invalid."""
         if not words:
             return
         *names, severity = words
@@ -55,7 +55,7 @@ class Severity:
             raise Stop(f"{path}, line {line_number}: no refusal has the number {name}")
 
     def classify(self, number: int | str) -> str:
-        """Return whether faults with a number or name are errors or warnings."""
+        """Return `ERROR` or `WARNING` for the faults with this number or name."""
         if number in ENDS_READING:
             return ERROR
         if number == LOST_PACKETS:
@@ -64,17 +64,15 @@ class Severity:
         return self.by_fault.get(number, WARNING if is_loss else self.default)
 
     def is_error(self, number: int | str) -> bool:
-        """Return whether faults with a number or name are errors."""
+        """Return whether the faults with this number or name are errors."""
         return self.classify(number) == ERROR
 
 
-# Verdicts and their exit statuses
-
 ACCEPTED, WAIVED = "accepted", "waived"  # a waived pair has only faults that are warnings
-RELATIVE = "relative"  # accepted or waived by an estimated clock, since no clock was given
+RELATIVE = "relative"  # accepted or waived, but with an estimated clock
 REFUSED = "refused"
-LOST = "lost"  # no errors, but TS packets are lost
-WARNED = "warned"  # no errors, but --strict makes the warnings errors
+LOST = "lost"  # no errors, but TS packets were lost
+WARNED = "warned"  # no errors, but --strict does not accept warnings
 NOT_JUDGED = "not judged"
 STATUSES = {ACCEPTED: 0, WAIVED: 0, REFUSED: 1, LOST: 1, WARNED: 1, NOT_JUDGED: 2, RELATIVE: 3}
 POSSIBLE_RESULTS = [*STATUSES.items(), (RELATIVE, 0)]  # the last entry is for --relative
@@ -88,9 +86,9 @@ class CheckSummary(NamedTuple):
     """The result of `check` for one part.
 
     `exit_status` is negative if a signal ended `check`, and `None` while `check` is running.
-    `is_accepted` says whether the last line accepts the part. `fault_count` is the number of
-    reported faults, `fault_numbers` has their fault numbers, and `printed_total` is the total on
-    the last line. `is_read` is set if `check` read any PES packet, or if there is no recording.
+    `is_accepted` is true if the last line accepts the part. `fault_count` is the number of reported
+    faults, and `printed_total` the number on the last line. `is_read` is true if `check` read any
+    PES packet, or if there is no recording.
     """
 
     exit_status: int | None
@@ -102,15 +100,13 @@ class CheckSummary(NamedTuple):
 
 
 class Grounds(NamedTuple):
-    """All values that decide a verdict.
+    """The values that decide a verdict.
 
-    `judged_losses` has an entry for each place where only the PCR shows that TS packets are lost:
-    whether the verdict covers frames there. `check` reports all other losses as fault 45, with the
-    same effect. `warnings` are the kinds of anomalies that violate no rule. `reasons` say why the
-    pair was not judged. `failed_outputs` names the outputs that could not be written, or that would
-    describe other files. `named_faults` are the faults without a number. `has_clock` is set if the
-    clock was given, or if there is no recording. Without a clock, a delay that all subtitles share
-    can't be detected, so the best verdict is `relative`.
+    `judged_losses` has an entry for each loss that only the PCR shows, which is true if judged
+    frames are lost. `check` itself reports the other losses. `reasons` says why the pair was not
+    judged. `failed_outputs` names the outputs that could not be written, or that would describe
+    other files. `has_clock` is true if the clock was given, or if there is no recording. Without a
+    clock, a delay that all subtitles share can't be detected, so the best verdict is `relative`.
     """
 
     parts: Sequence[CheckSummary]
@@ -126,7 +122,10 @@ class Grounds(NamedTuple):
 
 
 class Decision(NamedTuple):
-    """A verdict in one word, and the reason why the pair is not judged if `Grounds` has none."""
+    """A verdict in one word.
+
+    `reason` says why the pair is not judged. It is `None` if `Grounds.reasons` says why.
+    """
 
     word: str
     reason: str | None = None
@@ -139,7 +138,10 @@ class Decision(NamedTuple):
 
 
 def decide_part(summary: CheckSummary) -> str:
-    """Return the verdict on one part. Last line, faults and exit status of `check` must agree."""
+    """Return the verdict on one part.
+
+    The part is not judged unless the last line, the faults and the exit status of `check` agree.
+    """
     if summary.exit_status == 0 and summary.is_accepted and not summary.fault_count and \
             not summary.fault_numbers:
         return ACCEPTED
@@ -153,9 +155,9 @@ def decide_part(summary: CheckSummary) -> str:
 def decide(grounds: Grounds) -> Decision:
     """Return the verdict on all parts of a pair.
 
-    If anything is missing, unread or unwritten, the pair is not judged. Otherwise an error counts
-    before a loss, a loss before a warning, and a warning before a missing clock. A fault without a
-    number, for example a page that is never sent, counts even if there are no parts.
+    If anything is missing, unread or unwritten, the pair is not judged. Otherwise, an error
+    outweighs a loss, a loss outweighs a warning, and a warning outweighs a missing clock. A fault
+    without a number, for example a page that is never sent, counts even if there are no parts.
     """
     words = [decide_part(part) for part in grounds.parts]
     if grounds.reasons or grounds.failed_outputs:
@@ -177,14 +179,18 @@ def decide(grounds: Grounds) -> Decision:
 
 
 def matches_exit_status(word: str, status: int, exit_status: int) -> bool:
-    """Return whether a run of qc ended with the exit status in its JSON result, and the status is
-    possible for its verdict."""
+    """Return whether `exit_status`, that of a run of qc, is the `status` in its JSON result.
+
+    The verdict `word` must also allow this status.
+    """
     return status == exit_status and (word, status) in POSSIBLE_RESULTS
 
 
 def combine_statuses(statuses: Iterable[int], is_stopped: bool = False) -> int:
-    """Return the exit status for several verdicts: the worst of their statuses, or 2 if there is no
-    verdict or if some pairs are missing."""
+    """Return the exit status for several verdicts, which is the worst of their statuses.
+
+    Return 2 if there is no verdict, or if `is_stopped` is true because pairs are missing.
+    """
     found = {*statuses}
     if is_stopped or not found or not found <= {*WORST_FIRST}:
         return 2

@@ -1,5 +1,4 @@
-"""Refused subtitles of a file: advice on midnight and on characters, and which of the other
-subtitles are judged."""
+"""Give advice on refused subtitles of a file, and choose the other subtitles, which are judged."""
 from __future__ import annotations
 
 import functools
@@ -22,16 +21,16 @@ from .sentence import FAULT_CLAUSES
 from .transmissions import ExpectedPages
 
 
-# Subtitle files that continue after midnight, or begin with a title at 00:00:00:00
-
 HOUR = 3600 * FRAMES_A_SECOND
 TCI, TCO = slice(5, 9), slice(9, 13)  # bytes of TCI and TCO in a TTI block
 AT_MIDNIGHT = "the file runs past midnight: split it there"
 
 
 def advise_on_midnight(fault: FaultLine, subtitles: SubtitleFile) -> str:
-    """Advise the operator to cut a file whose times fall from over 23:00 to under 01:00 at a fault;
-    return an empty text for other faults."""
+    """Return the advice to split a file whose times pass midnight at a fault.
+
+    Return an empty string for other faults.
+    """
     if fault.block is None or fault.number not in (EMPTY_TIME, OUT_OF_ORDER):
         return ""
     if fault.number == EMPTY_TIME:
@@ -45,8 +44,11 @@ def advise_on_midnight(fault: FaultLine, subtitles: SubtitleFile) -> str:
 
 
 def advise_on_title(subtitles: SubtitleFile) -> str:
-    """Describe how to skip a first subtitle at 00:00:00:00 that is an hour before all others;
-    return an empty text if there is none."""
+    """Return advice on the first subtitle if it is probably a title that is not sent.
+
+    Such a subtitle is at 00:00:00:00, and an hour before all others. Otherwise return an empty
+    string.
+    """
     rest = min((frame for frame in subtitles.begins if frame), default=0)
     if not rest >= HOUR or subtitles.begins[0]:
         return ""
@@ -55,25 +57,21 @@ def advise_on_title(subtitles: SubtitleFile) -> str:
 
 
 def falls_at_midnight(earlier: bytes, later: bytes) -> bool:
-    """Return whether one time code is in the last hour of a day and the next is in the first
-    hour."""
+    """Return whether `earlier` is in the last hour of a day, and `later` in the first hour."""
     first, second = frame_of_code(earlier), frame_of_code(later)
     return first is not None and second is not None and \
         first >= FRAMES_OF_A_DAY - HOUR and second < HOUR
 
 
-# Characters that the national option lacks (fault 50)
-
-
 class OptionAdvice:
-    """Gives advice on characters in a subtitle file that the national option lacks."""
+    """Gives advice on characters in a subtitle file that the national option lacks (fault 50)."""
 
     def __init__(self, subtitles: SubtitleFile, option: str) -> None:
         self.subtitles, self.option = subtitles, option
 
     @functools.cached_property
     def complete_options(self) -> list[NationalOption]:
-        """Return the other national options that have all characters in the file."""
+        """Return the other national options that contain all characters of the file."""
         texts = {self.subtitles.text(block) for block in self.subtitles.list_last_blocks()}
         return [option for option in OPTIONS if option.word != self.option
                 and all(has_characters(text, option) for text in texts)]
@@ -86,8 +84,10 @@ class OptionAdvice:
 
 
 def advise_on_character(letter: bytes, complete_options: list[NationalOption]) -> str:
-    """Return advice on a missing character. The options `complete_options` have all characters in
-    the file."""
+    """Return advice on a character that the national option lacks.
+
+    `complete_options` has the options that contain all characters of the file.
+    """
     if complete_options:
         verb = "has" if len(complete_options) == 1 else "have"
         return f"{format_options(complete_options)} {verb} all characters of the file"
@@ -107,33 +107,33 @@ def format_options(options: list[NationalOption]) -> str:
     return "--option " + ", ".join(option.word for option in options)
 
 
-# Subtitles that are judged although others are refused
-#
-# `check --all` judges the transmission from each correct subtitle to the next one. A subtitle is
-# correct if no fault line names it or says that the next one is out of order or overlaps it.
-
-# Subtitles with these faults are not compared with other subtitles.
+# Subtitles with these faults are not compared with the next subtitle.
 NOT_COMPARED = {16, *range(18, 22)}
 ORDER_FAULTS = {56, 57}  # faults found by comparing a subtitle with the previous one
-MAX_NAMED = 3  # maximum number of refused subtitles in the sentence
-PAGE_FLAGS, ERASE_FLAGS = "heo", "heb"  # flags of a PES packet with a page, and with a blank page
+MAX_NAMED = 3  # maximum number of refused subtitles to name in the sentence about the verdict
+PAGE_FLAGS, ERASE_FLAGS = "heo", "heb"  # flags of a PES packet with a page, or with a blank page
 
 
 class SubtitleCounts(NamedTuple):
-    """The number of judged subtitles, and the number of subtitles that are refused or are skipped
-    because of refused ones."""
+    """The number of judged subtitles, and the number of refused subtitles.
+
+    The latter includes the subtitles that are skipped because the next subtitle is refused.
+    """
 
     judged: int
     refused: int
 
     def describe(self) -> str:
-        """Return both numbers as a clause; an empty text if no subtitle is refused."""
+        """Return text such as `7 subtitles judged, 2 refused`.
+
+        Return an empty string if no subtitle is refused.
+        """
         return f"{counted(self.judged, 'subtitle')} judged, {self.refused:,} refused" \
             if self.refused else ""
 
 
 class RefusedSubtitle(NamedTuple):
-    """A refused subtitle, the first fault line about it, its refused character, and advice."""
+    """A refused subtitle, its first fault, its refused character, if any, and advice."""
 
     subtitle: NamedSubtitle
     fault: FaultLine
@@ -141,12 +141,12 @@ class RefusedSubtitle(NamedTuple):
     advice: str
 
     def describe_subtitle(self) -> str:
-        """Return the name of the subtitle, as printed by all tools, and its time."""
+        """Return the name of the subtitle and its time."""
         subtitle = self.subtitle
         return f"{subtitle_name(subtitle.position, subtitle.number)} at {subtitle.begin}"
 
     def describe_reason(self) -> str:
-        """Return the fault, with the refused character or the meaning of the fault, and advice."""
+        """Describe the fault with the refused character or the meaning of the fault. Add advice."""
         more = self.character or FAULT_CLAUSES.get(self.fault.number, "")
         do = f": {self.advice}" if self.advice else ""
         return f"{self.fault.number} {self.fault.name} ({more}){do}"
@@ -158,8 +158,12 @@ class RefusedSubtitle(NamedTuple):
 
 
 class ValidSubtitles(NamedTuple):
-    """Subtitles that are judged although other subtitles in the file are refused; the refused
-    subtitles; and the positions of all subtitles that are skipped."""
+    """The subtitles that are judged although others in the file are refused.
+
+    `check --all` judges the transmission from each correct subtitle to the next one. A subtitle is
+    correct if it has no fault and the next subtitle is neither out of order nor overlaps it.
+    `skipped_positions` has the positions of the subtitles that are not judged.
+    """
 
     judged: list[Subtitle]
     refused: list[RefusedSubtitle]
@@ -172,7 +176,7 @@ class ValidSubtitles(NamedTuple):
             yield f"undecided: {counted(len(self.refused) - MAX_LIST_LINES, 'more subtitle')}"
 
     def describe(self) -> str:
-        """Describe the first refused subtitles, and count the remaining ones."""
+        """Describe the first refused subtitles, and the number of the others."""
         if len(self.refused) == 1:
             return f"{self.refused[0].describe_subtitle()} is refused by " \
                 f"{self.refused[0].describe_reason()}"
@@ -185,14 +189,17 @@ class ValidSubtitles(NamedTuple):
 
 
 def has_valid_subtitles(numbers: set[int]) -> bool:
-    """Return whether the program judges some subtitles although others are refused: it then also
-    reports that there is no PES packet."""
+    """Return whether `check` judges some subtitles although others are refused.
+
+    `numbers` has the fault numbers for the subtitle file alone. If `check` judges subtitles, it
+    also reports that there is no PES packet.
+    """
     return EMPTY in numbers and bool(numbers & STL_FAULTS)
 
 
 def find_valid_subtitles(file: SubtitleFile, faults: Iterable[FaultLine],
                          option: str) -> ValidSubtitles:
-    """Return the subtitles in a file that can be judged, from the faults of the file."""
+    """Return the subtitles that can be judged, and those that can't because of the faults."""
     by_position: dict[int, list[FaultLine]] = {}
     for fault in faults:
         subtitle = file.find_by_block(fault.block) if fault.block is not None else None
@@ -221,7 +228,7 @@ def list_positions(file: SubtitleFile) -> Iterator[int]:
 
 def make_refused_subtitle(file: SubtitleFile, fault: FaultLine, advice: OptionAdvice,
                           known: dict[int, Meaning]) -> RefusedSubtitle:
-    """Return a refused subtitle, from the first fault line about it."""
+    """Return a refused subtitle. `fault` is its first fault."""
     assert fault.block is not None
     subtitle = file.find_by_block(fault.block)
     assert subtitle
@@ -237,7 +244,10 @@ def make_refused_subtitle(file: SubtitleFile, fault: FaultLine, advice: OptionAd
 def draw_valid_pages(subtitles: Sequence[Subtitle], page: Page, option: str,
                      layout: Layout = PLAIN) \
         -> ExpectedPages:
-    """Draw the pages of the judged subtitles, since `subttx schedule` refuses their file."""
+    """Return the expected pages of the judged subtitles.
+
+    They are drawn in Python, because `subttx schedule` refuses a file with refused subtitles.
+    """
     pages = [draw_page(one, option, layout) for one in subtitles]
     packets = Packets(PES)
     for place, (subtitle, rows) in enumerate(zip(subtitles, pages)):

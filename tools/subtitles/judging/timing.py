@@ -1,5 +1,4 @@
-"""Find the parts of a recording: their clocks, PES packets and PES intervals, and picture
-drifts."""
+"""Find the parts of a recording, their clocks and PES packets, and the drift of pictures."""
 from __future__ import annotations
 
 import dataclasses
@@ -29,17 +28,17 @@ from ..stream.survey import Survey
 from .part import Part
 
 
-NO_CLOCK = Clock(0, RECORDING)  # placeholder until the clock is known
+NO_CLOCK = Clock(0, RECORDING)  # a placeholder until the clock is known
 CLOCK_PREFIX = "clock: "
 
 
 class PartSearch(NamedTuple):
-    """What to search for in a recording.
+    """A request to find the parts of a recording.
 
-    `full_range` has the first and the last frame of the subtitles, and the clock if a clock was
-    given. `allowed_packets` are the PES packets that may be judged, `skipped_positions` the
-    positions of subtitles to skip. `is_continued` is set if a subtitle that is not judged ends
-    where the first judged subtitle begins, and has the same text.
+    `full_range` has the first and the last frame of the subtitles, and the clock if one was given.
+    `allowed_packets` is the range of PES packets that may be judged. `skipped_positions` has the
+    positions of subtitles to skip. `is_continued` is true if the first judged subtitle continues
+    the text of the subtitle before it, which is not judged, without a pause.
     """
 
     request: Request
@@ -58,8 +57,10 @@ class PartClocks(NamedTuple):
 
 
 def find_parts(search: PartSearch, recording: Recording, listener: Listener) -> PartClocks:
-    """Find the parts of a recording and their clocks. The first part has the given clock, or the
-    clock of the first picture."""
+    """Find the parts of a recording and their clocks.
+
+    The first part has the clock from --origin or --start, if given.
+    """
     request, whole = search.request, search.full_range
     given = get_given_clock(request) or find_start_clock(search, recording, listener)
     origin = report_estimated_origin(search, recording, given, listener)
@@ -75,15 +76,13 @@ def find_parts(search: PartSearch, recording: Recording, listener: Listener) -> 
     return PartClocks(search, alignments, delay)
 
 
-# Clocks that were given by the user
-
 def get_given_clock(request: Request) -> Clock | None:
-    """Return the clock given by --origin, or `None`."""
+    """Return the clock from --origin, or `None` if it was not given."""
     return None if request.origin is None else Clock(request.origin, GIVEN)
 
 
 def find_start_clock(search: PartSearch, recording: Recording, listener: Listener) -> Clock | None:
-    """Return the clock of the first picture from --start, or `None`."""
+    """Return the clock from --start and the first picture, or `None` if --start was not given."""
     request, whole = search.request, search.full_range
     if request.start is None:
         return None
@@ -100,12 +99,12 @@ def find_start_clock(search: PartSearch, recording: Recording, listener: Listene
     return begin.clock
 
 
-# Clocks that are estimated
-
 def report_estimated_origin(search: PartSearch, recording: Recording, clock: Clock | None,
                             listener: Listener) -> OriginEstimate:
-    """Estimate the origin of a recording, compare it with a clock that was given, and report
-    both."""
+    """Estimate the origin of a recording, and print it.
+
+    If `clock`, a given clock, is not `None`, also print the difference.
+    """
     request = search.request
     origin_search = OriginSearch(request.stl_path, recording.display_name, request.page,
                                  request.option,
@@ -123,7 +122,7 @@ def report_estimated_origin(search: PartSearch, recording: Recording, clock: Clo
 
 
 def list_timed_parts(origin: OriginEstimate, full_range: TimedPart) -> list[TimedPart]:
-    """Return the parts with their clocks; no parts if the origin is unclear."""
+    """Return the parts with their clocks, or an empty list if the origin is ambiguous."""
     if origin.status:
         return []
     return [TimedPart(*(part.frames or (full_range.begin, full_range.end)),
@@ -138,7 +137,10 @@ def make_estimated_clock(part: PartOrigin) -> Clock:
 
 
 def add_delay(clock: Clock, origin: OriginEstimate) -> tuple[Clock, list[str]]:
-    """Return a given clock with the delay of the first part's cues, and notes on this delay."""
+    """Store the delay of the first part's cues in a given clock.
+
+    Return the clock, and notes about the delay.
+    """
     if origin.ticks_late is None or origin.status:
         return clock, []
     frames, ticks = divmod(abs(origin.ticks_late), TICKS)
@@ -158,8 +160,11 @@ def add_delay(clock: Clock, origin: OriginEstimate) -> tuple[Clock, list[str]]:
 
 
 def refuse_wrong_clock(search: PartSearch, recording: Recording, part: TimedPart) -> None:
-    """Raise `Unclear` if the given clock is wrong: by this clock nothing was recorded at the time
-    of the subtitles, but the recording contains them at another time."""
+    """Raise `Unclear` if the given clock is wrong.
+
+    It is wrong if nothing was recorded at the time of the subtitles, although the recording
+    contains them at another time.
+    """
     clock = part.clock
     if not clock.delay_frames or cut_packets(search, recording, part,
                                              search.request.within).range is not None:
@@ -168,7 +173,7 @@ def refuse_wrong_clock(search: PartSearch, recording: Recording, part: TimedPart
 
 
 def describe_wrong_clock(request: Request, clock: Clock, delay: int) -> str:
-    """Describe how far a given clock is off: the subtitles are `delay` frames late by it."""
+    """Describe the error of a given clock, with which the subtitles are `delay` frames late."""
     if clock.source == GIVEN:
         return f"with --origin {clock.origin} all subtitles are {duration_text(abs(delay))} " \
             f"{'late' if delay > 0 else 'early'}: none is in the recording at its time"
@@ -184,7 +189,7 @@ def describe_wrong_clock(request: Request, clock: Clock, delay: int) -> str:
 
 
 def make_unclear_origin(origin: OriginEstimate, again: Iterable[str]) -> Unclear:
-    """Return an exception that says why the origin is unclear and suggests commands."""
+    """Return the exception that explains why the origin is ambiguous, and suggests commands."""
     is_printed = origin.airings or origin.breaks is not None
     reason = "\n".join(origin.lines) if is_printed else \
         f"the clock is not clear: {'; '.join(origin.lines)}"
@@ -192,7 +197,7 @@ def make_unclear_origin(origin: OriginEstimate, again: Iterable[str]) -> Unclear
 
 
 def suggest_options(recording: Recording, origin: OriginEstimate) -> Iterator[str]:
-    """Yield the commands that the operator may type if the origin is unclear."""
+    """Yield the commands to suggest to the operator if the origin is ambiguous."""
     if origin.airings:
         yield recording.suggest_call("--pes", "I-J")
     elif origin.breaks is None:
@@ -200,11 +205,10 @@ def suggest_options(recording: Recording, origin: OriginEstimate) -> Iterator[st
         yield from recording.other_pages([recording.packets])
 
 
-# PES packets of a part
-
 def cut_packets(search: PartSearch, recording: Recording, alignment: TimedPart,
                 within: int) -> PacketRange:
-    """Find the PES packets at the time of the subtitles, allowing some frames of delay."""
+    """Find the PES packets that were sent during the subtitles, or at most `within` frames later.
+    """
     return find_range(recording.packets, alignment.begin, alignment.end, alignment.origin,
                       search.request.every, within, alignment.packets or search.allowed_packets,
                       search.is_continued and alignment.begin == search.full_range.begin)
@@ -232,17 +236,16 @@ def find_part_packets(search: PartSearch, part: Part, listener: Listener) -> Ran
     return cut.range
 
 
-# The maximum PES interval, if PES packets are regular; otherwise, losses that remain invisible
-
-NEXT_FRAME = 1  # PES interval in frames if each frame has a PES packet
-UNCHECKED = "not checked for"  # beginning of a note
+NEXT_FRAME = 1  # interval between PES packets, in frames, if each frame has one
+UNCHECKED = "not checked for"  # the beginning of a note
 
 
 def measure_part_pace(part: Part, times: Sequence[tuple[int, int]], listener: Listener) -> Part:
-    """Return a part with the maximum PES interval, if PES packets are regular and no interval is
-    configured.
+    """Set the longest allowed interval between PES packets (--pace) from the usual intervals.
 
-    Add notes on losses that nothing would show. `times` are the frames of the subtitles.
+    Return a copy of the part. Leave --pace as it is if it is given, or if the intervals are
+    irregular. Add notes about losses that can't be detected. `times` has the TCI and TCO of each
+    subtitle.
     """
     number, request, (recording, _) = part.number, part.request, part.judged_recording
     pace, unseen = measure_pace(part, times)
@@ -263,7 +266,11 @@ def measure_part_pace(part: Part, times: Sequence[tuple[int, int]], listener: Li
 
 
 def measure_pace(part: Part, times: Sequence[tuple[int, int]]) -> tuple[Pace, int | None]:
-    """Return the pace of a part, and the shortest loss in frames that the counter may not show."""
+    """Measure the intervals between the PES packets of a part.
+
+    Also return the length, in frames, of the shortest loss that the continuity counter may not
+    show.
+    """
     request, (recording, alignment), pes = part.request, part.judged_recording, part.pes or NO_RANGE
     size = None if recording.is_stream else os.path.getsize(recording.path)
     rows = frame_rows(recording.packets, pes, alignment.origin, request.within)
@@ -273,8 +280,10 @@ def measure_pace(part: Part, times: Sequence[tuple[int, int]]) -> tuple[Pace, in
 
 
 def find_late_jumps(part: Part, pace: Pace) -> tuple[list[PTSPair], int]:
-    """Return the announced jumps of the continuity counter before a late PES packet, and the number
-    of other announced jumps, which could hide a loss of PES packets."""
+    """Return the announced jumps of the continuity counter that a late PES packet follows.
+
+    Also return the number of the other announced jumps, which may hide a loss of PES packets.
+    """
     (recording, _), inside = part.judged_recording, part.pes or NO_RANGE
     if not recording.is_stream:
         return [], 0
@@ -284,21 +293,23 @@ def find_late_jumps(part: Part, pace: Pace) -> tuple[list[PTSPair], int]:
 
 
 def describe_jumps(count: int, recording: Recording) -> str:
-    """Describe at how many announced jumps of the continuity counter losses are invisible; return
-    an empty text for 0."""
+    """Return the note that losses can't be detected at `count` announced jumps of the counter.
+
+    Return an empty string if `count` is 0.
+    """
     return f"{UNCHECKED} losses on {format_pid(recording.packets.pid)} at " \
         f"{counted(count, 'place')} where a jump of its counter is announced" if count else ""
 
 
 def make_pace_selection(pace: Pace, is_stream: bool, part: int) -> Selection:
-    """Return the maximum PES interval as a printed choice of qc, with the number of places where it
-    would show a loss."""
+    """Return the `Selection` that reports the chosen --pace, and at how many places it shows a
+    loss."""
     return Selection(PACE_CHOICE, str(pace.frames), describe_pace(pace, is_stream),
                      pace.total - pace.hidden_places, pace.total, part)
 
 
 def describe_pace(pace: Pace, is_stream: bool) -> str:
-    """Describe how regular the PES packets are, and the maximum interval chosen from that."""
+    """Describe the usual interval between PES packets, and the --pace chosen from it."""
     more = ", and three may come in that time" if pace.is_dense else \
         f", at least {pace.loss_interval} after a loss of 16 TS packets" if is_stream else ""
     return f"pace: at most {counted(pace.interval, 'frame')} from one PES packet to the next" \
@@ -306,7 +317,10 @@ def describe_pace(pace: Pace, is_stream: bool) -> str:
 
 
 def describe_unchecked_losses(pace: Pace, unseen: int | None, recording: Recording) -> str:
-    """Describe which losses remain invisible; empty if --every or the pace shows all losses."""
+    """Describe the losses that can't be detected.
+
+    Return an empty string if --every or --pace shows all losses.
+    """
     if pace.kind == BY_EVERY or pace.kind == REGULAR and not pace.hidden_places:
         return ""
     if without := describe_missing_pcr(recording):
@@ -328,21 +342,26 @@ def describe_unchecked_losses(pace: Pace, unseen: int | None, recording: Recordi
 
 
 def describe_missing_pcr(recording: Recording) -> str:
-    """Describe that no PCR can show losses; return an empty text if there is a PCR."""
+    """Return the note that there is no PCR to show losses.
+
+    Return an empty string if there is one.
+    """
     if not recording.is_stream or recording.survey.clock_of(recording.packets.pid) is not None:
         return ""
     return f"the programme of {format_pid(recording.packets.pid)} has no PCR: a loss that its " \
         "counter does not show, as of 16 TS packets, is not noticed"
 
 
-# Pictures that drift from the subtitles: viewers see this fault, but no Teletext PTS shows it
+# Viewers see if pictures drift from the subtitles, but the PTS of Teletext do not show the drift.
 
 NOT_CHECKED = "not checked whether the video and the subtitles drift apart"
 
 
 class DesyncFindings(NamedTuple):
-    """The faults of drifting pictures, and notes on drifts that --within allows and on places that
-    were not checked."""
+    """The faults of pictures that drift from the subtitles.
+
+    `notes` is about drifts that --within allows, and about drifts that could not be checked.
+    """
 
     faults: list[NamedFault]
     notes: list[str]
@@ -350,8 +369,7 @@ class DesyncFindings(NamedTuple):
 
 def find_desync(survey: Survey, pid: int, alignment: TimedPart, within: int, number: int
                 ) -> DesyncFindings:
-    """Find where pictures drift from the subtitles in part `number`, whose Teletext has the PID
-    `pid`."""
+    """Find where pictures drift from the subtitles on the Teletext PID `pid`, in part `number`."""
     kinds = {pid for programme in survey.programmes_of(pid) for pid in programme.kinds}
     faults, notes = list[NamedFault](), list[str]()
     for (own, video), leads in survey.leads.items():
@@ -366,8 +384,11 @@ def find_desync(survey: Survey, pid: int, alignment: TimedPart, within: int, num
 
 
 def find_departures(several: Sequence[Departure], alignment: TimedPart) -> list[Departure]:
-    """Return the drifts within a part; if the clock comes from the first picture, also those since
-    this picture. A drift that may be outside the part has no ticks."""
+    """Return the drifts within a part.
+
+    If the clock comes from the first picture, also return the drifts between this picture and the
+    part. If a drift may be outside the part, its `ticks` are `None`.
+    """
     first = pts_of(alignment.begin, alignment.origin)
     length = TICKS * (alignment.end - alignment.begin)
     is_of_picture = alignment.clock.source in (START, TCP)
@@ -382,15 +403,17 @@ def find_departures(several: Sequence[Departure], alignment: TimedPart) -> list[
 
 
 class Desync(NamedTuple):
-    """The frames from `first` to before `end`, in which subtitles are `ticks` early for viewers, or
-    late if `ticks` is negative."""
+    """The frames `range(first, end)`, in which subtitles are `ticks` early for viewers.
+
+    The subtitles are late if `ticks` is negative.
+    """
 
     first: int
     end: int
     ticks: int
 
     def describe(self) -> str:
-        """Describe the fault in a clause."""
+        """Return a clause that describes the fault."""
         count = counted(abs(self.ticks) // TICKS, "frame") if self.ticks % TICKS == 0 else \
             f"{abs(self.ticks) / TICKS:.1f} frames"
         return f"from {time_of(self.first)} on subtitles are {count} " \
@@ -398,8 +421,7 @@ class Desync(NamedTuple):
 
 
 def find_desync_spans(several: Sequence[Departure], alignment: TimedPart) -> Iterator[Desync]:
-    """Yield the frames in which subtitles are early or late compared to the pictures, adding up all
-    drifts."""
+    """Yield the frames in which the sum of all drifts makes subtitles early or late."""
     first = pts_of(alignment.begin, alignment.origin)
     length, total = alignment.end - alignment.begin, 0
     frames = [alignment.begin + max(ticks_within(first, TICKS * length, one.pts), 0) // TICKS
@@ -411,8 +433,8 @@ def find_desync_spans(several: Sequence[Departure], alignment: TimedPart) -> Ite
 
 
 def is_allowed_delay(ticks: int, within: int) -> bool:
-    """Return whether subtitles are late by at most `within` frames. Early subtitles are never
-    allowed."""
+    """Return whether subtitles are late by at most `within` frames. `ticks` is negative if they are
+    late."""
     return -TICKS * within <= ticks < 0
 
 
@@ -427,15 +449,17 @@ def make_desync_faults(several: Sequence[Departure], alignment: TimedPart, withi
 
 
 def make_delay_notes(several: Sequence[Departure], alignment: TimedPart, within: int) -> list[str]:
-    """Return notes on subtitles that are late by at most the frames that --within allows."""
+    """Return notes about subtitles that are late, but as --within allows."""
     return [f"{away.describe()}, as --within {within} allows"
             for away in find_desync_spans(several, alignment)
             if is_allowed_delay(away.ticks, within)]
 
 
 def make_unclear_notes(is_steady: bool, count: int) -> list[str]:
-    """Return notes on drifts that were not checked: all drifts unless `is_steady`, otherwise those
-    at `count` places."""
+    """Return notes about drifts that were not checked.
+
+    If `is_steady` is false, no drift was checked. Otherwise, the drifts at `count` places were not.
+    """
     if not is_steady:
         return [f"{NOT_CHECKED}: the decoding times of the video have no usual step"]
     return [f"{NOT_CHECKED} at {counted(count, 'place')} where its decoding times jump: the "

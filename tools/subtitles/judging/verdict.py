@@ -1,4 +1,4 @@
-"""The verdict on a pair: its parts, gaps, warnings and texts, and the delays of its subtitles."""
+"""The verdict on a pair, with its texts, gaps and warnings, and the delays of its subtitles."""
 from __future__ import annotations
 
 import collections
@@ -24,15 +24,15 @@ from .status import (
 from .subtitles import SubtitleCounts, ValidSubtitles
 
 
-# Delays until subtitles are complete, from which a broadcaster can choose --within
-
-# With --within 0 and none of these faults, each page is complete in the frame of its TCI.
+# Faults that may delay a page. Without them, and with --within 0, each page is complete at its TCI.
 DELAYING_FAULTS = {*range(30, 33), 44, 45, 60, 62, 63, 71, 72, 74, 77}
 
 
 class DelaySpread(NamedTuple):
-    """The minimum, median and maximum delay in frames. `never_complete` counts the subtitles that
-    were never complete."""
+    """The minimum, the median and the maximum delay until subtitles are complete, in frames.
+
+    `never_complete` is the number of subtitles that were never complete.
+    """
 
     minimum: int
     median: int
@@ -40,7 +40,7 @@ class DelaySpread(NamedTuple):
     never_complete: int
 
     def describe(self) -> str:
-        """Describe the delays in one clause."""
+        """Return a clause that describes the delays."""
         middle = "" if self.minimum == self.maximum else f" (median {self.median})"
         never = f"; {self.never_complete} never seen complete" if self.never_complete else ""
         return f"subtitles are complete after {format_frame_range(self.minimum, self.maximum)}" \
@@ -48,8 +48,10 @@ class DelaySpread(NamedTuple):
 
 
 def summarize_delays(several: Iterable[int | None]) -> DelaySpread | None:
-    """Return minimum, median and maximum delay. A delay of `None` means that a subtitle was never
-    complete."""
+    """Return the minimum, the median and the maximum of several delays.
+
+    A delay is `None` if the subtitle was never complete. Return `None` if all delays are.
+    """
     all_of = list(several)
     known = sorted(frames for frames in all_of if frames is not None)
     if not known:
@@ -59,10 +61,10 @@ def summarize_delays(several: Iterable[int | None]) -> DelaySpread | None:
 
 def measure_delay(subtitle: Subtitle, page: Rows, timeline: Timeline,
                   is_complete: bool) -> int | None:
-    """Return the number of frames from the TCI until the page of a subtitle is complete; with
-    `is_complete`, until it is also closed.
+    """Return the number of frames from the TCI until the page of a subtitle is complete.
 
-    Return `None` if the page is never complete, or if nothing was received before the TCI.
+    If `is_complete` is true, the page must also be closed. Return `None` if this never happens, or
+    if nothing was received before the TCI.
     """
     if timeline.first > subtitle.begin:
         return None
@@ -88,12 +90,13 @@ def find_worst_part(parts: Sequence[Part],
 
 
 def add_worst_fault(facts: Facts, worst: WorstFault | None) -> Facts:
-    """Return the facts for a sentence, together with the fault to report first."""
+    """Return a copy of `facts` with `worst`, the fault to report first, if there is one."""
     return facts._replace(first=worst.fault, is_caused=worst.is_caused) if worst else facts
 
 
 def count_fault_numbers(parts: Sequence[Part], left_out: Collection[int] = ()) -> list[FaultCount]:
-    """Count the faults in all parts by fault number, ignoring the numbers in `left_out`."""
+    """Return the number of faults in all parts for each fault number, except those in `left_out`.
+    """
     counts: collections.Counter[int] = collections.Counter()
     names: dict[int, str] = {}
     for part in parts:
@@ -103,17 +106,14 @@ def count_fault_numbers(parts: Sequence[Part], left_out: Collection[int] = ()) -
             if number not in left_out]
 
 
-# The verdict and its texts
-
-ESTIMATED = "estimated"  # kind of a warning: the clock after a break was estimated
+ESTIMATED = "estimated"  # kind of the warning that the clock after a break was estimated
 
 
 @dataclasses.dataclass
 class Gap:
-    """A place where packets are missing: the times before and after the place, and a description.
+    """A place where packets are missing: the times before and after it, and a description.
 
-    `is_judged` is set if the verdict covers frames between these times. `check` reports any gap
-    marker among the judged PES packets as fault 45.
+    `is_judged` is true if frames between these times were judged.
     """
 
     after: str | None
@@ -129,10 +129,10 @@ class Gap:
 
 
 class Unjudged(NamedTuple):
-    """The reason why a pair is not judged, line by line, and commands to suggest to the operator.
+    """The reason why a pair is not judged, in one or more lines, and commands to suggest.
 
-    `is_temporary` is set for a system error, after which another run may judge the pair;
-    `is_stopped` is set if a signal stopped the run.
+    `is_temporary` is true after a system error: another run may judge the pair. `is_stopped` is
+    true if a signal stopped the run.
     """
 
     reason: str
@@ -145,8 +145,8 @@ class Unjudged(NamedTuple):
 class Verdict:
     """The result of judging a pair.
 
-    `notes` are other observations, one line each; `hints` explain the first faults with certain
-    numbers. `files_at_start` describes the files when judging began; `seconds` is the duration of
+    `hints` has a hint on the first fault with each number. `notes` has other observations.
+    `files_at_start` has the state of the files when judging began. `seconds` is the duration of
     judging.
 
     The texts of a verdict appear here:
@@ -181,14 +181,14 @@ class Verdict:
     files_at_start: dict[str, object] = dataclasses.field(default_factory=dict)
     seconds: float = 0.0
     subtitle_count: int = 0
-    # Set if some subtitles are refused and others are judged
+    # Only if some subtitles are refused and others are judged
     valid_subtitles: ValidSubtitles | None = None
-    # Faults without a fault number
+    # Faults that have a name instead of a number
     named_faults: list[NamedFault] = dataclasses.field(default_factory=list)
 
     @property
     def is_lost(self) -> bool:
-        """Return whether TS packets are lost in frames covered by the verdict."""
+        """Return whether TS packets were lost in judged frames."""
         return any(gap.is_judged for gap in self.gaps)
 
     def warn(self, notices: Iterable[Notice]) -> None:
@@ -203,8 +203,10 @@ class Verdict:
 
     @property
     def estimated_clock_note(self) -> str | None:
-        """Return a note that the clock, or the clock after a break, was estimated; `None` if the
-        clock was given."""
+        """Return the note that the clock, or the clock after a break, was estimated.
+
+        Return `None` if all clocks were given.
+        """
         if not any(part.clock and part.clock.is_estimated for part in self.parts):
             return None
         return ESTIMATED_LATER_NOTE if self.has_clock else \
@@ -212,13 +214,13 @@ class Verdict:
 
     @property
     def has_picture(self) -> bool:
-        """Return whether the recording has pictures, so that `--start` can be used."""
+        """Return whether the recording has pictures, which `--start` needs."""
         recording = self.parts[0].recording if self.parts else None
         return recording is not None and recording.has_picture()
 
     @property
     def has_clock(self) -> bool:
-        """Return whether the clock of the recording was given, or there is no recording."""
+        """Return whether the clock of the recording was given, or whether there is no recording."""
         clocks = [part.clock for part in self.parts if part.clock]
         return self.request.has_clock and not (clocks and clocks[0].is_estimated)
 
@@ -238,8 +240,10 @@ class Verdict:
 
     @property
     def is_final(self) -> bool:
-        """Return whether another run would give the same verdict, since no system error occurred
-        and nothing was stopped."""
+        """Return whether another run would give the same verdict.
+
+        It may give another verdict after a system error, or if the run was stopped.
+        """
         known = self.unjudged
         return not (known and (known.is_temporary or known.is_stopped) or self.failed_outputs)
 
@@ -250,7 +254,7 @@ class Verdict:
 
     @property
     def suggestions(self) -> tuple[str, ...]:
-        """Return the commands that the operator may type if the pair is not judged."""
+        """Return the commands to suggest to the operator if the pair is not judged."""
         return self.unjudged.suggestions if self.unjudged else ()
 
     @property
@@ -260,7 +264,10 @@ class Verdict:
 
     @property
     def unjudged_reason(self) -> str | None:
-        """Return the reason why the pair is not judged, line by line, or `None` if it is judged."""
+        """Return the reason why the pair is not judged, or `None` if it is judged.
+
+        The reason may have several lines.
+        """
         reasons = [*([self.unjudged.reason] if self.unjudged else []), *self.failed_outputs]
         return "\n".join(reasons) if reasons else self.decision.reason
 
@@ -290,15 +297,20 @@ class Verdict:
 
     @property
     def delay_of_all(self) -> int:
-        """Return by how many frames all subtitles are late by the given clock; 0 if their delays
-        differ, or if --within allows delays."""
+        """Return the delay in frames that all subtitles have on the given clock.
+
+        Return 0 if their delays differ, or if --within allows delays.
+        """
         clock = self.parts[0].clock if len(self.parts) == 1 else None
         is_measured = clock and clock.is_delay_of_all and not self.request.within
         return clock.delay_frames or 0 if clock and is_measured else 0
 
     def add_transmission_facts(self, said: Facts, beside: ValidSubtitles) -> Facts:
-        """Return the facts about the transmission of a file with refused subtitles, from the part
-        with the worst fault."""
+        """Return a copy of the facts `said`, with those about the transmission of a file with
+        refused subtitles.
+
+        `beside` has the subtitles that are judged although others are refused.
+        """
         answers = [part.check_output for part in self.parts]
         parts = [part for part in self.parts if part.worst_transmission_fault]
         part = find_worst_part(parts, lambda one: one.worst_transmission_fault)
@@ -310,7 +322,7 @@ class Verdict:
 
     @property
     def subtitle_counts(self) -> SubtitleCounts | None:
-        """Return the number of judged subtitles and of refused subtitles, or `None` if unknown."""
+        """Return the numbers of judged and refused subtitles, or `None` if they are unknown."""
         if self.word == NOT_JUDGED or not self.parts:
             return None
         if self.valid_subtitles:
@@ -320,12 +332,12 @@ class Verdict:
         return None if is_refused else SubtitleCounts(self.subtitle_count, 0)
 
     def narrow_to_part(self, part: Part, gaps: list[Gap]) -> Verdict:
-        """Return the verdict on one part alone, with only the gaps in this part."""
+        """Return the verdict on one part alone. `gaps` has the gaps in this part."""
         return dataclasses.replace(self, parts=[part], gaps=gaps)
 
     @property
     def delays(self) -> DelaySpread | None:
-        """Return minimum, median and maximum delay until subtitles are complete."""
+        """Return the minimum, the median and the maximum delay until subtitles are complete."""
         return summarize_delays(frames for part in self.parts for frames in part.delays)
 
     @property
@@ -342,8 +354,9 @@ class Verdict:
     def line(self) -> str | None:
         """Return the last line on standard output.
 
-        The line has the first error as `check` prints it, or else the first waived fault. If there
-        is no fault, it is the last line of the only part, or it has sums over all parts.
+        This is the line of `check` for the first error. Without errors it is the line for the first
+        waived fault. Without faults it is the `accepted` line; if there are several parts, it has
+        the sum of their frames.
         """
         faults: list[FaultLine | NamedFault] = [
             fault for part in self.parts for fault in part.check_output.first_faults.values()]
@@ -354,15 +367,17 @@ class Verdict:
 
     @property
     def worst_line(self) -> str | None:
-        """Return the first line in reports and batch tables: the last output line, but with the
-        worst error."""
+        """Return the first line in reports and batch tables.
+
+        It is like `line`, but about the worst fault, not the first.
+        """
         if self.worst_named_fault:
             return self.prefix_verdict(self.worst_named_fault.line)
         return self.prefix_verdict(self.worst_part.first_text if self.worst_part else None)
 
     @property
     def worst_named_fault(self) -> NamedFault | None:
-        """Return the worst fault without a number, unless another fault is worse."""
+        """Return the worst fault without a number, or `None` if a numbered fault is worse."""
         worst = self.worst_part.worst_fault if self.worst_part else None
         errors = [fault for fault in self.named_faults if self.severity.is_error(fault.name)]
         named = errors if errors or self.word == REFUSED else self.named_faults
@@ -378,15 +393,20 @@ class Verdict:
 
     @property
     def waived_numbers(self) -> set[int]:
-        """Return the fault numbers that the severity file makes warnings, if the pair is refused
-        for other faults."""
+        """Return the numbers of the faults that the severity file turns into warnings.
+
+        Return an empty set unless the pair is refused for other faults.
+        """
         numbers = {number for part in self.parts for number in part.check_output.fault_numbers}
         left_out = STL_FAULTS | {UNDECIDED} if self.valid_subtitles else set[int]()
         return {number for number in numbers - left_out if not self.severity.is_error(number)} \
             if self.word == REFUSED else set()
 
     def prefix_verdict(self, refused: str | None) -> str | None:
-        """Return a line of `check` after the verdict, or `None` if the pair is not judged."""
+        """Return a line of `check`, preceded by the verdict, or `None` if the pair is not judged.
+
+        `refused` is the line about a fault. If it is `None`, use the `accepted` line.
+        """
         word = self.word
         if word == NOT_JUDGED:
             return None
@@ -405,8 +425,11 @@ class Verdict:
         return line
 
     def format_good_line(self) -> str:
-        """Return the last line for an accepted pair: the line of the only part, or sums over all
-        parts. It begins with `relative` if no clock was given."""
+        """Return the last line of output for a pair without faults.
+
+        If there are several parts, the line has the sum of their frames. It begins with `relative`
+        if no clock was given.
+        """
         answers = [part.check_output for part in self.parts]
         line = answers[0].line if len(answers) == 1 else (
             f"{ACCEPTED} {sum(answer.frames or 0 for answer in answers)} frames "
@@ -415,22 +438,25 @@ class Verdict:
         return line if self.has_clock else f"{RELATIVE}{line.removeprefix(ACCEPTED)}"
 
     def format_part_lines(self) -> list[str]:
-        """Return a line for each part if there are several: its times and its last output line."""
+        """Return a line for each of several parts, with its times and its result.
+
+        Return an empty list if there is only one part.
+        """
         return [f"part {part.number}, from {' to '.join(map(str, part.time_codes()))}: "
                 f"{part.check_output.line}" for part in self.parts] if len(self.parts) > 1 else []
 
 
-# Gaps in the recording
-
-
 def find_gaps(recording: Recording, parts: Sequence[Part]) -> list[Gap]:
-    """Return the gaps in a recording, including gaps hidden by announced jumps of the counter."""
+    """Return the gaps in a recording, including those that announced jumps of the counter hide."""
     return make_gaps(recording.list_losses([jump for part in parts for jump in part.jumps]), parts)
 
 
 def make_gaps(places: Sequence[LossPlace], parts: Sequence[Part]) -> list[Gap]:
-    """Return the gaps at some places in the recording. Their times are by the clock of the first
-    part that contains the place, or else by the clock of the first part."""
+    """Return the gaps at the given places in the recording.
+
+    Their times are on the clock of the first part that contains the place. If no part does, they
+    are on the clock of the first part.
+    """
     gaps = []
     for place in places:
         own = [part for part in parts if belongs_to_part(place, part)]
