@@ -1,5 +1,5 @@
 """Judge a programme from a continuous part of the feed, as `qc STL RECORDING` does. A forked
-process judges it, so that a crash or a hang only costs another try."""
+process does this, so that after a crash or a hang the programme is judged again."""
 from __future__ import annotations
 
 import contextlib
@@ -27,9 +27,9 @@ from .segments import Unbroken
 
 LEAST_SECONDS, BYTES_PER_SECOND = 60.0, 2_000_000  # time limit: 60 s, plus 1 s for each 2 MB
 WORK = ".work-"  # prefix of the temporary folder in which a programme is judged
-HEAD = "head.ts"  # file in the temporary folder: the beginning of the recording
+HEAD = "head.ts"  # file in the temporary folder with the beginning of the recording
 SPARE = 1 << 20  # bytes of disk space to leave free
-QUIET = 1.0  # maximum seconds until a PMT comes, without which PES packets are not found
+QUIET = 1.0  # maximum seconds until the next PMT, which is needed to find PES packets
 PTS_SECOND = FRAMES_A_SECOND * TICKS
 CORRECT = {ACCEPTED, WAIVED, RELATIVE}  # verdicts without errors
 # Exit statuses of the judging process, in addition to 0 to 3 of qc: a system error occurred; the
@@ -38,9 +38,10 @@ FAILED, UNFINISHED = 101, 102
 
 
 class Outcome(NamedTuple):
-    """The outcome of one try to judge a programme. `result` is its JSON result, or `None` after a
-    system error; `reason` is the reason, or the line of `check`. `is_finished` is false if a
-    refusal may only mean that the programme continues after the recorded part."""
+    """The outcome of one attempt to judge a programme. `result` is its JSON result, or `None` after
+    a system error. `reason` is the system error, the reason why it was not judged, or the worst
+    fault. `is_finished` is false if a refusal may only mean that the programme continues after the
+    recorded part."""
 
     result: dict[str, Any] | None
     reason: str
@@ -61,8 +62,9 @@ class Outcome(NamedTuple):
 
 
 class BeginCheck(NamedTuple):
-    """A check that a programme began within `margin` seconds of its time of air. The recording
-    begins at `first`; `packets_by` counts the PES packets of each PID up to a time."""
+    """A check that a programme began within `margin` seconds of its air time. The recording begins
+    at `first`. `packets_by` returns for each PID the number of PES packets recorded before a given
+    time."""
 
     air_time: float
     margin: float
@@ -70,8 +72,9 @@ class BeginCheck(NamedTuple):
     packets_by: Callable[[float], Mapping[int, int]]
 
     def examine(self, verdict: Verdict) -> None:
-        """Add a note to the verdict if the programme began in time. Raise `Unclear` if it did not,
-        or if the pair is refused and the beginning may be missing."""
+        """Add a note to the verdict if the programme began in time. Raise `Unclear` if the
+        programme began later, or if the pair is refused and the recording may lack the beginning of
+        the programme."""
         if not verdict.parts or verdict.word == NOT_JUDGED:
             return
         part, words = verdict.parts[0], f"{self.margin:g} s of {single.now(self.air_time)}"
@@ -109,15 +112,15 @@ def exit_status(verdict: Verdict) -> int:
     """Return the exit status of the judging process for a verdict."""
     if not verdict.is_final:
         return FAILED
-    part = verdict.parts[-1] if verdict.parts else None  # finished if PES packets follow
+    part = verdict.parts[-1] if verdict.parts else None  # PES packets after it show its end
     is_finished = part and (part.pes is None or part.packets.count > part.pes[1] + 1)
     return UNFINISHED if verdict.status == 1 and not is_finished else verdict.status
 
 
 @dataclasses.dataclass
 class Checker:
-    """Judges programmes in a folder `work`, which is created in `place` for each try, so that a
-    process left by an earlier run finds its folder deleted. Reports name the folder `out`."""
+    """Judges programmes in a temporary folder `work`. Each attempt uses a new folder in `place`, so
+    that a process left by an earlier run can't interfere. Reports refer to the folder `out`."""
 
     program: str | None
     program_name: str
@@ -128,7 +131,7 @@ class Checker:
     work: str = ""
 
     def clear(self) -> None:
-        """Delete the temporary folders of earlier tries."""
+        """Delete the temporary folders of earlier attempts."""
         for name in os.listdir(self.place):
             if name.startswith(WORK):
                 shutil.rmtree(os.path.join(self.place, name), ignore_errors=True)
@@ -160,7 +163,7 @@ class Checker:
         return Outcome(result, result["reason"] or result["worst_fault"], status != UNFINISHED)
 
     def judge(self, request: Request, name: str, air_time: float, stretch: Unbroken) -> int:
-        """Judge a programme in the current process and return the exit status."""
+        """Judge a programme in the current process. Return the exit status."""
         recording, first = os.path.join(self.work, RECORDING), air_time - self.margin
 
         def packets_by(time: float) -> Mapping[int, int]:
@@ -185,7 +188,7 @@ class Checker:
 
 
 def run_forked(function: Callable[[], int], longest: float) -> tuple[int, list[str]]:
-    """Run a function in a forked process; return its exit status and its lines on standard error.
+    """Run a function in a forked process. Return its exit status and its lines on standard error.
     Raise `Stop` after `longest` seconds. The process is killed on any exception."""
     with hold_signals():
         process = ForkedProcess(function)

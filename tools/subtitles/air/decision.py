@@ -10,13 +10,14 @@ from .check import Outcome
 from .segments import Unbroken
 
 SOON = 10.0  # seconds to wait after the end of a programme, since the recorder may lag
-SLACK = 1.0  # seconds by which a recording may seem shorter than the programme in it
+SLACK = 1.0  # seconds by which a recording may seem shorter than the programme that it contains
 MAX_GAPS = 3  # maximum number of gaps listed in a result
 
 
 class Window(NamedTuple):
-    """The scheduled begin and end of a programme, which is searched for up to `margin` seconds
-    earlier and later. `length` is the duration of its subtitle file in seconds."""
+    """The scheduled period of a programme. The programme is searched from `margin` seconds before
+    `begin` to `margin` seconds after `end`. `length` is the duration of its subtitle file in
+    seconds."""
 
     begin: float
     end: float
@@ -33,13 +34,15 @@ class Window(NamedTuple):
         return self.end + self.margin + self.more
 
     def may_hold(self, stretch: Unbroken) -> bool:
-        """Return whether a recorded part is long enough for the programme, and not too late."""
+        """Return whether a recorded part is long enough and begins early enough to contain the
+        programme."""
         has_room = stretch.end - stretch.begin >= self.length - SLACK
         return has_room and stretch.begin < self.begin + self.margin
 
 
 def gaps_in(window: Window, stretches: Sequence[Unbroken], longest_pause: float) -> list[str]:
-    """Describe the periods of a window that were not recorded, or were deleted later."""
+    """Return descriptions of the periods of a window that were not recorded or were deleted
+    later."""
     ends = [window.first, *(stretch.end for stretch in stretches)]
     begins = [*(stretch.begin for stretch in stretches), window.last]
     return [f"{date(end)} to {date(begin)}" for number, (end, begin) in enumerate(zip(ends, begins))
@@ -49,7 +52,8 @@ def gaps_in(window: Window, stretches: Sequence[Unbroken], longest_pause: float)
 def decide(name: str, outcomes: Sequence[Outcome], gaps: Sequence[str], has_passed: bool,
            failure: str = "") -> Outcome | None:
     """Return the final outcome of a programme from the outcomes of all recorded parts that may
-    contain it; `None` while later segments may change it. `failure` is the last system error."""
+    contain it. Return `None` if later segments may still change it. `has_passed` is true after the
+    end of the window. `failure` is the last system error."""
     failed = next((one for one in outcomes if one.result is None), None)
     final = failed or next((one for one in outcomes if one.is_final), None)
     if final or not has_passed:
@@ -65,6 +69,6 @@ def decide(name: str, outcomes: Sequence[Outcome], gaps: Sequence[str], has_pass
 
 
 def seconds_to_next_try(window: Window, now: float) -> float:
-    """Return the seconds until the next try to judge a programme that may still be on air. Each try
-    doubles the time since its scheduled end, until the window has passed."""
+    """Return the seconds until the next attempt to judge a programme that may still be on air. Each
+    attempt doubles the time since its scheduled end, until the window has passed."""
     return min(max(now - window.end, SOON), max(window.last + SOON - now, 0.0))

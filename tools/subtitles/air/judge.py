@@ -1,4 +1,4 @@
-"""Judge programmes after they were on air. Only retry times are in memory and everything else is on
+"""Judge programmes after they have ended. Only retry times are in memory. Everything else is on
 disk, so the process may be killed and restarted at any time."""
 from __future__ import annotations
 
@@ -27,14 +27,15 @@ HOOK_SECONDS = 10  # time limit of the command of --on-result
 
 
 class Tries:
-    """The time of the next try to judge a programme, the number of system errors, and the last."""
+    """The time of the next attempt to judge a programme, the number of system errors, and the
+    reason of the last error."""
 
     def __init__(self) -> None:
         self.next, self.failures, self.reason = 0.0, 0, ""
 
 
 class Judge:
-    """Judges the programmes of a schedule after their end."""
+    """Judges the programmes of a schedule after they have ended."""
 
     def __init__(self, args: argparse.Namespace, program_name: str) -> None:
         self.args, self.segments, self.out = args, args.segments, args.out
@@ -60,7 +61,7 @@ class Judge:
         return tried is not None
 
     def read_schedule(self) -> None:
-        """Read the schedule; if it can't be read, keep the previous one."""
+        """Read the schedule. If it can't be read, keep the previous one."""
         try:
             self.schedule = read_schedule(self.args.schedule, self.args, self.schedule)
             self.monitor.schedule_faults = [*self.schedule.faults]
@@ -79,7 +80,7 @@ class Judge:
         return now > programme.begin + 2 * margin and now > self.window(programme).last + margin
 
     def attempt(self, programme: Programme, now: float) -> bool:
-        """Judge a programme if it is over; return whether judging was tried."""
+        """Judge a programme if it is over. Return whether an attempt was made."""
         tries, started = self.tries.setdefault(programme.name, Tries()), time.monotonic()
         if now < max(tries.next, programme.begin + SOON):
             return False
@@ -103,7 +104,7 @@ class Judge:
 
     def window(self, programme: Programme) -> Window:
         """Return the window in which a programme is searched. Its length is 0 if the subtitle file
-        is missing. An END before the end of the subtitle file is ignored."""
+        is missing. An END earlier than the end of the subtitle file is ignored."""
         length = 0.0
         with contextlib.suppress(OSError):
             length = length_of(programme.request)
@@ -111,7 +112,8 @@ class Judge:
         return Window(programme.begin, end, length, self.args.margin)
 
     def judge(self, programme: Programme, window: Window, now: float) -> Outcome | None:
-        """Judge each recorded part that may contain a programme, until a result is final."""
+        """Judge each recorded part that may contain a programme, until a result is final. Return
+        `None` if later segments may still change the result."""
         name, has_passed = programme.name, now >= window.last + SOON
         segments = segments_between(self.segments, window.first, window.last)
         if not os.path.exists(programme.request.stl):
@@ -127,7 +129,7 @@ class Judge:
         return decide(name, outcomes, gaps, has_passed, self.tries[name].reason)
 
     def retry(self, programme: Programme, now: float, started: float, reason: str) -> None:
-        """Schedule another try after a system error, and report each reason once."""
+        """Schedule another attempt after a system error. Report each reason once."""
         tries, spent = self.tries[programme.name], time.monotonic() - started
         if reason != tries.reason:
             line, *_ = reason.split("\n")
@@ -138,7 +140,8 @@ class Judge:
         self.monitor.last_error = f"{programme.name}: {reason}"
 
     def publish(self, name: str, outcome: Outcome) -> None:
-        """Store the result files, the JSON result last, since it marks the programme as judged."""
+        """Store the result files. Store the JSON result last, since it marks the programme as
+        judged."""
         assert outcome.result is not None
         work, main = self.checker.work, name + ENDING
         files = sorted(os.listdir(work)) if "request" in outcome.result else []
@@ -165,7 +168,7 @@ class Judge:
 
 
 def judge_schedule(args: argparse.Namespace, program_name: str) -> int:
-    """Judge the programmes of a schedule, once or until a signal; return the exit status."""
+    """Judge the programmes of a schedule, once or until a signal. Return the exit status."""
     handle_signals()
     os.makedirs(args.work or args.out, exist_ok=True)
     with hold_lock(args.out, "air", "another run of air is judging into "):

@@ -58,7 +58,7 @@ def judge_parser() -> ToolParser:
 
 
 def main(text: str, words: list[str]) -> int:
-    """Run a command line of tools/air and return the exit status."""
+    """Run a command line of tools/air. Return the exit status."""
     mode, *line = words or [""]
     if mode == "record":
         args = record_parser().parse_args(line)
@@ -66,7 +66,7 @@ def main(text: str, words: list[str]) -> int:
         record(0, args.segments, Limits(args.length, 3600 * args.keep, 1_000_000 * args.free))
         return 0
     if mode != "judge":
-        ToolParser(text).parse_known_args(words)  # --help, --version
+        ToolParser(text).parse_known_args(words)  # handles --help and --version
         raise Stop("the first argument must be record or judge")
     args = read_options(judge_parser(), line, {}, {}, is_typed=True)
     args.out = make_safe_name(args.out)

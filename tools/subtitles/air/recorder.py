@@ -18,7 +18,7 @@ MAX_READ = 1 << 18  # maximum bytes per read
 PIPE_SIZE = 1 << 20  # pipe buffer in bytes: 0.2 seconds at 40 Mbit/s
 # Seconds between writes to a full disk, and seconds after which unwritten bytes are dropped.
 WRITE_RETRY, WRITE_PATIENCE = 0.1, 5.0
-MAX_DELETED = 50  # maximum number of segments per call, so that deleting does not delay the feed
+MAX_DELETED = 50  # maximum number of segments deleted per call, so that the feed is not delayed
 
 
 class Limits(NamedTuple):
@@ -36,7 +36,7 @@ class Recorder:
         self.folder, self.limits = folder, limits
         self.file: int | None = None
         self.is_new = True  # data before the next segment may be missing
-        self.begun = self.latest = 0.0  # begin of the current segment, by the clock and by its name
+        self.begun = self.latest = 0.0  # start of the segment, by the clock and by its name
 
     def take(self, data: bytes) -> None:
         """Write bytes. If the disk is full, delete the oldest segments. Bytes that still can't be
@@ -57,8 +57,8 @@ class Recorder:
                     time.sleep(WRITE_RETRY)
 
     def current_file(self) -> int:
-        """Return the open segment. Begin a new segment if it is long enough or the clock was
-        set."""
+        """Return the file descriptor of the current segment. Begin a new segment if the current one
+        is long enough or the clock was set."""
         now = time.time()
         if self.file is None or not 0 <= now - self.begun < self.limits.length:
             self.close()
@@ -86,7 +86,8 @@ class Recorder:
             self.file = None
 
     def make_room(self, now: float) -> None:
-        """Delete old segments, and more segments until enough disk space is free."""
+        """Delete segments after their retention time. Then delete the oldest segments until enough
+        disk space is free."""
         while self.delete_oldest(MAX_DELETED, now - self.limits.kept):
             pass
         for _ in range(MAX_DELETED):
@@ -95,8 +96,9 @@ class Recorder:
                 break
 
     def delete_oldest(self, most: int, before: float | None = None) -> bool:
-        """Delete up to `most` of the oldest segments that begin before a time, but never the last
-        segment. Return whether any segment was deleted."""
+        """Delete up to `most` of the oldest segments, but never the last segment. If `before` is
+        given, delete only segments that begin before that time. Return whether any segment was
+        deleted."""
         oldest = [name for begin, name in names_in(self.folder)[:-1]
                   if before is None or begin < before][:most]
         for name in oldest:

@@ -24,7 +24,7 @@ RECORDING = "recording.ts"  # file name of the recording that is judged
 
 
 class Programme(NamedTuple):
-    """A programme in the schedule: the name of its result, and its time of air in seconds since the
+    """A programme in the schedule: the name of its result, and its air time in seconds since the
     epoch. If `end` is `None`, the programme is as long as its subtitle file."""
 
     name: str
@@ -42,8 +42,8 @@ class Schedule(NamedTuple):
 
 
 def time_of_air(text: str) -> float:
-    """Return a date and time with time zone in seconds since the epoch; raise `Stop` if the text is
-    invalid."""
+    """Parse a date and time with a time zone. Return the seconds since the epoch. Raise `Stop` if
+    the text is invalid."""
     found = TIME.fullmatch(text)
     with contextlib.suppress(ValueError, OverflowError):
         if found:
@@ -63,7 +63,8 @@ def times_of_air(word: str) -> tuple[float, float | None]:
 
 
 def result_name(begin: float, stl: str) -> str:
-    """Return the name of a result: the time of air and the name of the subtitle file."""
+    """Return the name of a result, which consists of the air time and the name of the subtitle
+    file."""
     date = datetime.datetime.fromtimestamp(begin, datetime.timezone.utc)
     return f"{date:%Y%m%dT%H%M%SZ}-{pair_name(stl)}"
 
@@ -95,7 +96,7 @@ def parse_schedule(text: str, folder: str, options: argparse.Namespace) -> Sched
 
 
 def parse_line(line: Line, folder: str, options: argparse.Namespace) -> Programme:
-    """Parse a line of a schedule: a time of air, a subtitle file, and options."""
+    """Parse a line of a schedule: an air time, a subtitle file, and options."""
     if line.fault:
         raise Stop(line.fault)
     begin, end = times_of_air(line.arguments[0])
@@ -110,15 +111,16 @@ def parse_line(line: Line, folder: str, options: argparse.Namespace) -> Programm
 
 
 def length_of(request: Request) -> float:
-    """Return the seconds from the first TCI to the last TCO; 0 if the subtitle file can't be read,
-    since `check` will refuse it. Raise `OSError` if there is no such file."""
+    """Return the seconds from the first TCI to the last TCO. Return 0 if the subtitle file can't be
+    read, since `check` will refuse it. Raise `OSError` if there is no such file."""
     about = os.stat(request.stl)
     return length_in(request.stl, about.st_mtime_ns, about.st_size, request.between)
 
 
 @functools.lru_cache(maxsize=10_000)
 def length_in(path: str, _modified: int, _size: int, between: Between) -> float:
-    """Return the length of a subtitle file in seconds, cached until the file changes."""
+    """Return the length of a subtitle file in seconds. The result is cached until the file
+    changes."""
     times = list[tuple[int, int]]()
     with contextlib.suppress(Damaged, Stop):
         for subtitle in read_stored_subtitles(read_stl(path)):

@@ -20,12 +20,12 @@ NEW = "-new.ts"  # end of a segment's name if data before the segment may be mis
 BLOCK = 1 << 19  # bytes per read, and bytes to compare on each side of a segment boundary
 PACKET_SIZES, SYNC = (188, 192, 204), 0x47
 LEAST_PACKETS = 5  # number of sync bytes needed to find where TS packets begin
-Sides = tuple[list[int], list[int]]  # numbers before and after a segment boundary
+Sides = tuple[list[int], list[int]]  # counters or PCR, before and after a segment boundary
 
 
 class Segment(NamedTuple):
     """A segment with its path, its size in bytes, and the times of its first and last byte in
-    seconds since the epoch. `is_new` says that data before the segment may be missing."""
+    seconds since the epoch. `is_new` is true if data before the segment may be missing."""
 
     path: str
     size: int
@@ -48,7 +48,7 @@ def segment_name(time: float, is_new: bool = False) -> str:
 
 @functools.lru_cache(maxsize=100_000)
 def begin_in(name: str) -> float | None:
-    """Return the time at which a segment begins, from its name; `None` for other files."""
+    """Return the start time in the name of a segment. Return `None` for other files."""
     if found := NAME.fullmatch(name):
         *numbers, fraction = found.groups("0")
         with contextlib.suppress(ValueError):
@@ -58,7 +58,7 @@ def begin_in(name: str) -> float | None:
 
 
 def names_in(folder: str) -> list[tuple[float, str]]:
-    """Return the begin times and the names of the segments in a folder, earliest first."""
+    """Return the start times and the names of the segments in a folder, earliest first."""
     timed = ((begin_in(name), name) for name in os.listdir(folder))
     return sorted((begin, name) for begin, name in timed if begin is not None)
 
@@ -67,13 +67,14 @@ def segments_between(folder: str, begin: float, end: float) -> list[Segment]:
     """Return the segments that overlap a period, earliest first. Skip empty segments, which a power
     failure may leave."""
     names = names_in(folder)
-    first = max(bisect.bisect_left(names, (begin, "")) - 1, 0)  # it may overlap the period
+    first = max(bisect.bisect_left(names, (begin, "")) - 1, 0)  # the segment before may overlap too
     found = (segment_at(folder, name, time) for time, name in names[first:] if time < end)
     return [segment for segment in found if segment and segment.size and segment.end >= begin]
 
 
 def segment_at(folder: str, name: str, begin: float) -> Segment | None:
-    """Return the segment with a file name, or `None` if the file was deleted."""
+    """Return the segment in the file `name`, which begins at the time `begin`. Return `None` if the
+    file was deleted."""
     path = os.path.join(folder, name)
     with contextlib.suppress(FileNotFoundError):
         about = os.stat(path)
@@ -110,7 +111,8 @@ class Unbroken(NamedTuple):
 
 
 def read_range(path: str, first: int, end: int) -> Iterator[bytes]:
-    """Yield the bytes of a file from one offset to another; raise `OSError` at an early end."""
+    """Yield the bytes of a file from one offset to another. Raise `OSError` if the file ends
+    before."""
     with open(path, "rb") as file:
         file.seek(first)
         while first < end:
@@ -123,8 +125,9 @@ def read_range(path: str, first: int, end: int) -> Iterator[bytes]:
 
 @functools.lru_cache(maxsize=10_000)
 def is_continued(before: Segment, after: Segment) -> bool | None:
-    """Return whether the TS packets continue from one segment to the next, by the continuity
-    counters and the PCR: `False` if packets are missing, `None` if this is unclear."""
+    """Return whether the TS packets continue from one segment to the next, according to the
+    continuity counters and the PCR. Return `False` if packets are missing, and `None` if this is
+    unclear."""
     middle, data = min(before.size, BLOCK), b""
     with contextlib.suppress(OSError):  # a segment was deleted
         data = b"".join((*read_range(before.path, before.size - middle, before.size),
@@ -162,9 +165,12 @@ def is_usual(before: Sequence[int], after: Sequence[int]) -> bool:
 
 
 def stretches_in(segments: Iterable[Segment], longest_pause: float) -> Iterator[Unbroken]:
-    """Divide segments into continuous parts of the feed: where TS packets are missing, or where a
-    name or a pause of more than `longest_pause` seconds says so and the TS packets may not
-    continue. If only the TS packets show the gap, the segment before it was cut, and is omitted."""
+    """Divide segments into continuous parts of the feed.
+
+    A part ends where TS packets are missing. It also ends where a segment's name or a pause of more
+    than `longest_pause` seconds shows a gap, unless the TS packets clearly continue. If only the TS
+    packets show the gap, the segment before it was cut, and is omitted.
+    """
     stretch = list[Segment]()
     for one in segments:
         is_next = is_continued(stretch[-1], one) if stretch else None

@@ -14,9 +14,9 @@ from ..stream.survey import survey
 from .segments import names_in, segment_at
 
 NAME = "state.json"
-SILENCE = 10.0  # seconds without a byte until the alarm `silence`
-PAGE_SILENCE = 600.0  # seconds without a page header until the alarm for the page
-PAGES_EVERY, NEWEST = 60.0, 3  # seconds between searches for pages; segments to search
+SILENCE = 10.0  # seconds without data after which the alarm `silence` is active
+PAGE_SILENCE = 600.0  # seconds without a page header after which the alarm for the page is active
+PAGES_EVERY, NEWEST = 60.0, 3  # seconds between searches for pages; number of segments to search
 LEAST_FREE = 100_000_000  # bytes of free disk space below which the alarm `disk` is active
 
 
@@ -82,12 +82,12 @@ class Monitor:
 
 
 def date_or_none(time: float) -> str | None:
-    """Format a time in UTC; return `None` for 0, which means never."""
+    """Format a time in UTC. Return `None` for 0, which means never."""
     return date(time) if time else None
 
 
 def free_bytes(folder: str) -> int:
-    """Return the free disk space of a folder in bytes; 0 if the folder does not exist."""
+    """Return the free disk space of a folder in bytes, or 0 if the folder does not exist."""
     with contextlib.suppress(OSError):
         about = os.statvfs(folder)
         return about.f_bavail * about.f_frsize
@@ -95,6 +95,6 @@ def free_bytes(folder: str) -> int:
 
 
 def write_state(folder: str, state: dict[str, Any]) -> None:
-    """Write the state file. Errors are ignored: monitoring then sees an old date in the file."""
+    """Write the state file. Ignore errors, since monitoring can detect the old date in the file."""
     with contextlib.suppress(OSError), open_result(os.path.join(folder, NAME)) as file:
         file.write(json.dumps(state, indent=1).encode() + b"\n")

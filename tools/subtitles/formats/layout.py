@@ -1,6 +1,6 @@
-"""Layouts of `--layout TEXT`: how an inserter draws a subtitle's text as rows of a page.
+"""Layouts of `--layout TEXT`: how an inserter draws a subtitle's text in rows of a page.
 
-This is used to search for a layout. The verdict depends only on the program's own drawing.
+These functions are used to search for a layout. The verdict depends only on the program's drawing.
 """
 from __future__ import annotations
 
@@ -31,8 +31,8 @@ HEX = re.compile(r"(?:[0-9A-Fa-f]{2})*")
 
 
 class Layout(NamedTuple):
-    """A layout for drawing the lines of subtitles. `before` is put before the leading codes of a
-    line, `behind` after them."""
+    """A layout with which the lines of subtitles are drawn. `before` is inserted before the leading
+    codes of a line, and `behind` after them."""
 
     strip: bytes = b""
     before: bytes = b"\x0b\x0b"
@@ -53,7 +53,7 @@ class Layout(NamedTuple):
 
     @property
     def unit(self) -> int:
-        """The number of rows from one line to the next."""
+        """Return the number of rows from one line to the next."""
         return 2 if self.double else 1
 
 
@@ -77,14 +77,14 @@ class DrawnLine(NamedTuple):
 
 
 def parse_codes(text: str, most: int, allowed: Sequence[int]) -> bytes | None:
-    """Parse hexadecimal digits as codes; return `None` if any code is not allowed."""
+    """Parse hexadecimal digits as codes. Return `None` if any code is not allowed."""
     codes = bytes.fromhex(text) if HEX.fullmatch(text) else None
     fits = codes is not None and len(codes) <= most and all(code in allowed for code in codes)
     return codes if fits else None
 
 
 def parse_item(name: str, value: str | None) -> dict[str, object] | None:
-    """Parse an item of a layout; return `None` if its name or value is invalid."""
+    """Parse an item of a layout. Return `None` if its name or value is invalid."""
     if name in FLAGS:
         return {name: True} if value is None else None
     if value is None:
@@ -110,7 +110,7 @@ def parse_item(name: str, value: str | None) -> dict[str, object] | None:
 
 
 def parse_layout(text: str) -> Layout | None:
-    """Parse the TEXT of `--layout`; return `None` if it is invalid."""
+    """Parse the value of `--layout`. Return `None` if it is invalid."""
     values: dict[str, object] = {}
     names: set[str] = set()
     for word in text.split(","):
@@ -124,7 +124,8 @@ def parse_layout(text: str) -> Layout | None:
 
 
 def find_layout_fault(text: str) -> str | None:
-    """Return a message about the first invalid item of a layout's TEXT, or `None`."""
+    """Return a message about the first invalid item in a value of `--layout`. Return `None` if it
+    is valid."""
     names = set[str]()
     for word in text.split(","):
         name, equals, value = word.partition("=")
@@ -152,7 +153,8 @@ def list_items(layout: Layout) -> list[str]:
 
 
 def format_layout(layout: Layout) -> str:
-    """Format a layout as the TEXT of `--layout`; an empty text for the default layout."""
+    """Return the value of `--layout` for a layout. Return an empty string for the default
+    layout."""
     return ",".join(list_items(layout))
 
 
@@ -165,7 +167,7 @@ def complexity_key(layout: Layout) -> tuple[int, int, str]:
 @functools.lru_cache(maxsize=CACHE_SIZE)
 def make_cell_lines(text: bytes, option: NationalOption, strip: bytes = b"") \
         -> tuple[bytes, ...] | TextFault:
-    """Return the lines of a text as cells, or the fault of its first character without a cell."""
+    """Return the lines of a text as cells. If a character has no cell, return a fault instead."""
     lines = [bytearray()]
     for at, byte, cell in split_cells(text, option):
         if byte == NEW_LINE:
@@ -202,7 +204,7 @@ def prepare_line(cells: bytes, layout: Layout) -> bytes:
 
 
 def find_start_column(cells: bytes, justify: int, layout: Layout) -> int:
-    """Return the start column of a line of 1 to 40 cells, which may be outside the row."""
+    """Return the start column of a line of 1 to 40 cells. It may be outside the row."""
     skipped, width = 0, len(cells)
     if layout.text:
         skipped, width = count_leading_codes(cells), len(cells.strip(CODES))
@@ -215,12 +217,14 @@ def find_start_column(cells: bytes, justify: int, layout: Layout) -> int:
 
 
 def find_column(cells: bytes, justify: int, layout: Layout) -> int:
-    """Return the start column of a line of 1 to 40 cells, moved so that the line fits the row."""
+    """Return the start column of a line of 1 to 40 cells. The line is moved so that it fits the
+    row."""
     return min(max(find_start_column(cells, justify, layout), 0), COLUMNS - len(cells))
 
 
 def assign_rows(lines: Sequence[bytes], first: int, layout: Layout) -> list[int]:
-    """Return the row of each prepared line. `first` is the vertical position (VP)."""
+    """Return the row of each line. The lines are results of `prepare_line`. `first` is the vertical
+    position (VP)."""
     places, place = [], 0
     for number, line in enumerate(lines):
         places.append(place if layout.pack else number)
@@ -232,14 +236,16 @@ def assign_rows(lines: Sequence[bytes], first: int, layout: Layout) -> list[int]
 
 def draw_text(text: bytes, first: int, justify: int, layout: Layout, option: NationalOption
           ) -> list[DrawnLine] | TextFault:
-    """Draw the lines of a subtitle's text, except empty lines, or return its first fault."""
+    """Draw the lines of a subtitle's text, omitting empty lines. If the text has a fault, return
+    the first fault instead."""
     cells = make_cell_lines(text, option, layout.strip)
     return cells if isinstance(cells, TextFault) else draw_lines(cells, first, justify, layout)
 
 
 def draw_lines(cells: Sequence[bytes], first: int, justify: int, layout: Layout
                 ) -> list[DrawnLine] | TextFault:
-    """Draw lines of cells, except empty lines, or return their first fault."""
+    """Draw lines of cells, omitting empty lines. If a line has a fault, return the first fault
+    instead."""
     lines = [prepare_line(one, layout) for one in cells]
     placed: list[DrawnLine] = []
     above = b""  # the previous line
@@ -267,15 +273,15 @@ def make_page_rows(lines: Sequence[DrawnLine]) -> tuple[bytes, ...]:
 
 
 def find_text_letters(text: bytes, option: NationalOption) -> bytes | None:
-    """Return the cells of a text without spaces and attributes: they are the same in each layout.
-    Return `None` if a character has no cell."""
+    """Return the cells of a text, omitting spaces and attributes. These cells are the same in each
+    layout. Return `None` if a character has no cell."""
     lines = make_cell_lines(text, option, bytes(range(0x20)))
     return None if isinstance(lines, TextFault) else bytes(
         cell for line in lines for cell in line if cell > SPACE)
 
 
 def find_page_letters(rows: Sequence[bytes]) -> bytes:
-    """Return all cells of a page, row by row, without spaces and attributes."""
+    """Return the cells of a page, row by row, omitting spaces and attributes."""
     return bytes(cell for row in rows for cell in row if cell > SPACE)
 
 
@@ -292,7 +298,7 @@ def split_raw_lines(text: bytes, option: NationalOption) -> list[bytes]:
 
 
 def remove_attributes(cells: bytes) -> bytes:
-    """Return the cells of a line without spaces and attributes."""
+    """Return the cells of a line, omitting spaces and attributes."""
     return bytes(cell for cell in cells if cell > SPACE)
 
 

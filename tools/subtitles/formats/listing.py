@@ -31,12 +31,12 @@ FAULT_LINE = re.compile(
     r"| row (?P<row>\d+) column (?P<column>\d+))?)?")
 EMPTY = 60  # there is no PES packet
 DISPLAY = 13  # display standard code (DSC)
-EMPTY_TIME, OUT_OF_ORDER = 21, 56  # decreasing times in a subtitle file
+EMPTY_TIME, OUT_OF_ORDER = 21, 56  # empty or decreasing times in a subtitle file
 OFF_FRAME, GAP = 61, 73
 UNDECIDED = 78  # frames next to refused subtitles, whose expected page is unknown
 STL_FAULTS = {*range(10, 26), *range(50, 58)}
 SKIPPED_PACKETS = {*range(33, 41), 45, 61}  # PES packets that are unreadable or have no frame
-ENDS_READING = {30, 31, 32, 44}  # `check` stopped reading the recording
+ENDS_READING = {30, 31, 32, 44}  # faults after which `check` stops reading the recording
 LOST_PACKETS = 45  # TS packets are missing
 SILENT = 79  # no PES packet for too long
 LOSSES = {LOST_PACKETS, SILENT}
@@ -48,7 +48,8 @@ INCOMPLETE = 77
 
 
 class FaultLine(NamedTuple):
-    """A line `refused`, `ended`, `fault` or `usage`, with its fault number, name and place."""
+    """A line that begins with `refused`, `ended`, `fault` or `usage`, with its fault number, name
+    and place."""
 
     line: str
     word: str
@@ -64,7 +65,7 @@ class FaultLine(NamedTuple):
 
     @property
     def frame(self) -> int | None:
-        """The frame of the line's time, or `None`."""
+        """Return the frame of the time in the line, or `None` if there is no time."""
         frame: int | None = frame_of(self.time) if self.time else None
         return frame
 
@@ -74,21 +75,22 @@ class FaultLine(NamedTuple):
 
 
 class Accepted(NamedTuple):
-    """A line `accepted`, which accepts a pair."""
+    """A line of `check` that begins with `accepted`, for a pair without a fault."""
 
     frames: int
     transmissions: int
 
 
 class Trusted(NamedTuple):
-    """A line `trusted`, with the times of the first and the last of consecutive clean frames."""
+    """A line that begins with `trusted`. It has the times of the first and the last of consecutive
+    frames without a fault."""
 
     first: str
     last: str
 
 
 def parse_fault_line(line: str) -> FaultLine | None:
-    """Parse a line with a fault number; return `None` for any other line."""
+    """Parse a line with a fault number. Return `None` for any other line."""
     match = FAULT_LINE.fullmatch(line)
     if not match:
         return None
@@ -99,24 +101,25 @@ def parse_fault_line(line: str) -> FaultLine | None:
 
 
 def parse_optional(digits: str | None) -> int | None:
-    """Parse an optional number; return `None` if it is missing."""
+    """Parse a number. Return `None` if it is missing."""
     return None if digits is None else int(digits)
 
 
 def parse_accepted_line(line: str) -> Accepted | None:
-    """Parse a line `accepted`; return `None` for any other line."""
+    """Parse a line that begins with `accepted`. Return `None` for any other line."""
     match = ACCEPTED.fullmatch(line)
     return Accepted(int(match[1]), int(match[2])) if match else None
 
 
 def parse_trusted_line(line: str) -> Trusted | None:
-    """Parse a line `trusted`; return `None` for any other line."""
+    """Parse a line that begins with `trusted`. Return `None` for any other line."""
     match = TRUSTED.fullmatch(line)
     return Trusted(match[1], match[2]) if match else None
 
 
 def parse_count_line(line: str) -> int | None:
-    """Parse the last line of a list, the number of faults; return `None` for any other line."""
+    """Parse the last line of a list, which has the number of faults. Return `None` for any other
+    line."""
     match = COUNT.fullmatch(line)
     return int(match[1]) if match else None
 
@@ -127,21 +130,22 @@ def is_check_line(line: str) -> bool:
                                                      parse_accepted_line, parse_count_line))
 
 
-# Faster parsing: a list may have a line for each frame of a day.
+# These functions are faster, since a list may have a line for each frame of a day.
 
 def split_line(line: str) -> list[str]:
-    """Split a line into its word, fault number, fault name, kind of place, place, and rest."""
+    """Split a line into keyword, fault number, fault name, kind of place, place, and rest."""
     return line.split(" ", 5)
 
 
 def parse_fault_number(line: str) -> int | None:
-    """Parse the fault number of a line `refused`; return `None` for any other line."""
+    """Parse the fault number in a line that begins with `refused`. Return `None` for any other
+    line."""
     digits = line.split(" ", 2)[1] if line.startswith(REFUSED + " ") else ""
     return int(digits) if digits.isascii() and digits.isdecimal() else None
 
 
 def parse_place_time(time: str) -> int:
-    """Return the frame of the time in a fault's place."""
+    """Return the frame of a time in a line of `check`."""
     hours, minutes, seconds, frames = map(int, time.split(":"))
     return ((hours * 60 + minutes) * 60 + seconds) * FRAMES_A_SECOND + frames
 
@@ -155,8 +159,8 @@ FAULT_NAMES = (NEVER_SENT, PICTURES_LEFT, NOT_SHOWN)
 
 
 class NamedFault(NamedTuple):
-    """A fault with a name instead of a number. Its place is the first and last time in the
-    recording, or a TTI block of the subtitle file."""
+    """A fault with a name instead of a number. Its place is a time in the recording, from `time` to
+    `until`, or a TTI block of the subtitle file."""
 
     name: str
     text: str
@@ -167,19 +171,17 @@ class NamedFault(NamedTuple):
 
     @property
     def line(self) -> str:
-        """The fault, formatted like a line of `check`."""
+        """Return the fault as a line in the format of `check`."""
         place = f" frame {self.time}" if self.time else \
             f" block {self.block}" if self.block is not None else ""
         return f"{REFUSED} {self.name}{place}"
 
 
-# Meanings of faults, from the tables of the manual.
-
 REFUSALS_PATH = os.path.join(TOP, "docs", "manual", "refusals.md")
 
 
 class Meaning(NamedTuple):
-    """The row about a fault in the manual."""
+    """The description of a fault in the manual's table."""
 
     name: str
     meaning: str
@@ -187,7 +189,8 @@ class Meaning(NamedTuple):
 
 
 def read_meanings() -> dict[int, Meaning]:
-    """Return the manual's rows by fault number; no rows if the manual is not installed."""
+    """Return the descriptions of faults in the manual by fault number. Return an empty dictionary
+    if the manual is not installed."""
     by_number: dict[int, Meaning] = {}
     if not os.path.isfile(REFUSALS_PATH):
         return by_number
@@ -200,7 +203,7 @@ def read_meanings() -> dict[int, Meaning]:
 
 
 def read_named_meanings() -> dict[str, Meaning]:
-    """Return the manual's rows about faults without a number, by fault name."""
+    """Return the descriptions of faults without a number in the manual, by fault name."""
     by_name: dict[str, Meaning] = {}
     if not os.path.isfile(REFUSALS_PATH):
         return by_name
@@ -219,13 +222,14 @@ def remove_markup(text: str) -> str:
 
 
 def make_cell_markup(text: str) -> Markup:
-    """Return a cell of the manual as HTML: backquoted text as code, links as their text."""
+    """Return a cell of the manual as HTML. Backquoted text becomes code, and links become plain
+    text."""
     parts = re.sub(r"\[([^]]*)\]\([^)]*\)", r"\1", text).split("`")
     return join_markup(markup("<code>{}</code>", part) if at % 2 else part
                        for at, part in enumerate(parts))
 
 
 def make_number_link(line: str) -> Markup:
-    """Return a line `refused NUMBER Name PLACE` as HTML, with a link on number and name."""
+    """Return a line `refused NUMBER Name PLACE` as HTML, in which number and name are a link."""
     _, number, name, *place = line.split(" ")
     return join_markup([markup('<a href="#n{}">{} {}</a>', number, number, name), *place], " ")

@@ -25,8 +25,8 @@ LAST_CONTINUED = 0xEF  # the highest EBN of a block that is not the last of its 
 
 
 class StoredSubtitle(NamedTuple):
-    """A subtitle as stored in a file. `begin` and `end` are the four bytes of TCI and TCO; `text`
-    is joined from all of its blocks."""
+    """A subtitle as stored in a file. `begin` and `end` are the four bytes of TCI and TCO. `text`
+    is joined from all blocks of the subtitle."""
 
     number: int
     begin: bytes
@@ -69,7 +69,7 @@ def read_stored_subtitles(data: bytes) -> Iterator[StoredSubtitle]:
 
 
 def subtitle_times(subtitle: StoredSubtitle) -> tuple[int | None, int | None]:
-    """Return the frames of a subtitle's TCI and TCO; `None` if a time is invalid."""
+    """Return the frames of a subtitle's TCI and TCO. An invalid time is `None`."""
     return frame_of_code(subtitle.begin), frame_of_code(subtitle.end)
 
 
@@ -79,8 +79,8 @@ def read_stl(path: str) -> bytes:
 
 
 def read_until_damage(name: str, data: bytes) -> Iterator[StoredSubtitle]:
-    """Yield the subtitles before the first damaged block, and report the damage. Raise `Stop` if no
-    subtitle comes before it."""
+    """Yield the subtitles before the first damaged block, and report the damage. Raise `Stop` if
+    there is no such subtitle."""
     is_empty = True
     try:
         for stored in read_stored_subtitles(data):
@@ -129,8 +129,8 @@ NO_TEXT = "-"
 
 @dataclass(frozen=True)
 class Subtitle:
-    """A subtitle as read by the program: position from 1, SN, frames of TCI and TCO, VP, JC, text.
-    """
+    """A subtitle as read by the program: position counted from 1, SN, frames of TCI and TCO, VP,
+    JC, text."""
 
     index: int
     number: int
@@ -142,12 +142,12 @@ class Subtitle:
 
     @property
     def name(self) -> str:
-        """The name of the subtitle in messages."""
+        """Return the name of the subtitle in messages."""
         return subtitle_name(self.index, self.number)
 
 
 def subtitle_name(position: int, number: int) -> str:
-    """Return the name of a subtitle: its position from 1, and its SN if that differs."""
+    """Return the name of a subtitle: its position, counted from 1, and its SN if that differs."""
     return f"subtitle {position}" if number == position else f"subtitle {position} (SN {number})"
 
 
@@ -185,14 +185,15 @@ def parse_subtitle(index: int, line: str) -> Subtitle:
 
 
 class SubtitleList:
-    """Subtitles sorted by time. Places in the list count from 0."""
+    """Subtitles sorted by time. A place is an index in this list."""
 
     def __init__(self, subtitles: Iterable[Subtitle]) -> None:
         self.subtitles = list(subtitles)
         self.begins = [subtitle.begin for subtitle in self.subtitles]
 
     def find_place(self, frame: int) -> int:
-        """Return the place of the last subtitle that begins at or before a frame, or -1."""
+        """Return the index of the last subtitle that begins at or before a frame, or -1 if there is
+        none."""
         return bisect.bisect_right(self.begins, frame) - 1
 
     def count_begun(self, frame: int) -> tuple[int, bool]:
@@ -202,21 +203,24 @@ class SubtitleList:
         return place + 1, place >= 0 and frame < self.subtitles[place].end
 
     def subtitle(self, frame: int) -> Subtitle | None:
-        """Return the subtitle that is expected at a frame; `None` if there is none."""
+        """Return the subtitle that is expected at a frame, or `None` if there is none."""
         count, is_due = self.count_begun(frame)
         return self.subtitles[count - 1] if is_due else None
 
     def before(self, place: int) -> int:
-        """Return the TCO of the subtitle before a place; 0 for the first place."""
+        """Return the TCO of the subtitle before the one at index `place`. Return 0 for the first
+        subtitle."""
         return self.subtitles[place - 1].end if place > 0 else 0
 
     def after(self, place: int) -> int:
-        """Return the TCI of the subtitle after a place; the end of the day for the last place."""
+        """Return the TCI of the subtitle after the one at index `place`. Return the end of the day
+        for the last subtitle."""
         is_last = place + 1 == len(self.subtitles)
         return FRAMES_OF_A_DAY if is_last else self.begins[place + 1]
 
     def find_nearest(self, places: Sequence[int], frame: int) -> int:
-        """Return the place among `places` whose subtitle begins nearest to a frame."""
+        """Return the index, out of those in `places`, of the subtitle that begins nearest to a
+        frame."""
         at = count_until(places, lambda place: self.begins[place] >= frame)
         return min(places[max(at - 1, 0):at + 1], key=lambda one: abs(self.begins[one] - frame))
 
@@ -228,13 +232,11 @@ class SubtitleList:
         return frames
 
 
-# Subtitles of a file by block and by frame.
-
-COMMENT = 1  # value of the comment flag (CF) in a comment
+COMMENT = 1  # comment flag (CF) of a TTI block that is a comment
 
 
 class NamedSubtitle(NamedTuple):
-    """A subtitle's position from 1, SN, and TCI and TCO as text."""
+    """A subtitle's position in the file, counted from 1, its SN, and its TCI and TCO as text."""
 
     position: int
     number: int
@@ -243,15 +245,15 @@ class NamedSubtitle(NamedTuple):
 
 
 class SubtitleFile:
-    """A subtitle file, which may be faulty. Subtitles outside `between` are skipped like comments;
-    subtitles at the positions `left_out` are not expected."""
+    """A subtitle file, which may be faulty. Subtitles outside `between` are skipped like comments.
+    The subtitles at the positions `left_out` are not expected."""
 
     def __init__(self, path: str, between: Between = ALL_DAY,
                  left_out: Collection[int] = ()) -> None:
         self.between = between
         self.data = read_stl(path)
-        self.first_blocks = array.array("I", [0])  # by block: the first block of its subtitle
-        self.start_blocks = array.array("I")  # by subtitle: its first block
+        self.first_blocks = array.array("I", [0])  # first block of each block's subtitle
+        self.start_blocks = array.array("I")  # first block of each subtitle
         self.begins, self.blocks = array.array("I"), array.array("I")
         first, is_open = 0, False
         for block in range(1, (len(self.data) - GSI) // TTI + 1):
@@ -274,7 +276,8 @@ class SubtitleFile:
         return self.data[at:at + TTI]
 
     def find_by_block(self, block: int) -> NamedSubtitle | None:
-        """Return the subtitle of a block; `None` for the GSI block and an incomplete block."""
+        """Return the subtitle of a block. Return `None` for the GSI block and for an incomplete
+        block."""
         if not 0 < block < len(self.first_blocks):
             return None
         tti = self.block(self.first_blocks[block])
@@ -292,14 +295,15 @@ class SubtitleFile:
         return len(self.first_blocks) - 1
 
     def count_ended(self) -> tuple[int, int]:
-        """Count the subtitles that have a last block: without comments, and with comments."""
+        """Return the number of subtitles with a last block, first without comments, then with
+        comments."""
         own = sum(1 for _ in self.list_last_blocks())
         lasts = sum(self.block(number)[3] == LAST_BLOCK for number in
                     range(1, len(self.first_blocks)))
         return own, lasts
 
     def find_previous_first(self, block: int) -> int | None:
-        """Return the first block of the previous subtitle; `None` for the first subtitle."""
+        """Return the first block of the previous subtitle, or `None` for the first subtitle."""
         at = bisect.bisect_left(self.blocks, self.first_blocks[block])
         return self.blocks[at - 1] if at else None
 
@@ -311,7 +315,8 @@ class SubtitleFile:
             yield subtitle
 
     def find_by_frame(self, frame: int) -> NamedSubtitle | None:
-        """Return the subtitle that is expected at a frame, if the subtitles are in order."""
+        """Return the subtitle that is expected at a frame, or `None`. The subtitles must be in
+        order."""
         at = bisect.bisect_right(self.begins, frame) - 1
         if at < 0:
             return None
@@ -333,8 +338,8 @@ class SubtitleFile:
                 yield number
 
     def describe_byte(self, block: int, at: int) -> tuple[str | None, str | None]:
-        """Return the byte at an offset of a text in hexadecimal, and its character; `None` for a
-        control code. `block` is the last block of the text."""
+        """Return the byte at an offset of a text in hexadecimal, and its character. The character
+        of a control code is `None`. `block` is the last block of the text."""
         text = self.text(block) if 0 < block < len(self.first_blocks) else b""
         if at >= len(text):
             return None, None

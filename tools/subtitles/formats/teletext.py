@@ -9,13 +9,15 @@ from typing import Iterator, NamedTuple
 # Bytes of Teletext packets (EN 300 706).
 
 CODE_WORDS = bytes.fromhex("1502495E6473382FD0C78C9BA1B6FDEA")  # Hamming 8/4 codes of 0 to F
-# The number that each byte encodes (Hamming 8/4); `None` if more than one bit is wrong.
+# The four-bit value that each byte encodes (Hamming 8/4). It is `None` if more than one bit is
+# wrong.
 NUMBER: list[int | None] = [None] * 256
 for number, word in enumerate(CODE_WORDS):
     for wrong in (0, 1, 2, 4, 8, 16, 32, 64, 128):
         NUMBER[word ^ wrong] = number
 
-# For each control bit C4 to C14: the index of its number in a page header, and its bit there.
+# For each control bit C4 to C14: the index of the four-bit value in a page header that contains it,
+# and the bit in this value.
 CONTROL_BITS = {4: (3, 8), 5: (5, 4), 6: (5, 8), **{7 + bit: (6, 1 << bit) for bit in range(4)},
                 **{11 + bit: (7, 1 << bit) for bit in range(4)}}
 ERASE, NEWSFLASH, SUBTITLE, SUPPRESS, INHIBIT = 4, 5, 6, 7, 10
@@ -29,7 +31,8 @@ def is_odd(byte: int) -> bool:
 
 
 def has_bit(header: bytes, bit: int) -> bool:
-    """Return whether control bit C4 to C14 is set in the eight numbers of a page header."""
+    """Return whether a control bit, from C4 to C14, is set in a page header. `header` has its eight
+    four-bit values."""
     place, value = CONTROL_BITS[bit]
     return header[place] & value != 0
 
@@ -41,7 +44,7 @@ def page_name(magazine: int, page: int) -> str:
 
 # Characters of a subtitle file's text (EBU Tech 3264, code table 00, which is ISO 6937).
 
-# Combining marks of Unicode for the accents C1 to CF; a space if the code is not used.
+# Combining marks of Unicode for the accents C1 to CF. A code that is not used has a space.
 ACCENTS = dict(zip(range(0xC1, 0xD0),
                    "\u0300\u0301\u0302\u0303\u0304\u0306\u0307\u0308 "
                    "\u030a\u0327 \u030b\u0328\u030c"))
@@ -75,10 +78,10 @@ def decode_text(text: bytes) -> str:
     return decoded
 
 
-# National options (EN 300 706, Latin national option sub-sets of the default region).
+# National options (EN 300 706, Latin national option sub-sets of the default region)
 #
-# A new option is a row here and a word in `tools/completion.bash`. The tools use this table to
-# search a recording, to draw a page and to give advice. The verdict depends only on the program.
+# To add an option, add a row here and a word in `tools/completion.bash`. The tools use this table
+# to search a recording, to draw a page and to give advice. The verdict depends only on the program.
 
 NATIONAL_CODES = bytes.fromhex("23 24 40 5B 5C 5D 5E 5F 60 7B 7C 7D 7E")
 
@@ -131,30 +134,31 @@ OPTION_WORDS = tuple(one.word for one in OPTIONS)
 BY_WORD = {one.word: one for one in OPTIONS}
 BY_BITS = {one.bits: one for one in OPTIONS}
 RESERVED = 7  # value of C12 to C14 that no option of the default region uses
-# Languages in a PMT for which receivers use another region.
+# Languages in a PMT whose characters are not in the default region.
 OTHER_REGIONS = ("ara bul ell est gre heb hrv lit pol ron rum rus scc scr slv srp ukr").split()
 UNKNOWN_CHARACTER = "\u25a1"  # shown for a character of an unknown option
 ACCENT_BYTES = {byte for byte, mark in ACCENTS.items() if mark != " "}  # diacritical marks
 
 def option_for_language(language: bytes) -> NationalOption:
-    """Return the option for the language of a GSI block (LC); English by default."""
+    """Return the national option for the language of a GSI block (LC). The default is English."""
     word = language.decode("ascii", "replace").upper()
     return next((option for option in OPTIONS if word in option.languages.split()), ENGLISH)
 
 
 def option_for_track(language: str) -> NationalOption | None:
-    """Return the option for the language of a PMT; `None` if there is none."""
+    """Return the national option for the language of a PMT, or `None` if no option has this
+    language."""
     return next((option for option in OPTIONS if language.lower() in option.tracks.split()), None)
 
 
 def reverse_option_bits(option: NationalOption) -> int:
-    """Return 4 C12 + 2 C13 + C14 of an option, the order of packets X/28 and M/29."""
+    """Return the bits of an option in the order of packets X/28 and M/29: 4 C12 + 2 C13 + C14."""
     return sum((option.bits >> at & 1) << 2 - at for at in range(3))
 
 
 @functools.lru_cache(maxsize=None)
 def option_cells(option: NationalOption) -> dict[bytes, int]:
-    """Return the codes of the option's own 13 characters, by their bytes in a text."""
+    """Return the codes of the 13 characters that depend on the option, by their bytes in a text."""
     return {bytes.fromhex(one): place
             for place, words in zip(NATIONAL_CODES, option.cells.split())
             for one in words.split(",") if one != "-"}
@@ -171,18 +175,18 @@ def split_cells(text: bytes, option: NationalOption) -> Iterator[tuple[int, int,
 
 
 def encode_line(text: bytes, option: NationalOption) -> list[int | None]:
-    """Return the code of each character in a line; `None` for a character without a code."""
+    """Return the code of each character in a line, or `None` for a character without a code."""
     return [cell for _, _, cell in split_cells(text, option)]
 
 
 def has_characters(text: bytes, option: NationalOption) -> bool:
-    """Return whether an option has all characters of a text, ignoring control codes."""
+    """Return whether a national option has all characters of a text. Ignore control codes."""
     shown = bytes(byte for byte in text if byte not in range(0x80, 0x90))
     return None not in encode_line(shown, option)
 
 
 def character_bytes(text: bytes, at: int) -> bytes:
-    """Return the byte at an offset; for an accent, also the letter after it."""
+    """Return the byte at an offset. If it is an accent, add the letter after it."""
     is_pair = text[at] in ACCENT_BYTES and text[at + 1:at + 2].isalpha()
     return text[at:at + 1 + is_pair]
 
@@ -195,21 +199,20 @@ def find_options(letter: bytes) -> list[NationalOption]:
 
 
 def decode_character(letter: bytes) -> str | None:
-    """Decode a byte or a pair of bytes in code table 00; return `None` if it is no character."""
+    """Decode a byte or a pair of bytes in code table 00. Return `None` if it is not a character."""
     if len(letter) == 1 and letter[0] in ACCENT_BYTES:
         return None
     character = decode_text(letter)
     return None if NO_LETTER in character or len(character) != 1 else character
 
 
-# Characters of codes 20 to 7F in each national option (EN 300 706, Latin G0).
-BLOCK = "\u25a0"  # character of code 7F
+BLOCK = "\u25a0"  # the character displayed for code 7F
 
 
 @functools.lru_cache(maxsize=None)
 def character_table(option: int) -> list[str]:
-    """Return the character of each code 00 to 7F; a space for a spacing attribute. `option` is C12
-    + 2 C13 + 4 C14 of a page header."""
+    """Return the character of each code 00 to 7F (EN 300 706, Latin G0). A spacing attribute is a
+    space. `option` is C12 + 2 C13 + 4 C14 of a page header."""
     table = [" "] * 32 + [chr(code) for code in range(32, 127)] + [BLOCK]
     national = BY_BITS.get(option)
     for code, letter in zip(NATIONAL_CODES, national.characters if national else UNKNOWN_CHARACTER *

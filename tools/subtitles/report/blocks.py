@@ -18,7 +18,8 @@ FIELDS = {11: ("DFC", slice(3, 11)), 12: ("DFC", slice(3, 11)), 13: ("DSC", slic
 
 
 def mark_field(file: SubtitleFile, fault: FaultLine) -> Markup:
-    """Return the field with a fault, its bytes marked; empty if the fault has no field."""
+    """Return the field that has a fault, with its bytes marked. If the fault has no field, return
+    empty markup."""
     if fault.number not in FIELDS or fault.block is None:
         return markup("")
     name, place = FIELDS[fault.number]
@@ -41,7 +42,7 @@ def mark_times(subtitle: NamedSubtitle, faults: Sequence[FaultLine]) -> tuple[Va
 
 
 def make_fault_lines(file: SubtitleFile, faults: Sequence[FaultLine]) -> Markup:
-    """Return the lines that `check` prints about faults, each with its field."""
+    """Return the lines that `check` prints about faults, each followed by the faulty field."""
     return join_markup((make_number_link(fault.line) + mark_field(file, fault) for fault in faults),
                        BREAK)
 

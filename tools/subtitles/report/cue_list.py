@@ -46,7 +46,7 @@ class CueRow(NamedTuple):
     row_class: str
     kinds: Sequence[str]
     cells: Sequence[Value]
-    is_repeated: bool = False  # the previous row has the same fault; not printed
+    is_repeated: bool = False  # the previous row has the same fault; print only the previous row
 
 
 class CueList:
@@ -69,8 +69,6 @@ class CueList:
     @functools.cached_property
     def file(self) -> SubtitleFile:
         return SubtitleFile(self.part.names.program_stl, self.part.request.between)
-
-    # Rows of the cue list
 
     def make_judged_rows(self) -> Iterator[CueRow]:
         """Yield the rows of the judged subtitles."""
@@ -135,7 +133,7 @@ class CueList:
 
     def make_file_row(self, subtitle: NamedSubtitle, times: tuple[Value, Value], text: Value,
                  verdict: Value, row_class: str, kinds: Sequence[str]) -> CueRow:
-        """Return the row of a subtitle that is only checked in the subtitle file."""
+        """Return the row of a subtitle for which only the subtitle file is checked."""
         begin = frame_of(subtitle.begin)
         return CueRow(subtitle.position, row_class, kinds, [
             make_number_cell(subtitle.position, subtitle.number),
@@ -144,8 +142,6 @@ class CueList:
     def format_offset(self, frame: int) -> str:
         """Return the time of a frame from the beginning of the recording."""
         return format_recording_offset(self.part, self.start, frame)
-
-    # Kinds of fault
 
     def fault_name(self, number: int) -> str:
         """Return the name of a fault number."""
@@ -187,7 +183,7 @@ class CueList:
             counted(len(self.causes.by_index), "subtitle"), join_markup(rows))
 
     def make_histogram(self) -> Markup:
-        """Return a histogram of the delays; empty if no cue is late or early."""
+        """Return a histogram of the delays, or empty markup if no cue is late or early."""
         in_delays = collections.Counter(cue.delay_in for cue in self.cues
                                         if cue.delay_in is not None)
         out_delays = collections.Counter(cue.delay_out for cue in self.cues
@@ -210,8 +206,6 @@ class CueList:
             '<table class="spread"><caption>Frames late (negative: early)</caption><thead><tr><th '
             'scope="col">Frames</th><th scope="col">In-cues</th><th scope="col">Out-cues</th>'
             '<td></td></tr></thead><tbody>{}</tbody></table>', join_markup(rows))
-
-    # The complete list
 
     def make_list(self) -> Markup:
         """Return the HTML section with the cue list."""
@@ -272,12 +266,12 @@ class CueList:
 
 
 def make_number_cell(position: int, number: int) -> Value:
-    """Return the position of a subtitle in the file, and its SN if that is a different number."""
+    """Return the position of a subtitle in the file, followed by its SN if that differs."""
     return position if position == number else markup("{} <small>SN {}</small>", position, number)
 
 
 def format_signed(frames: int | None) -> str:
-    """Format a number of frames with its sign; return an empty text for `None`."""
+    """Format a number of frames with its sign. Return an empty string for `None`."""
     return "" if frames is None else f"{frames:+}" if frames else "0"
 
 
@@ -293,13 +287,13 @@ def cause_key(cause: Cause) -> str:
 
 
 def cause_class(name: str) -> str:
-    """Return the CSS class of rows that have a cause."""
+    """Return the CSS class of the rows with the cause `name`."""
     return f"c{CAUSE_NAMES.index(name)}"
 
 
 def mark_difference(expected: str, decoded: str) -> tuple[Markup, Markup]:
-    """Mark the characters that differ between two texts. If the texts differ in length, mark all
-    characters between their common beginning and end."""
+    """Mark the characters that differ between two texts. If the texts differ in length, mark
+    everything between their common prefix and their common suffix."""
     length = min(len(expected), len(decoded))
     if len(expected) == len(decoded):
         places = [at for at in range(length) if expected[at] != decoded[at]]
@@ -319,7 +313,7 @@ def mark_characters(text: str, places: Collection[int]) -> Markup:
                        for is_marked, piece in pieces)
 
 
-# Places of faults
+# Maximum number of places listed for each fault number
 MAX_PLACES = 20
 
 

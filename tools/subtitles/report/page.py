@@ -66,7 +66,7 @@ def make_verdict_box(verdict: Verdict) -> Markup:
     kind, drawn = draw_verdict(verdict.word)
     not_judged = verdict.word == NOT_JUDGED
     line = NOT_JUDGED if not_judged else verdict.worst_line or ""
-    # The sentence of a relative verdict already says that no clock was given.
+    # The sentence of a relative verdict already reports that no clock was given.
     parts = [describe_clock(verdict)] if verdict.word not in (NOT_JUDGED, RELATIVE) else []
     parts += [make_folded_list(LOST_TITLE, [gap.format_line() for gap in verdict.gaps
                                             if gap.is_judged]),
@@ -112,7 +112,8 @@ def describe_given_clock(clock: Clock) -> str:
 
 
 def make_folded_list(what: str, lines: Sequence[str]) -> Markup:
-    """Return a titled list of places, folded if it is long; empty if there are no places."""
+    """Return a titled list of places, folded if it is long. If there are no places, return empty
+    markup."""
     if not lines:
         return NO_MARKUP
     listed = markup("<ul>{}</ul>", join_markup(markup("<li>{}</li>", one)
@@ -134,15 +135,12 @@ def make_advice(verdict: Verdict) -> Markup:
 
 
 def find_advice(part: Part, fault: FaultLine) -> tuple[Markup, Markup] | None:
-    """Return the manual's meaning and remedy for a fault; `None` if the manual has none."""
+    """Return the manual's meaning and remedy for a fault, or `None` if the manual has none."""
     meaning = read_meanings().get(fault.number)
     if meaning is None:
         return None
     remedy = advise_on_midnight(fault, part.open_subtitle_file()) or meaning.remedy
     return make_cell_markup(meaning.meaning), make_cell_markup(remedy)
-
-
-# Sections about one part of the recording
 
 
 class PartView:
@@ -172,7 +170,7 @@ class PartView:
             yield self.make_fault_table()
 
     def draw_timeline(self) -> Markup:
-        """Return the timeline."""
+        """Draw the timeline of the part, with the frames that were lost or skipped."""
         lost_spans = [span
                 for span in find_lost_spans([gap.place for gap in self.gaps], self.part.origin or 0,
                                                  self.part.request.within)
@@ -242,7 +240,8 @@ class PartView:
 
 
 def format_fault_place(part: Part, fault: FaultLine) -> Value:
-    """Return the place of a fault; in the GSI block, the lines of `check` with the field marked."""
+    """Return the place of a fault. For the GSI block, return the lines of `check` with the faulty
+    field marked."""
     if fault.block == 0:
         return make_fault_lines(part.open_subtitle_file(), [fault])
     return fault.time or " ".join(fault.line.split(" ")[3:]) or fault.name
@@ -303,7 +302,8 @@ def list_unchecked(verdict: Verdict) -> Iterator[str]:
 
 
 def list_waived(verdict: Verdict) -> Iterator[str]:
-    """Yield the waived faults: the severity file makes them warnings."""
+    """Yield descriptions of the waived faults, which are only warnings according to the severity
+    file."""
     counts = {number: part.check_output.first_faults[number].name for part in verdict.parts
               for number in part.check_output.counts_by_number}
     for number, name in sorted(counts.items()):

@@ -46,7 +46,7 @@ class CellStyle(NamedTuple):
     double: bool
 
 
-# Keys by which neighbouring cells are drawn together.
+# Key functions to group neighbouring cells that are drawn together
 get_characters: Callable[[CellStyle], str] = operator.attrgetter("characters")
 get_look: Callable[[CellStyle], Look] = operator.attrgetter("ink", "flash", "boxed", "double")
 get_ground: Callable[[CellStyle], Ground] = operator.attrgetter("paper", "boxed")
@@ -73,7 +73,7 @@ def style_row(row: bytes, number: int, option: int, is_boxed_page: bool) -> list
     last = SPACE
     for part in PARTS.findall(row):
         code = part[0] & 0x7F
-        # These attributes act on their own cell. A box begins and ends between two equal codes.
+        # These act on their own cell. The second of two equal codes begins or ends a box.
         if code >= SPACE:
             pass
         elif code == 0x09:
@@ -89,7 +89,7 @@ def style_row(row: bytes, number: int, option: int, is_boxed_page: bool) -> list
         text = decode_cells(part, option, mosaic)
         spans.append(CellStyle(text, ink, paper, flash, boxed, double))
         last = code
-        # These attributes act on the next cell.
+        # These act on the next cell.
         if code >= SPACE:
             pass
         elif code < 8 or 0x10 <= code < 0x18:
@@ -128,7 +128,7 @@ def draw_text(look: Look, column: int, text: str) -> Markup:
 
 @functools.lru_cache(maxsize=4096)
 def draw_row(row: bytes, number: int, option: int, is_boxed_page: bool) -> tuple[Markup, bool]:
-    """Draw a row as SVG. Return also whether double height hides the next row."""
+    """Draw a row as SVG. Also return whether double height hides the next row."""
     spans = style_row(row, number, option, is_boxed_page)
     is_tall = any(one.double for one in spans)
     height = HEIGHT * (2 if is_tall else 1)
@@ -148,7 +148,7 @@ def draw_row(row: bytes, number: int, option: int, is_boxed_page: bool) -> tuple
 
 
 def draw_frames(different: Iterable[Place], tall: set[int]) -> Markup:
-    """Draw frames around differing cells; neighbouring cells have a common frame."""
+    """Draw outlines around differing cells. Neighbouring cells share an outline."""
     boxes: dict[tuple[int, int, int], int] = {}
     for row, group in itertools.groupby(sorted(different), lambda cell: cell[0]):
         columns = [column for _, column in group]
@@ -162,7 +162,7 @@ def draw_frames(different: Iterable[Place], tall: set[int]) -> Markup:
 
 
 def draw_frame(column: int, width: int, first: int, end: int) -> Markup:
-    """Draw a frame around cells from row `first` to the row before `end`."""
+    """Draw an outline around cells from row `first` to the row before `end`."""
     place = markup('x="{}" y="{}" width="{}" height="{}"', column * WIDTH, (first - 1) * HEIGHT,
                    width * WIDTH, (end - first) * HEIGHT)
     return markup('<rect class="d1" {}/><rect class="d2" {}/>', place, place)
@@ -174,7 +174,7 @@ def is_boxed(header: bytes) -> bool:
 
 
 def find_used_rows(pages: Iterable[Rows]) -> RowRange:
-    """Return the first and last row to draw: the used rows, and one more row above and below."""
+    """Return the first and the last row to draw. They lie one row above and below the used rows."""
     used = [number for rows in pages for number, one in enumerate(rows, 1) if one != BLANK_ROW]
     if not used:
         return LOW_ROWS
@@ -191,7 +191,7 @@ def begin_picture(kind: str, shown_rows: RowRange) -> Markup:
 
 def draw_picture(rows: Rows, header: bytes, shown_rows: RowRange,
                  different: Iterable[Place] = ()) -> Markup:
-    """Draw rows of a page as SVG, with frames around differing cells."""
+    """Draw rows of a page as SVG, with outlines around differing cells."""
     parts = [begin_picture("page", shown_rows)]
     tall: set[int] = set()
     option, has_boxes = national_option(header), is_boxed(header)
@@ -206,7 +206,7 @@ def draw_picture(rows: Rows, header: bytes, shown_rows: RowRange,
 
 
 def draw_empty_picture(words: str, shown_rows: RowRange) -> Markup:
-    """Draw a picture with a reason instead of a page."""
+    """Draw a picture with the reason why there is no page."""
     middle = (shown_rows[0] + shown_rows[1] - 1) * HEIGHT // 2 + 7
     return markup('{}<text class="w" x="240" y="{}">{}</text></svg>',
                   begin_picture("page none", shown_rows), middle, words)
@@ -220,8 +220,6 @@ def find_differences(expected: Rows, decoded: Rows) -> list[Place]:
             for number, (one, other) in enumerate(zip(expected, decoded), 1) if one != other
             for column in range(40) if (one[column] ^ other[column]) & 0x7F]
 
-
-# Pairs of pictures: the expected page and the decoded page
 
 NO_TEXT = "no text"
 

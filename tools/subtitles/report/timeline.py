@@ -1,4 +1,4 @@
-"""Draw the timeline of a part, with lanes for expected pages, decoded pages and each kind of
+"""Draw the timeline of a part. It has lanes for expected pages, decoded pages and each kind of
 fault."""
 from __future__ import annotations
 
@@ -10,13 +10,14 @@ from ..judging.cues import Cue, find_text_spans
 from ..stream.receiver import Timeline
 from .cue_list import CueList, cause_key
 
-WIDTH = 1000  # width of a lane in units, drawn as wide as the page
+WIDTH = 1000  # width of a lane in units, which are scaled to the width of the page
 MIN_MARK_WIDTH = 2  # minimum width of a mark in units
 MINUTE = 60 * FRAMES_A_SECOND
 STEPS = [seconds * FRAMES_A_SECOND for seconds in (1, 2, 5, 10, 30)] + [
     minutes * MINUTE for minutes in (1, 2, 5, 10, 30, 60, 120, 240)]
-MAX_TIMES = 10  # maximum number of times below the lanes
-EDGE = 8  # percent of the width; a time nearer to an end of the lanes is aligned with that end
+MAX_TIMES = 10  # maximum number of time labels below the lanes
+# A label within this percentage of the width of an end is aligned with that end.
+EDGE = 8
 
 
 class Lanes:
@@ -99,7 +100,8 @@ class Lanes:
 
 
 def find_cue_span(cue: Cue) -> tuple[int, int]:
-    """Return the earlier of a cue's expected and actual begin, and the later of its ends."""
+    """Return the earlier one of the expected and the actual in-cue, and the later one of the
+    expected and the actual out-cue."""
     one = cue.subtitle
     return (min(one.begin, one.begin if cue.begin is None else cue.begin),
             max(one.end, one.end if cue.end is None else cue.end))

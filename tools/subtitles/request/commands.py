@@ -1,4 +1,4 @@
-"""Commands to suggest to the operator, names of result files, and printing."""
+"""Make commands to suggest to the operator, name result files, and print messages."""
 from __future__ import annotations
 
 import collections
@@ -19,7 +19,7 @@ from .request import OPTIONS, Profile, Request, Selection, list_arguments
 
 
 class CommandPaths:
-    """Paths by which an operator can run the tools and the program.
+    """The paths with which an operator can run the tools and the program.
 
     `program_name` is the path of the running tool.
     """
@@ -37,7 +37,8 @@ class CommandPaths:
         path = os.path.abspath(program or os.path.join(TOP, "subttx"))
         if os.path.isdir(path) or not os.access(path, os.X_OK):
             raise Stop(f"{self.program_command} is not an executable program")
-        self.program_path = resolve_script(path)  # the script would search for it in each run
+        # Run the program itself, since the script ./subttx would search for it each time.
+        self.program_path = resolve_script(path)
 
     def default_program(self) -> str:
         """Return the path of the program next to the tools."""
@@ -63,7 +64,7 @@ def shell_line(*words: str) -> str:
 # subtitle file ends in something like a part number or line number, this suffix is escaped.
 #
 #     film.json       the pair of film.stl         film~2.json     the second film.stl of a list
-#     film.1.html     the first part of film.stl   line 7.json     line 7, if it is no pair
+#     film.1.html     the first part of film.stl   line 7.json     line 7, which has no valid pair
 #     film%2E1.json   the pair of film.1.stl       %69ndex.json    the pair of index.stl
 
 PART_ENDINGS = ("cut.pes", "txt", "html")
@@ -72,8 +73,8 @@ PAIR_ENDINGS = (*PART_ENDINGS, KEPT_PES, KEPT_TS, "json")
 LOCK = "lock"  # suffix of the lock file of a pair that is being judged
 INDEX = "index"  # name of the page with all pairs of a folder
 ESCAPE = "%"
-# Escape in names: a leading dot, control characters, and suffixes that would be those of a second
-# pair, a part or a line.
+# What to escape in names: a leading dot, control characters, and suffixes that look like the number
+# of a second pair, of a part or of a line.
 ESCAPED = re.compile(rf"^\.|{ESCAPE}|{HIDDEN.pattern}|[.~](?=[0-9]+$)|(?<=^line) (?=[0-9]+$)"
                      r"|^i(?=ndex$)")
 MAX_NAME_BYTES, KEPT_NAME_BYTES = 180, 120  # a longer name is cut, and a digest is appended
@@ -107,11 +108,11 @@ class ListNames:
         return self.add_number(pair_name(stl))
 
     def name_line(self, number: int) -> str:
-        """Return a name for a line that is not a pair."""
+        """Return a unique name for a line that has no valid pair."""
         return self.add_number(f"line {number}")
 
     def add_number(self, name: str) -> str:
-        """Return a name, with a number appended if the name was used before."""
+        """Return the name, with a number appended if the name was used before."""
         self.counts[name] += 1
         return name if self.counts[name] == 1 else f"{name}~{self.counts[name]}"
 
@@ -154,25 +155,26 @@ def list_pair_files(folder: str, name: str, parts: PartFiles | None = None) -> l
 
 
 def lock_path(folder: str, name: str) -> str:
-    """Return the path of a pair's lock file; for an empty name, that of the folder's lock file."""
+    """Return the path of a pair's lock file. If the name is empty, return the path of the folder's
+    lock file."""
     return os.path.join(folder, f".{name}.{LOCK}" if name else f".{LOCK}")
 
 
 def index_path(folder: str) -> str:
-    """Return the path of the page with all pairs of a folder."""
+    """Return the path of a folder's page with all pairs."""
     return os.path.join(folder, f"{INDEX}.html")
 
 
 class OutputNames:
-    """The paths of a pair's or part's result files. `folder` is temporary, `out` the output folder
-    as typed. Complete files are put into `staging_folder` if the caller moves them to `out`
-    later."""
+    """The paths of the result files of a pair or part. `folder` is the temporary folder, and `out`
+    is the output folder as typed. Complete files are written to `staging_folder` if the caller
+    moves them to `out` later."""
 
     def __init__(self, name: str, folder: str, out: str | None,
                  staging_folder: str | None = None) -> None:
         self.name, self.folder, self.out = name, folder, out
         self.staging_folder = staging_folder or out
-        self.program_stl = ""  # path of the subtitle file in UTF-8
+        self.program_stl = ""  # path for the program, which accepts only UTF-8
         self.recording_path = self.temporary_path("recording")  # path of a copy of standard input
         self.list_path = self.temporary_path("txt")
         self.report_path = self.final_path("html")
@@ -183,15 +185,15 @@ class OutputNames:
         return os.path.join(self.out or "", f"{self.name}.{ending}")
 
     def final_path(self, ending: str) -> str:
-        """Return the path of a complete file."""
+        """Return the path at which the result file with this ending is stored."""
         return os.path.join(self.staging_folder or "", f"{self.name}.{ending}")
 
     def temporary_path(self, ending: str) -> str:
-        """Return the path of a file in the temporary folder."""
+        """Return the path in the temporary folder for a file with this ending."""
         return os.path.join(self.folder, f"{self.name}.{ending}")
 
     def name_part(self, number: int) -> OutputNames:
-        """Return the result file paths of a part."""
+        """Return the paths of the result files of a part."""
         part = OutputNames(part_name(self.name, number), self.folder, self.out, self.staging_folder)
         part.program_stl = self.program_stl
         return part
@@ -201,8 +203,8 @@ class OutputNames:
         self.program_stl = self.make_utf_8_path(stl, "given.stl")
 
     def make_utf_8_path(self, name: str, ending: str) -> str:
-        """Return a path in UTF-8, through a symbolic link if needed, since the program accepts only
-        UTF-8."""
+        """Return a path in UTF-8, since the program accepts no other. If needed, create a symbolic
+        link."""
         if is_utf_8(name):
             return name
         path = self.temporary_path(ending)
@@ -212,8 +214,8 @@ class OutputNames:
 
 
 def make_qc_command(request: Request, command_paths: CommandPaths, *more: str) -> str:
-    """Return the command line that repeats a request with additional arguments. These replace the
-    same options in the request."""
+    """Return the command line that repeats a request with additional arguments. An additional
+    option replaces the same option of the request."""
     arguments = [command_paths.tool_command("qc"), request.stl,
                  *([request.recording] if request.recording else [])]
     options = list_arguments(request)
@@ -231,9 +233,7 @@ def profile_line(profile: Profile) -> str:
     return f"profile {profile.name}: {shell_line(*arguments) or 'no options'}"
 
 
-# The progress line on a terminal
-
-UPDATE_SECONDS = 0.2  # seconds between updates
+UPDATE_SECONDS = 0.2  # minimum number of seconds between updates of the progress line
 CLEAR_LINE = "\r\x1b[K"
 
 
@@ -296,7 +296,7 @@ class Printer:
         self.progress.show(make_line)
 
     def print_command(self, line: str) -> None:
-        """Print the command that will run; its output follows as a list."""
+        """Print the command that will run. Its output follows as a list."""
         self.list_length = 0
         self.print_line(f"+ {line}")
 
@@ -336,7 +336,7 @@ class Listener:
         self.printer.print_line(line)
 
     def add_selection(self, selection: Selection, is_printed: bool = True) -> None:
-        """Store a choice of qc, and print its line if `is_printed`."""
+        """Store a choice that qc made, and print its line if `is_printed`."""
         if is_printed:
             self.printer.print_line(selection.line)
         self.selections.append(selection)

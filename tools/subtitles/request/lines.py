@@ -21,8 +21,8 @@ from .request import (
 
 # Lines of lists and profiles, which are split into words like shell commands.
 
-# Limits of a list. In Python, a line that is not a pair needs about 600 bytes, and each word of a
-# line 150 bytes.
+# Limits of a list. In Python, a line that is not a valid pair needs about 600 bytes, and each word
+# of a line 150 bytes.
 MAX_BYTES, MAX_LINES, MAX_WORDS = 16_000_000, 100_000, 1_000_000
 MAX_LINE_CHARACTERS, MAX_LINE_WORDS = 65_536, 256
 BYTE_ORDER_MARKS = codecs.BOM_UTF8, codecs.BOM_UTF16_LE, codecs.BOM_UTF16_BE
@@ -35,8 +35,8 @@ ESCAPED = re.compile(r'\\(["\\])')
 
 
 class Line(NamedTuple):
-    """A line of a list: its number and arguments. A faulty line has its first characters in
-    `arguments` and the reason in `fault`."""
+    """A line of a list: its number and arguments. For a faulty line, `arguments` has its first
+    characters and `fault` the reason."""
 
     number: int
     arguments: tuple[str, ...]
@@ -49,19 +49,20 @@ def read_list(path: str, may_be_pipe: bool = False) -> str:
 
 
 def decode_text(name: str, data: bytes) -> str:
-    """Decode the text of a file; raise `Stop` if it begins with a byte order mark."""
+    """Decode the text of a file. Raise `Stop` if it begins with a byte order mark."""
     if data.startswith(BYTE_ORDER_MARKS):
         raise Stop(f"{name} begins with a byte order mark (BOM): save it as UTF-8 without one")
     return data.decode("utf-8", "surrogateescape")
 
 
 def list_folder(path: str) -> str:
-    """Return the folder to which paths in a list are relative; an empty text for a pipe."""
+    """Return the folder to which paths in a list are relative. Return an empty string for a
+    pipe."""
     return os.path.dirname(path) if os.path.isfile(path) else ""
 
 
 def split_lines(text: str) -> Iterator[Line]:
-    """Yield the lines of a list, except empty lines and comments; raise `Stop` if there are too
+    """Yield the lines of a list, except empty lines and comments. Raise `Stop` if there are too
     many lines."""
     line_count = word_count = 0
     for number, text_line in enumerate(io.StringIO(text, newline="\n"), 1):
@@ -88,7 +89,7 @@ def split_words(line: str) -> list[str]:
     is too long, a quote is not closed or a word has a NUL character."""
     if len(line) > MAX_LINE_CHARACTERS:
         raise ValueError(f"it has more than {MAX_LINE_CHARACTERS:,} characters")
-    parts: list[list[str]] = [[]]  # pieces of each word
+    parts: list[list[str]] = [[]]  # parts of each word
     at = 0
     while at < len(line):
         match = LIST_TOKEN.match(line, at)
@@ -109,15 +110,13 @@ def split_words(line: str) -> list[str]:
     return arguments
 
 
-# Profiles.
-
 MAX_PROFILE_BYTES = 65_536
 PATH_FIELDS = {"severity"}  # options with a path as value
 
 
 def parse_setting(arguments: Sequence[str]) -> Setting:
-    """Parse a line of a profile; raise `Stop` if a profile can't have the option. The message
-    quotes only known options, since the user may have given a private file by mistake."""
+    """Parse a line of a profile. Raise `Stop` if the option is not allowed in a profile. The
+    message quotes only known options, since the user may have given a private file by mistake."""
     name = arguments[0].partition("=")[0]
     option = next((one for one in OPTIONS if one.name == name), None)
     if option is None or not option.is_in_profile:
@@ -130,7 +129,7 @@ def parse_setting(arguments: Sequence[str]) -> Setting:
 
 
 def read_profile(path: str, may_be_pipe: bool = False) -> Profile:
-    """Read a profile; raise `Stop` for the first faulty or repeated line."""
+    """Read a profile. Raise `Stop` for the first faulty or repeated line."""
     name = make_safe_name(path)
     try:
         data = read_bounded_bytes(name, MAX_PROFILE_BYTES, may_be_pipe)
@@ -158,16 +157,16 @@ def resolve_setting_path(setting: Setting, folder: str) -> Setting:
     return setting._replace(value=os.path.join(folder, setting.value))
 
 
-# The options of a line in a list, of the command line and of a profile.
 def read_options(parser: ToolParser, line: Sequence[str], defaults: Mapping[str, Any],
                  own_defaults: Mapping[str, Any], folder: str = "", is_typed: bool = False) \
         -> argparse.Namespace:
-    """Return the options of a line, with values from `defaults` for options that it lacks.
+    """Return the options of a line. For options that it lacks, use the values in `defaults`.
 
-    A profile in the line replaces the profile of the command line: its options override the
-    defaults `own_defaults`, which are the command line's options without its profile. The returned
-    options have `own_defaults` too. A profile in a line can't be a pipe, since a list could name a
-    pipe that nothing writes to.
+    `defaults` are the options of the command line and its profile, `own_defaults` are those without
+    this profile. If the line has its own profile, use `own_defaults` and the options of that
+    profile instead of `defaults`. The returned options include `own_defaults`. If `is_typed`, the
+    line is the command line itself. Only then may the profile be a pipe, since a list could name a
+    pipe to which nothing is written.
     """
     typed = {word.partition("=")[0] for word in line}
     defaults = remove_replaced_clock(defaults, typed)
@@ -184,19 +183,20 @@ def read_options(parser: ToolParser, line: Sequence[str], defaults: Mapping[str,
         options = parser.parse_args([*line], argparse.Namespace(**defaults))
         options.profile, options.own_defaults = profile, own_options
     if options.within != defaults.get("within", options.within) and "--late" not in typed:
-        options.late = None  # belongs to the old --within
+        options.late = None  # --late only suits the previous value of --within
     return options
 
 
 def remove_replaced_clock(options: Mapping[str, Any], names: Collection[str]) -> dict[str, Any]:
-    """Remove the option `origin` if `names` has `--start`, and `start` if it has `--origin`."""
+    """Remove the value of `origin` if `names` contains `--start`, and the value of `start` if
+    `names` contains `--origin`."""
     replaced = [other for field, other in (("origin", "start"), ("start", "origin"))
                 if f"--{field}" in names]
     return {**options, **dict.fromkeys(replaced)}
 
 
 def describe_mode_conflict(name: str, modes: Sequence[Mode], mode: Mode) -> str:
-    """Return a message that an option can't be used in a mode."""
+    """Return the message which reports that an option can't be used in a mode."""
     *others, last = (mode_.text for mode_ in modes)
     accepted = f"{', '.join(others)} or {last}" if others else last
     return f"{name} may be given with {accepted}, not with {mode.text}"
@@ -204,7 +204,8 @@ def describe_mode_conflict(name: str, modes: Sequence[Mode], mode: Mode) -> str:
 
 @functools.lru_cache(maxsize=None)
 def make_line_parser() -> ToolParser:
-    """Return the parser for lines of a list, cached because it takes longer to make than to use."""
+    """Return the parser for lines of a list. The parser is cached, since creating it takes longer
+    than parsing a line."""
     parser = ToolParser("")
     parser.add_argument("stl")
     parser.add_argument("recording")
@@ -224,16 +225,14 @@ def make_line_request(line: Sequence[str], defaults: argparse.Namespace,
     return request
 
 
-# Pairs in a folder, found by their file names, or in a list.
-
 SUBTITLE_ENDING = ".stl"
 # Suffixes of transport streams with any packet size, and of files of PES packets.
 RECORDING_ENDINGS = (".ts", ".m2t", ".m2ts", ".mts", ".trp", ".pes")
 
 
 class BatchItem(NamedTuple):
-    """A pair in a batch. If it can't be judged, `request` is `None` and `reason` says why. `files`
-    are all input files that the pair may have."""
+    """A pair in a batch. If it can't be judged, `request` is `None` and `reason` is the reason.
+    `files` are all input files that the pair may have."""
 
     name: str
     request: Request | None
@@ -263,12 +262,12 @@ def find_folder_pairs(folder: str, defaults: argparse.Namespace) -> list[BatchIt
 
 
 def collect_inputs(items: Iterable[BatchItem], *more: str) -> Inputs:
-    """Return the input files of some pairs, and the additional files `more`."""
+    """Return the input files of all pairs, and the additional files `more`."""
     return Inputs(*more, *(name for item in items for name in item.files))
 
 
 def find_path_problem(path: str) -> str | None:
-    """Return the reason why a path can't be judged, or `None` if it is a regular file."""
+    """Return the reason why a file can't be judged, or `None` if the path is a regular file."""
     try:
         kind = describe_kind(os.stat(path).st_mode)
     except OSError as error:
@@ -288,7 +287,8 @@ def make_item(name: str, stl: str, recording: str, defaults: argparse.Namespace)
 
 
 def check_files(item: BatchItem) -> BatchItem:
-    """Return a pair with its files, but without its request if a file can't be judged."""
+    """Check that the files of a pair can be judged. Return the pair with its files. If a file can't
+    be judged, replace the request with the reason."""
     request = item.request
     if request is None:
         return item
@@ -300,7 +300,7 @@ def check_files(item: BatchItem) -> BatchItem:
 
 def pair_files(folder: str, files: list[str], defaults: argparse.Namespace) -> Iterable[BatchItem]:
     """Return the pair among files whose names differ only in case. If there are more than two
-    files, choose those with exactly the same name."""
+    files, match exact names."""
     subtitles, recordings = separate_files(files)
     if len(subtitles) > 1 or len(recordings) > 1:
         files_by_stem: dict[str, list[str]] = collections.defaultdict(list)
@@ -331,8 +331,8 @@ def separate_files(files: list[str]) -> tuple[list[str], list[str]]:
 
 def read_list_pairs(path: str, lines: Iterable[Line],
                     defaults: argparse.Namespace) -> Iterator[BatchItem]:
-    """Yield the pairs in a list (subtitle file, recording, options), without checking that the
-    files exist."""
+    """Yield the pairs in a list (subtitle file, recording, options). Do not check that the files
+    exist."""
     names, folder = ListNames(), list_folder(path)
     for line in lines:
         try:
@@ -348,15 +348,17 @@ def read_list_pairs(path: str, lines: Iterable[Line],
 
 
 def list_possible_paths(words: Sequence[str], folder: str) -> list[str]:
-    """Return all words in a faulty line that may be input files and must not be overwritten."""
+    """Return all words of a faulty line that may be paths of input files, which must not be
+    overwritten."""
     values = [value for word in words for value in {word, word.partition("=")[2]} if value]
     return [*values, *(os.path.join(folder, value) for value in values)]
 
 
 def read_line_pair(path: str, number: int, defaults: argparse.Namespace) \
         -> tuple[BatchItem, list[str]]:
-    """Return the pair in line `number` of a list, and the words in all lines, which may be input
-    files. Earlier lines are read too, since the name of the pair depends on them."""
+    """Return the pair in line `number` of a list. Also return the words of all lines, since any of
+    them may be an input file. Earlier lines are read too, since the name of the pair depends on
+    them."""
     if os.path.isdir(path):
         raise Stop(f"{path} is not a list: --line needs a LIST")
     lines = [*split_lines(read_list(path, may_be_pipe=True))]

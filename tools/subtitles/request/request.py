@@ -1,4 +1,4 @@
-"""The request for a pair: the table of options, profiles, and the choices that qc makes."""
+"""The request for a pair: the table of options, profiles, and choices that qc makes."""
 from __future__ import annotations
 
 import argparse
@@ -24,9 +24,9 @@ from ..formats.teletext import OPTION_WORDS, option_for_language, page_name
 
 # The options for a pair
 #
-# The parser and its help, the man page, the completion, the manual's table, the arguments of `qc`
-# and `check`, and the members of a JSON result that --resume compares are all made from this table.
-# To add an option, add a row here and a field to `Request`.
+# All of these are made from this table: the parser and its help, the man page, the completion, the
+# manual's table, the arguments of `qc` and `check`, and the members of a JSON result that --resume
+# compares. To add an option, add a row here and a field to `Request`.
 
 
 class Mode(NamedTuple):
@@ -58,8 +58,8 @@ class Option(NamedTuple):
     `metavar` is the name of its value, or `None` for a flag. `description` is in the imperative and
     may have Markdown links. `field` is its field in `Request` or in the parsed arguments. `read`
     parses the value and may raise `ArgumentTypeError`; `write` formats it. A flag sets the field to
-    `flag_value`. `check_default` is the default in `check`. `changes_pages` is set if the option is
-    passed to `schedule` too, `is_in_profile` if profiles may contain it. `shape`, `note` and
+    `flag_value`. `check_default` is the default in `check`. `changes_pages` is true if the option
+    is also passed to `schedule`, `is_in_profile` if profiles may contain it. `shape`, `note` and
     `result_value` define its member in a JSON result.
     """
 
@@ -84,18 +84,19 @@ class Option(NamedTuple):
 
     @property
     def help(self) -> str:
-        """The help text of the option."""
+        """Return the help text of the option."""
         default = f" (default: {self.default_text})" if self.default_text and self.metavar else ""
         return remove_markup(self.description + default)
 
     @property
     def form(self) -> str:
-        """The option, followed by the name of its value if it has one."""
+        """Return the option, followed by the name of its value if it has one."""
         return f"{self.name} {self.metavar}" if self.metavar else self.name
 
     @property
     def member(self) -> Member | None:
-        """The definition of the option's member in the object `request` of a JSON result."""
+        """Return the definition of the option's member in the object `request` of a JSON result, or
+        `None`."""
         if self.shape is None:
             return None
         meaning = remove_markup(self.description[0].upper() + self.description[1:] + ".")
@@ -108,7 +109,7 @@ class Option(NamedTuple):
         return getattr(request, self.field)
 
     def format_arguments(self, value: Any, default: Any) -> list[str]:
-        """Return the arguments that set the option to a value; none for the default."""
+        """Return the arguments that set the option to a value. The default needs no arguments."""
         if value is None or value == default:
             return []
         if self.metavar:
@@ -126,7 +127,7 @@ def remove_markup(text: str) -> str:
 
 
 def check_time(text: str) -> str:
-    """Check a time of day and return it unchanged; raise `ArgumentTypeError` if it is invalid."""
+    """Check a time of day and return it unchanged. Raise `ArgumentTypeError` if it is invalid."""
     parse_time(text)
     return text
 
@@ -136,7 +137,7 @@ NONE = "none"  # value of --pace: do not check the PES interval
 
 
 def check_layout(text: str) -> str:
-    """Check a layout and return it unchanged; raise `ArgumentTypeError` if it is invalid."""
+    """Check a layout and return it unchanged. Raise `ArgumentTypeError` if it is invalid."""
     if text == AUTO:
         raise argparse.ArgumentTypeError(
             "auto is no longer a layout: find the layout of your inserter with `--measure STL "
@@ -255,7 +256,7 @@ GROUPS = {
 
 
 def add_options(parser: ToolParser, options: Iterable[Option] | None = None) -> None:
-    """Add options to a parser in groups; by default, add the options for a pair."""
+    """Add options to a parser in groups. By default, add the options for a pair."""
     for option in sorted(OPTIONS if options is None else options, key=group_number):
         arguments: dict[str, Any] = {"help": option.help, "dest": option.field,
                                  "default": option.default}
@@ -275,7 +276,7 @@ def group_number(option: Option) -> int:
 
 
 def list_arguments(request: Any) -> list[list[str]]:
-    """Return the command-line arguments for a request, except the options in its profile."""
+    """Return the command-line arguments for a request, without the options in its profile."""
     profile = request.profile
     return [option.format_arguments(
         option.get_value(request), profile.get_value(option.field, option.default)
@@ -285,9 +286,6 @@ def list_arguments(request: Any) -> list[list[str]]:
 def request_members() -> list[Member]:
     """Return the members of the object `request` in a JSON result."""
     return [member for option in OPTIONS if (member := option.member)]
-
-
-# Profiles: files with the options of a site.
 
 
 class Setting(NamedTuple):
@@ -310,8 +308,6 @@ class Profile(NamedTuple):
         setting = self.settings.get(field)
         return setting.value if setting else default
 
-
-# The request for a pair.
 
 LC = slice(14, 16)  # bytes of the language code (LC) in the GSI block
 COPY_NAME = "subtitles.stl"  # file name of the copy in the temporary folder
@@ -351,12 +347,12 @@ class Request:
 
     @property
     def stl_path(self) -> str:
-        """The path of the subtitle file, or of its copy if it is a pipe."""
+        """Return the path of the subtitle file. If it is a pipe, return the path of its copy."""
         return self.kept_stl or self.stl
 
     @property
     def other_files(self) -> tuple[str | None, ...]:
-        """The paths of the other input files: severity file and profile."""
+        """Return the paths of the other input files: severity file and profile."""
         return self.severity, self.profile and self.profile.name
 
     @property
@@ -366,28 +362,29 @@ class Request:
 
     @property
     def between(self) -> Between:
-        """The judged range: only subtitles that begin in it are judged."""
+        """Return the judged range. Only subtitles that begin in it are judged."""
         begin, end = frame_of(self.from_time or ""), frame_of(self.to_time or "")
         return Between(begin or 0, FRAMES_OF_A_DAY if end is None else end)
 
     def restrict_to(self, begin: int, end: int) -> Request:
-        """Return the request for the subtitles that begin from frame `begin` to before `end`."""
+        """Return this request limited to the subtitles that begin from frame `begin` up to, but not
+        including, frame `end`."""
         return dataclasses.replace(self, from_time=time_of(begin), to_time=time_of(end))
 
     @property
     def pace(self) -> int | None:
-        """The maximum PES interval in frames, or `None` if it is not given."""
+        """Return the maximum PES interval in frames, or `None` if it is not given."""
         word = self.pace_word
         return None if word is None or word == NONE else int(word)
 
     @property
     def has_clock(self) -> bool:
-        """Whether the clock is given, or the pair has no recording."""
+        """Return whether the clock is given, or the pair has no recording."""
         return not self.recording or self.origin is not None or self.start is not None
 
     @property
     def waivers(self) -> list[str]:
-        """The options of the profile that may turn a refusal into another verdict."""
+        """Return the options of the profile that may turn a refusal into another verdict."""
         fields = ["is_loss_allowed", "severity", *["is_relative_allowed"] * (not self.has_clock)]
         return [option.name for option in OPTIONS if option.field in fields
                 and option.format_arguments(option.get_value(self), option.default) and self.profile
@@ -404,7 +401,7 @@ class Request:
             and (ALONE in option.modes or not is_file_alone)])
 
     def program_arguments(self, options: Iterable[Option]) -> list[str]:
-        """Return the arguments of the program for some options, except `--pace none`."""
+        """Return the program's arguments for the given options, without `--pace none`."""
         request = dataclasses.replace(
             self, pace_word=None if self.pace_word == NONE else self.pace_word)
         return [word for option in options for word in
@@ -436,13 +433,13 @@ def make_file_request(stl: str, recording: str | None, options: argparse.Namespa
 
 
 def is_pipe(name: str) -> bool:
-    """Return whether a path is a pipe, which can only be read once."""
+    """Return whether a path is a pipe, which can be read only once."""
     return os.path.exists(name) and stat.S_ISFIFO(os.stat(name).st_mode)
 
 
 def keep_stl(request: Request, folder: str) -> None:
-    """Copy a subtitle file that is a pipe into a folder. Choose the national option again, since
-    the file may have changed since a list was read."""
+    """If the subtitle file is a pipe, copy it into a folder. Choose the national option again,
+    because the file may have changed after the list was read."""
     if is_pipe(request.stl):
         request.kept_stl = os.path.join(folder, COPY_NAME)
         data = read_stl(request.stl)
@@ -475,8 +472,9 @@ CHOICES = (PID_CHOICE, ORIGIN_CHOICE, PES_CHOICE, PACE_CHOICE, OPTION_CHOICE)
 
 
 class Selection(NamedTuple):
-    """A choice made by qc: the option with the chosen value, or `None` for no value; the line to
-    print; the numbers of matching and of all items; and the part, or `None` for all parts."""
+    """A choice made by qc. `option` is the option with which the operator can replace the choice,
+    and `value` the chosen value, or `None`. `line` is printed. `match_count` of `total_count` items
+    match the value. `part` is `None` for all parts."""
 
     option: str
     value: str | None
@@ -487,7 +485,7 @@ class Selection(NamedTuple):
 
 
 class Unclear(Exception):
-    """Raised if a pair can't be judged, with the reason and commands that may help."""
+    """Raised if a pair can't be judged. It has the reason and commands that may help."""
 
     def __init__(self, reason: str, *commands: str) -> None:
         super().__init__(reason)

@@ -55,7 +55,8 @@ def write_result(verdict: Verdict, program: ProgramInfo) -> Iterator[str]:
 
 
 def write_list(member: Member, source: ResultSource, limit: ListLimit) -> Iterator[str]:
-    """Yield a JSON list with one item per line. Items that exceed the limit are omitted."""
+    """Yield a JSON list with one item per line. Omit the items that follow when a limit is
+    reached."""
     assert isinstance(member.shape, Listed) and member.getter
     items, separator = iter(member.getter(source)), "["
     for count, item in enumerate(items):
@@ -69,12 +70,10 @@ def write_list(member: Member, source: ResultSource, limit: ListLimit) -> Iterat
     yield "[]" if separator == "[" else "]"
 
 
-# Reading JSON results as rows of a table
-
 ENDING = ".json"
 MAX_ROW_LINES = 100
 MAX_RESULT_BYTES = 2 * MAX_BYTES
-MAX_VALUES = 2_000_000  # maximum; in Python, a value needs 70 bytes, a member of an object 160
+MAX_VALUES = 2_000_000  # maximum number of values; in Python a value needs 70 bytes, a member 160
 MAX_DIGITS = 20
 NO_CLOCK, LATER_CLOCK = "no clock was given", "the clock after a break was estimated"
 
@@ -83,7 +82,7 @@ class Row(NamedTuple):
     """The row of a pair in a table.
 
     `title` names its two files, and `hint` explains its worst fault. If some subtitles are refused,
-    `counts` says how many were judged; `clock` says why a delay was not checked.
+    `counts` has the number of judged subtitles. `clock` is the reason why a delay was not checked.
     """
 
     name: str
@@ -102,12 +101,12 @@ class Row(NamedTuple):
 
     @property
     def is_judged(self) -> bool:
-        """Whether the pair has a verdict other than `not judged`."""
+        """Return whether the pair has a verdict other than `not judged`."""
         return self.verdict != NOT_JUDGED
 
 
 def make_unjudged(name: str, reason: str) -> dict[str, Any]:
-    """Return the result of a pair that was not judged, without a request."""
+    """Return the result of a pair that was not judged. It contains no request."""
     result: dict[str, Any] = NO_PAIR.to_json({
         "format": FORMAT, "verdict": NOT_JUDGED, "status": STATUSES[NOT_JUDGED], "name": name,
         "reason": reason or "no reason was given"})
@@ -115,22 +114,22 @@ def make_unjudged(name: str, reason: str) -> dict[str, Any]:
 
 
 def can_replace(path: str, prefix: bytes = b"{") -> bool:
-    """Return whether a result may replace a file: the file must be missing, empty or begin with
-    `prefix`. Other files may be inputs, given by mistake."""
+    """Return whether a result may replace a file, which must be missing, empty or begin with
+    `prefix`. Any other file may be an input that the user gave by mistake."""
     if not is_replaced(path) or not os.path.exists(path):
         return True
     return read_first_bytes(path, len(prefix)) in (prefix, b"")
 
 
 def write_file(path: str | None, make_chunks: Callable[[], Iterable[bytes]]) -> None:
-    """Write a requested file completely or not at all."""
+    """Write chunks to a file, completely or not at all. If `path` is `None`, do nothing."""
     if path is not None:
         with open_output(path) as file:
             file.writelines(make_chunks())
 
 
 def result_bytes(result: dict[str, Any]) -> bytes:
-    """Return the JSON file of a pair that was not judged."""
+    """Encode the result of a pair that was not judged as JSON."""
     return json.dumps(result).encode() + b"\n"
 
 
@@ -141,8 +140,8 @@ def write_result_file(path: str, result: dict[str, Any]) -> None:
 
 
 def read_result(path: str) -> dict[str, Any] | None:
-    """Read the result in a file. It is not judged if the file can't be read, has another format or
-    does not match the schema. Return `None` if the file is not a result."""
+    """Read the result in a file. If the file can't be read, has another format or does not match
+    the schema, return a result `not judged`. Return `None` if the file is not a result."""
     name = os.path.basename(path).removesuffix(ENDING)
     try:
         result = read_json(path)
@@ -165,7 +164,7 @@ def read_result(path: str) -> dict[str, Any] | None:
 
 
 def read_json(path: str) -> object:
-    """Return the JSON value in a file; raise `ValueError` if the value is too large."""
+    """Return the JSON value in a file. Raise `ValueError` if the value is too large."""
     data = read_bounded_bytes(path, MAX_RESULT_BYTES, is_followed=False)
     if sum(map(data.count, (b",", b"{", b"["))) > MAX_VALUES:
         raise ValueError(f"it has more than {MAX_VALUES:,} values")
@@ -173,7 +172,7 @@ def read_json(path: str) -> object:
 
 
 def parse_number(digits: str) -> int:
-    """Parse a number of at most 20 digits; raise `ValueError` if it is longer."""
+    """Parse a number of at most 20 digits. Raise `ValueError` if it is longer."""
     return int(digits) if len(digits) <= MAX_DIGITS else refuse_constant(digits)
 
 
@@ -218,13 +217,13 @@ def make_row(result: dict[str, Any], name: str) -> Row:
 
 
 def describe_clock(result: dict[str, Any]) -> str:
-    """Return a note on a clock that was estimated; an empty text if all clocks were given."""
+    """Return a note on a clock that was estimated, or an empty string if all clocks were given."""
     clocks = [part["clock"] and part["clock"]["source"] for part in result["parts"]]
     return NO_CLOCK if clocks[:1] == [RECORDING] else LATER_CLOCK if RECORDING in clocks else ""
 
 
 def find_hint(result: dict[str, Any]) -> str:
-    """Return the hint about the worst fault of a result, or an empty text."""
+    """Return the hint about the worst fault of a result, or an empty string if there is none."""
     worst_fault = (result["worst_fault"] or "").partition("refused ")[2]
     for hint in result["hints"]:
         number, _, hint_text = hint.partition(": ")
@@ -255,16 +254,14 @@ def sort_rows(rows: dict[str, Row]) -> list[Row]:
     return [rows[name] for name in sorted(rows)]
 
 
-# Checking whether a result is up to date
-
 def format_change_time(stat_result: os.stat_result) -> str:
-    """Return the UTC time of a file's last change, in nanoseconds."""
+    """Return the UTC time of a file's last change, with nanoseconds."""
     second, rest = divmod(stat_result.st_mtime_ns, 1_000_000_000)
     return f"{time.strftime('%Y-%m-%dT%H:%M:%S', time.gmtime(second))}.{rest:09}Z"
 
 
 def describe_file(path: str | None) -> dict[str, Any] | None:
-    """Return the size and last change of a file; `None` if there is no such file."""
+    """Return the size and the modification time of a file, or `None` if there is no such file."""
     if path is None or not os.path.isfile(path):
         return None
     stat_result = os.stat(path)
@@ -272,22 +269,23 @@ def describe_file(path: str | None) -> dict[str, Any] | None:
 
 
 def describe_inputs(request: Request) -> dict[str, Any]:
-    """Return the size and last change of each file of a pair."""
+    """Return the size and the modification time of each file of a pair."""
     return {"stl": describe_file(request.stl), "recording": describe_file(request.recording),
             "severity": describe_file(request.severity)}
 
 
 def is_current(result: dict[str, Any], request: Request, program: ProgramInfo) -> bool:
-    """Return whether a pair has the same options and unchanged files as in its result, and would be
-    judged by the same version of the program and the tools."""
+    """Return whether a result is up to date: the options and the files of the pair, and the
+    versions of the program and the tools have not changed."""
     return "request" in result and result["request"] == REQUEST.to_json(request) \
         and result["files_at_start"] == describe_inputs(request) \
         and result["program"]["sha256"] == program.sha256 \
         and result["program"]["version"] == program.version
 
 
-# CSV files. With many pairs, a file has a line for each pair and each fault; with one pair, a line
-# for the pair and for each subtitle. Columns are named after object and key in the JSON result.
+# CSV files. For many pairs, a file has a line for each pair and each fault. For a single pair, it
+# has a line for the pair and for each subtitle. A column is named after its object and key in the
+# JSON result.
 
 SUBTITLE_COLUMNS = ["subtitle_number", "subtitle_begin", "subtitle_end"]
 FAULT_COLUMNS = ["part", "number", "name", "severity", "file", "block", *SUBTITLE_COLUMNS, "byte",
@@ -305,7 +303,7 @@ COLUMNS = [*FILE_COLUMNS, *FAULT_COLUMNS, *PAIR_COLUMNS, *CAUSE_COLUMNS, *POSITI
            "sentence", *PART_COLUMNS, *COUNT_COLUMNS]
 CUE_COLUMNS = [*FILE_COLUMNS, *(member.name for member in CUE.members)]
 
-Columns = dict[str, object]  # values by column name; a missing column is empty
+Columns = dict[str, object]  # values by column name; empty columns may be missing
 
 
 def format_cell(cell: Members | None) -> str:
@@ -322,7 +320,8 @@ def object_columns(name: str, members: Members | None) -> Columns:
 
 
 def part_columns(parts: Sequence[dict[str, Any]], number: int | None) -> Columns:
-    """Return the columns for part `number`; if `number` is `None`, for the only part."""
+    """Return the columns for part `number`. If `number` is `None`, return the columns for the only
+    part."""
     numbered_parts = [part for part in parts if part["part"] == number or number is None]
     if len(numbered_parts) != 1:
         return {}
@@ -331,7 +330,7 @@ def part_columns(parts: Sequence[dict[str, Any]], number: int | None) -> Columns
 
 
 def pair_columns(result: dict[str, Any]) -> Columns:
-    """Return the columns for a pair."""
+    """Return the columns that describe a pair."""
     pair = {name: result[name] for name in PAIR_COLUMNS}
     if "request" not in result:
         return {"stl": result["name"], **pair}
@@ -395,13 +394,11 @@ def column_rows(result: dict[str, Any]) -> Iterator[Columns]:
         yield fault_columns(pair, result["parts"], fault)
 
 
-# JUnit files
-
 class TestCase(NamedTuple):
     """A pair as a JUnit test case.
 
-    `line` is its worst fault, or the reason why it was not judged; `lines` are the first lines of
-    its fault list. If some subtitles are refused, `counts` says how many were judged.
+    `line` is its worst fault, or the reason why it was not judged. `lines` are the first lines of
+    its fault list. If some subtitles are refused, `counts` has the number of judged subtitles.
     """
 
     name: str

@@ -124,14 +124,14 @@ CLOCK_OF_PART = Record(
 
 
 class PartResult(NamedTuple):
-    """A part of the recording, and whether its judged PES packets are kept."""
+    """A part of the recording. `is_kept` is true if the file of its judged PES packets is kept."""
 
     part: Part
     is_kept: bool
 
     @property
     def judged_file(self) -> dict[str, object] | None:
-        """The file of judged PES packets from a feed; it has a name only if it is kept."""
+        """Return the file of judged PES packets from a feed. It has a name only if it is kept."""
         file = self.part.judged_file
         return file and {**file._asdict(), **({} if self.is_kept else {"name": None})}
 
@@ -248,7 +248,7 @@ COUNTS = Record(
 
 FORMAT = 7
 MAX_LISTED = 20_000  # maximum number of items in a list
-MAX_SUBTITLES = 100_000  # maximum; a subtitle file has at most 99,999 blocks
+MAX_SUBTITLES = 100_000  # maximum number of subtitles; a subtitle file has at most 99,999 blocks
 MAX_SECONDS = 10 ** 9
 Value = object
 
@@ -261,7 +261,7 @@ class ResultSource(NamedTuple):
 
 
 def list_trusted_frames(known: ResultSource) -> Iterator[dict[str, Value]]:
-    """Yield the clean frames in all parts."""
+    """Yield the ranges of frames, in all parts, that have no fault."""
     for part in known.verdict.parts:
         for begin, end in part.trusted_frames:
             yield {"part": part.number, "from": time_of(begin), "to": time_of(end)}
@@ -277,13 +277,13 @@ def list_cause_rows(known: ResultSource) -> Iterator[dict[str, Value]]:
 
 
 def list_subtitle_rows(verdict: Verdict) -> Iterator[dict[str, Value]]:
-    """Yield the subtitles of all parts, unless nothing is judged."""
+    """Yield a row for each subtitle of all parts. Yield no rows if the pair was not judged."""
     for part in verdict.parts if verdict.word != NOT_JUDGED else ():
         yield from make_subtitle_rows(part, verdict.severity, verdict.valid_subtitles)
 
 
 def add_known(numbers: list[int | None]) -> int | None:
-    """Return the sum of some numbers, or `None` if one of them is unknown."""
+    """Return the sum of the numbers. Return `None` if a number is unknown or the list is empty."""
     known = [number for number in numbers if number is not None]
     return sum(known) if known and len(known) == len(numbers) else None
 
@@ -308,7 +308,8 @@ TOGETHER = Rules([
      "line": NOTHING if word == NOT_JUDGED else TEXT,
      "worst_fault": NOTHING if word == NOT_JUDGED else TEXT,
      "reason": TEXT if word == NOT_JUDGED else NOTHING} for word, status in POSSIBLE_RESULTS])
-# Without a clock no pair is accepted or waived. Only --relative gives `relative` status 0.
+# Without a clock no pair is accepted or waived. The verdict `relative` has status 0 only with
+# --relative.
 HAS_CLOCK = Rules([{"origin": PTS}, {"start": TEXT}, {"recording": NOTHING}])
 IS_ALLOWED = Rules([{"relative": OneOf(True)}])
 TIMED = Rules([
@@ -396,7 +397,8 @@ BATCH = Record(
 
 
 def find_misfit(known: object) -> str | None:
-    """Return where a value does not match the schema of a pair's result, or `None`."""
+    """Return the path of a value that does not match the schema of a pair's result. Return `None`
+    if all values match."""
     is_pair = isinstance(known, dict) and "request" in known
     return (VERDICT if is_pair else NO_PAIR).find_misfit(known)
 
