@@ -9,6 +9,5 @@ state       state file for monitoring
 judge       judging the programmes of a schedule
 main        command line of tools/air
 
-All state is in files. When the output folder has the JSON result of a programme, the programme is
-not judged again.
+All state is in files. A programme is not judged again when the output folder has its JSON result.
 """
