@@ -221,8 +221,7 @@ CHOICE = Record(
     Member("matches", Maybe(COUNT), "The number of PES packets (for pid and pes), cues (origin) or "
            "positions (pace) that match the value.",
            lambda choice: choice.match_count),
-    Member("total", Maybe(COUNT), "The number that could match.",
-           lambda choice: choice.total_count),
+    Member("total", Maybe(COUNT), getter=lambda choice: choice.total_count),
     Member("line", Text()))
 
 PROGRAM = Record(
@@ -294,9 +293,9 @@ def sum_parts(known: ResultSource, name: str) -> int | None:
 
 
 FILES_AT_START = Record(
-    "files_at_start", "The files when judging began.", *(
+    "files_at_start", "", *(
         Member(name, Maybe(FILE_AT_START)) for name in ("stl", "recording", "severity")))
-INPUTS = Record("inputs", "The files as they were read.",
+INPUTS = Record("inputs", "",
                 Member("stl", Maybe(FILE)), Member("recording", Maybe(FILE)))
 CAUSE_COUNTS = Record("cause_counts", "", *(
     Member(name, COUNT) for name in CAUSE_NAMES))
@@ -369,7 +368,7 @@ VERDICT = Record(
     Member("files_at_start", FILES_AT_START, getter=lambda known: known.verdict.files_at_start),
     Member("inputs", INPUTS, getter=lambda known: known.verdict),
     Member("program", PROGRAM),
-    Member("date", DATE, "The time of judging in UTC.", lambda known: known.verdict.date),
+    Member("date", DATE, getter=lambda known: known.verdict.date),
     Member("seconds", Number(MAX_SECONDS), getter=lambda known: known.verdict.seconds),
     Member("cause_counts", CAUSE_COUNTS, getter=lambda known: count_causes(
         part.causes for part in known.verdict.parts if part.causes)),
