@@ -1,5 +1,5 @@
 """Read a recording from a file or a pipe, and find anomalies.
 
-notices        warnings about a recording, and a page that is announced but never sent
-recording      find the PID of the page, read a recording, and copy a pipe to a file
+notices        warn about a recording, and refuse one whose announced page is never sent
+recording      read a recording, find the PID of the page, and copy a pipe to a file
 """

@@ -1,4 +1,7 @@
-"""Find anomalies of a recording that break no rule, and an announced page that is never sent."""
+"""Warn about anomalies of a recording, and refuse one whose announced page is never sent.
+
+The warnings are about anomalies that break no rule of `check`. They don't change the exit status.
+"""
 from __future__ import annotations
 
 import array
@@ -25,14 +28,11 @@ from ..stream.receiver import FEW, PAUSE
 from ..stream.survey import (
     ANY, Announced, KINDS, ProgramMap, SUBTITLE_KINDS, Survey, language_names)
 
-
-# Warnings about anomalies that break no rule of `check`. They don't change the exit status.
-
-TNB, TNS = slice(238, 243), slice(243, 248)  # fields of a GSI block
+TNB, TNS = slice(238, 243), slice(243, 248)  # the bytes of these fields in a GSI block
 
 
 class Notice(NamedTuple):
-    """A warning: its kind, as a word for result files, its message, and its time, if any."""
+    """A warning: its kind, which is a word for result files, its message, and its time, if any."""
 
     kind: str
     line: str
@@ -55,7 +55,7 @@ def find_timing_notices(packets: Packets, origin: int) -> Iterator[Notice]:
 
 
 def find_jump_notices(packets: Packets, origin: int, first: int, last: int) -> Iterator[Notice]:
-    """Yield warnings about clock jumps between two frames at which no packet is missing."""
+    """Yield warnings about clock jumps from frame `first` to `last` where no packet is missing."""
     for jump in find_clock_jumps(packets):
         frame = FRAMES_OF_A_DAY if jump.before is None else frame_in(jump.before, origin)
         if first <= frame <= last:
@@ -74,7 +74,7 @@ def format_duration(ticks: int) -> str:
 
 
 def find_pmt_notices(survey: Survey, pid: int, request: Request) -> Iterator[Notice]:
-    """Yield warnings about a PMT that does not announce the requested page."""
+    """Yield warnings if the PMT does not announce the requested page, or announces it wrongly."""
     programmes = survey.programmes_of(pid)
     if not programmes:
         return
@@ -91,7 +91,7 @@ def find_pmt_notices(survey: Survey, pid: int, request: Request) -> Iterator[Not
 
 
 def find_page_notices(page_announcements: list[Announced], request: Request) -> Iterator[Notice]:
-    """Yield warnings about the type, language and option that a PMT announces for the page."""
+    """Yield warnings about a wrong page type or language in the PMT's announcements of the page."""
     name = request.page_name
     if not any(announced.kind in SUBTITLE_KINDS for announced in page_announcements):
         kinds = " and ".join(dict.fromkeys(KINDS.get(announced.kind, "of an unknown kind")
@@ -108,8 +108,10 @@ def find_page_notices(page_announcements: list[Announced], request: Request) -> 
 
 
 def find_option_notices(languages: list[str], request: Request) -> Iterator[Notice]:
-    """Yield a warning if no language that a PMT announces for the page uses the national option.
-    Receivers may choose the character set by that language."""
+    """Yield a warning if none of the announced languages uses the national option.
+
+    Receivers may choose the character set by the language in the PMT.
+    """
     options = [option_for_track(one) for one in languages]
     is_other = [bool(option and option.word != request.option) or language in OTHER_REGIONS
                 for language, option in zip(languages, options)]
@@ -123,8 +125,8 @@ def find_option_notices(languages: list[str], request: Request) -> Iterator[Noti
 
 
 def find_character_set_notices(packets: Packets, request: Request) -> Iterator[Notice]:
-    """Yield warnings about packets that select a different character set than the national option.
-    """
+    """Yield warnings about packets that select another character set than that of the national
+    option."""
     for number, designation, region, option in packets.character_sets:
         if region is None or option is None:
             named = "an unreadable character set"
@@ -147,8 +149,10 @@ def read_language_code(stl: str) -> str:
 
 
 def find_count_notices(subtitles: SubtitleFile) -> Iterator[Notice]:
-    """Yield warnings if the file has more or fewer TTI blocks or subtitles than its GSI block says,
-    as if the file was cut off. TNS may include comments; ignore a field that is not a number.
+    """Yield warnings if the numbers of TTI blocks and subtitles differ from those in the GSI block.
+
+    The file may then be cut off. The number of subtitles (TNS) may include comments. Ignore a field
+    that is not a number.
     """
     expected = read_count(subtitles.data[TNB])
     there = subtitles.count()
@@ -162,7 +166,7 @@ def find_count_notices(subtitles: SubtitleFile) -> Iterator[Notice]:
 
 
 def read_count(digits: bytes) -> int | None:
-    """Return the number in a field of a GSI block, or `None` if it is not a number."""
+    """Return the number in a field of a GSI block, or `None` if the field is not a number."""
     return int(digits) if digits.isdigit() else None
 
 
@@ -172,7 +176,7 @@ def format_presence(count: int) -> str:
 
 
 def find_pause_notices(pts: Sequence[int], request: Request, origin: int) -> Iterator[Notice]:
-    """Yield warnings about gaps between the frames of PES packets, if such gaps are rare."""
+    """Yield warnings about long intervals without a PES packet, if there are only a few."""
     frames = array.array("i", (frame for frame in frames_at(pts, origin, request.within)
                                if frame != NO_FRAME))
     pauses = [(first + 1, second) for first, second in zip(
@@ -185,8 +189,8 @@ def find_pause_notices(pts: Sequence[int], request: Request, origin: int) -> Ite
 
 def find_repeat_notices(headers: Sequence[int], request: Request, origin: int,
                         times: list[tuple[int, int]]) -> Iterator[Notice]:
-    """Yield a warning if the page is repeated so often that a missing repeat would not exceed
-    `--every`."""
+    """Yield a warning if the page is repeated so often that --every does not show a missing repeat.
+    """
     every = repeat_distance((frame_in(pts, origin, request.within) for pts in headers),
                             cue_frames(times))
     if every is not None and every * 2 < request.every:
@@ -195,9 +199,9 @@ def find_repeat_notices(headers: Sequence[int], request: Request, origin: int,
                      "to notice a missing repeat")
 
 
-# A page that a PMT announces but that is never sent on its PID
-
-NEAR = 2 * SECOND  # ticks; the time of a PMT is the PCR before it, which is listed once a second
+# Uncertainty of the time of a PMT, in ticks. Its time is the PCR before it, which is listed once a
+# second.
+NEAR = 2 * SECOND
 
 
 class NeverSent(Exception):
@@ -209,8 +213,11 @@ class NeverSent(Exception):
 
 
 class Announcement(NamedTuple):
-    """The PIDs on which a PMT announces a page, with the programme number. It applies from the PCR
-    `begin` to the PCR `end`, which are `None` at the ends of the recording."""
+    """The PIDs on which a PMT announces a page, and the programme number.
+
+    The PMT applies from the PCR `begin` to the PCR `end`. These are `None` at the beginning and at
+    the end of the recording.
+    """
 
     number: int
     pids: frozenset[int]
@@ -218,7 +225,7 @@ class Announcement(NamedTuple):
     end: int | None
 
     def is_in(self, begin: int, end: int) -> bool:
-        """Return whether the announcement surely applies at a time between two PTS."""
+        """Return whether the announcement certainly applies at some time between two PTS."""
         return (self.begin is None or ticks_between(self.begin, end) > NEAR) and (
             self.end is None or ticks_between(begin, self.end) > NEAR)
 
@@ -230,7 +237,7 @@ def find_announcing_pids(program_map: ProgramMap, page: Page) -> set[int]:
 
 
 def find_announcements(records: Sequence[ProgramMap], page: Page) -> Iterator[Announcement]:
-    """Return the announcements of a page in all PMTs, in the order of the PMTs."""
+    """Return an iterator over the announcements of a page, in the order of the PMTs."""
     ends: dict[int, int | None] = {}  # last PCR before the next PMT, by programme number
     several: list[Announcement] = []
     for record in reversed(records):
@@ -243,8 +250,11 @@ def find_announcements(records: Sequence[ProgramMap], page: Page) -> Iterator[An
 
 def find_unsent(announced: Sequence[Announcement], carriers: Collection[int], begin: int,
               end: int) -> Announcement | None:
-    """Return the first announcement between two PTS whose page is sent only on other PIDs. If some
-    programmes announce those PIDs, consider only their announcements."""
+    """Return the first announcement between two PTS whose page is sent only on other PIDs.
+
+    `carriers` has the PIDs that send the page. If programmes announce the page on one of these
+    PIDs, consider only the announcements of these programmes. Return `None` if there is none.
+    """
     carrying_programmes = {announcement.number for announcement in announced if announcement.pids &
                            {*carriers}}
     return next((announcement for announcement in announced
@@ -254,7 +264,10 @@ def find_unsent(announced: Sequence[Announcement], carriers: Collection[int], be
 
 
 def find_silent_pids(announced: Sequence[Announcement], carriers: Collection[int]) -> set[int]:
-    """Return the PIDs of programmes that announce the page but never send it, if another does."""
+    """Return the PIDs on which programmes announce the page but never send it.
+
+    Return an empty set if no other programme announces the page and sends it.
+    """
     carrying_programmes = {announcement.number for announcement in announced if announcement.pids &
                            {*carriers}}
     others = {pid for announcement in announced if announcement.number not in carrying_programmes
@@ -264,8 +277,11 @@ def find_silent_pids(announced: Sequence[Announcement], carriers: Collection[int
 
 def is_page_expected(clock: tuple[int, int] | None, times: Sequence[tuple[int, int]],
               origin: int | None) -> bool:
-    """Return whether a page is expected between two PCR. By the origin, a complete subtitle lies
-    between them; without an origin, they are as far apart as the first TCI and the last TCO."""
+    """Return whether a page is expected between the two PCRs `clock`.
+
+    If the origin is known, a complete subtitle must lie between them. Otherwise they must be as far
+    apart as the first TCI and the last TCO.
+    """
     if clock is None or not times:
         return False
     length = wrap_pts(clock[1] - clock[0])
@@ -276,7 +292,9 @@ def is_page_expected(clock: tuple[int, int] | None, times: Sequence[tuple[int, i
 
 
 def has_unreadable(survey: Survey, pids: Collection[int]) -> bool:
-    """Return whether any of these PIDs has TS packets but no readable PES packet, as if scrambled.
+    """Return whether any of these PIDs has TS packets but no readable PES packet.
+
+    It may be scrambled, for example.
     """
     packets = [survey.by_pid[pid] for pid in pids if pid in survey.by_pid]
     return any(not one.count and one.packets and explain_refusal(one) for one in packets)
@@ -297,8 +315,11 @@ def explain_never_sent(survey: Survey, page: Page, pids: Collection[int],
 
 
 def refuse_unsent(request: Request, survey: Survey, times: Sequence[tuple[int, int]]) -> None:
-    """Raise `NeverSent` if the page is announced but never sent, although a subtitle is expected.
-    If --pid is given, consider only that PID."""
+    """Raise `NeverSent` if the page is announced but never sent.
+
+    Do so only if a subtitle is expected in the recording. If --pid is given, consider only that
+    PID.
+    """
     announced = find_announcements(survey.programmes, request.page)
     named = {pid for announcement in announced for pid in announcement.pids
              if request.pid in (None, pid)}
@@ -309,7 +330,10 @@ def refuse_unsent(request: Request, survey: Survey, times: Sequence[tuple[int, i
 
 
 def find_origin(request: Request, survey: Survey, pid: int) -> int | None:
-    """Return the origin from --start and the first picture of a programme, or from --origin."""
+    """Return the origin from --start and the first picture, or from --origin.
+
+    Return `None` if neither is given.
+    """
     if request.start is not None:
         with contextlib.suppress(NoFirstPicture, Unclear):
             return wrap_pts(find_first_picture(survey, pid).pts - TICKS * read_start_frame(request))
@@ -318,10 +342,13 @@ def find_origin(request: Request, survey: Survey, pid: int) -> int | None:
 
 def refuse_dead_source(request: Request, survey: Survey, packets: Packets,
                 times: Sequence[tuple[int, int]]) -> None:
-    """Raise `NeverSent` if no row of the page is sent before the last TCO, although a subtitle is
-    expected in the recording. `times` has the frames of subtitles with text. Without an origin,
-    consider the whole recording. Do not raise it if no header of the page is sent, since the page
-    may be the wrong one, or if some PES packets can't be read."""
+    """Raise `NeverSent` if no row of the page is sent before the last TCO.
+
+    Do so only if a subtitle is expected in the recording. If the origin is unknown, consider the
+    whole recording. Do not raise it if no header of the page is sent, since the page may be the
+    wrong one, or if some PES packets can't be read. `times` has the TCI and TCO of each subtitle
+    with text.
+    """
     origin, clock = find_origin(request, survey, packets.pid), find_recorded_time(survey, packets)
     if not packets.has_page or not is_all_read(packets) or \
             not is_page_expected(clock, times, origin):
@@ -361,8 +388,10 @@ def find_recorded_time(survey: Survey, packets: Packets) -> tuple[int, int] | No
 
 
 def refuse_other_pid(request: Request, survey: Survey, begin: int, end: int) -> None:
-    """Raise `NeverSent` if the PMT announces the page between two PTS but never sends it on that
-    PID. If --pid is given, do nothing."""
+    """Raise `NeverSent` if the PMT announces the page on a PID that never sends it.
+
+    Consider only announcements between the PTS `begin` and `end`. If --pid is given, do nothing.
+    """
     carriers = {pid for pid, packets in survey.by_pid.items() if packets.has_page}
     announced = [*find_announcements(survey.programmes, request.page)]
     announcement = find_unsent(announced, carriers, begin, end) if request.pid is None else None

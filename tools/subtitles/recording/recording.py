@@ -26,14 +26,12 @@ from ..stream.survey import Survey, survey
 from .notices import Notice, find_announcements, refuse_unsent, find_silent_pids
 
 
-# A recording from a pipe is copied to a file, which is judged when it is complete.
-
 MAX_PAGES = 3  # maximum number of other pages to suggest
-MAX_PIPED = 32_000_000_000  # most bytes to copy from a pipe: two hours of 35 Mbit/s
+MAX_PIPED = 32_000_000_000  # maximum number of bytes to copy from a pipe: two hours at 35 Mbit/s
 
 
 def copy_piped(name: str, path: str, printer: Printer) -> SummedFile:
-    """Copy all bytes from a pipe to a file, and return its size and checksum."""
+    """Copy all bytes from a pipe to a file, which is judged later. Return its size and checksum."""
     source = "standard input" if name == STANDARD else name
     digest, count = hashlib.sha256(), 0
     with open(path, "wb") as file:
@@ -50,17 +48,15 @@ def copy_piped(name: str, path: str, printer: Printer) -> SummedFile:
     return SummedFile(name, count, digest.hexdigest())
 
 
-# The PES header of the first PES packet of a PID
-#
-# In Teletext, a PES header has 45 bytes and a PES packet a multiple of 184 bytes (EN 300 472).
-
-OUTPUT = "/dev/stdout"  # name of standard output for the program
-# PES_header_data_length: its index, the header bytes before those it counts, its Teletext value
+OUTPUT = "/dev/stdout"  # the name of standard output for the program
+# In Teletext, a PES header has 45 bytes (EN 300 472): the `FIXED` bytes up to and including
+# PES_header_data_length, which is at index `LENGTH_AT`, and the `TELETEXT` bytes that it counts.
 LENGTH_AT, FIXED, TELETEXT = 8, 9, 0x24
 
 
 def read_pes_header(program: str, path: str, pid: int, size: int) -> bytes:
-    """Return the fixed part of the first PES header of a PID, from the output of `extract`."""
+    """Return the first nine bytes of the first PES packet of a PID, as `subttx extract` writes it.
+    """
     arguments = [program, "extract", *stream_options(pid, size), "--", path, OUTPUT]
     with subprocess.Popen(arguments, stdin=subprocess.DEVNULL, stdout=subprocess.PIPE,
                           stderr=subprocess.DEVNULL) as call:
@@ -71,16 +67,16 @@ def read_pes_header(program: str, path: str, pid: int, size: int) -> bytes:
 
 
 def check_pes_header(header: bytes, pid: int) -> str:
-    """Return a message if the first PES header of a PID has a wrong length for Teletext; otherwise
-    an empty text."""
+    """Return a message if a PES header has the wrong length for Teletext.
+
+    Otherwise return an empty string.
+    """
     if not header.startswith(START[:3]) or header[LENGTH_AT:FIXED] in (b"", bytes([TELETEXT])):
         return ""
     length, whose = header[LENGTH_AT], f" of {format_pid(pid)}" if pid != PES else ""
     return (f"the PES header{whose} has {FIXED + length} bytes (PES_header_data_length "
             f"{length:02X}), but EN 300 472 requires {FIXED + TELETEXT} ({TELETEXT:02X})")
 
-
-# A recording, read from the output of `subttx survey`
 
 def is_recording(path: str) -> bool:
     """Return whether a file begins like a transport stream or a Teletext PES packet."""
@@ -90,8 +86,10 @@ def is_recording(path: str) -> bool:
 
 
 def refuse_files(request: Request) -> None:
-    """Raise `Unclear` if the subtitle file is missing or is a recording, and `OSError` if the
-    recording is missing."""
+    """Raise `Unclear` if the subtitle file is missing or is a recording.
+
+    Raise `OSError` if the recording is missing.
+    """
     if not os.path.isfile(request.stl_path):
         name = request.stl.removeprefix("./") if request.stl.startswith("./-") else request.stl
         raise Unclear(f"{name or 'an empty name'} does not exist or is not a file")
@@ -102,7 +100,7 @@ def refuse_files(request: Request) -> None:
 
 
 def refuse_stream(survey: Survey, name: str) -> None:
-    """Raise `Stop` or `Unclear` if a file is not a recording that can have Teletext."""
+    """Raise `Stop` or `Unclear` if a file is not a recording that can contain Teletext."""
     head = survey.head
     if not head:
         raise Stop(f"{name} is empty")
@@ -116,14 +114,18 @@ def refuse_stream(survey: Survey, name: str) -> None:
 
 
 def find_unreadable_packets(survey: Survey) -> list[Packets]:
-    """Return the PIDs that have TS packets but no readable PES packets, in order."""
+    """Return the packets of the PIDs without a readable PES packet, in ascending order of the PID.
+    """
     return [packets for _, packets in sorted(survey.by_pid.items())
             if not packets.count and packets.packets]
 
 
 class Recording:
-    """A recording to judge. `packets` are the PES packets of the PID with the page. `path` is the
-    file, or the copy of a recording from a pipe."""
+    """A recording to judge.
+
+    `packets` has the packets of the PID with the page. `path` is the path of the recording, or of
+    its copy if it comes from a pipe.
+    """
 
     def __init__(self, request: Request, command_paths: CommandPaths, names: OutputNames,
                  listener: Listener, times: Sequence[tuple[int, int]] = ()) -> None:
@@ -139,7 +141,7 @@ class Recording:
         self.file: SummedFile | None = None
 
     def read(self, is_summed: bool) -> None:
-        """Read the whole recording with `survey`, and compute its SHA-256 if `is_summed`."""
+        """Read the whole recording with `survey`. If `is_summed` is true, compute its SHA-256."""
         if self.is_piped:
             self.file = copy_piped(self.name, self.path, self.listener.printer)
         summed = BackgroundSum(self.name) if is_summed and not self.is_piped else None
@@ -182,8 +184,10 @@ class Recording:
                       *(self.suggest_call("--pid", f"0x{one.pid:X}") for one in pids))
 
     def refuse_silent(self, carriers: Collection[int]) -> None:
-        """Raise `Unclear` if several programmes announce the page but some never send it: only the
-        operator knows which of them to judge."""
+        """Raise `Unclear` if several programmes announce the page but some never send it.
+
+        Only the operator knows which programme to judge.
+        """
         announced = [*find_announcements(self.survey.programmes, self.request.page)]
         silent = find_silent_pids(announced, carriers)
         if silent and self.request.pes is None:
@@ -194,7 +198,7 @@ class Recording:
                 *(self.suggest_call("--pid", f"0x{pid:X}") for pid in sorted({*carriers} | silent)))
 
     def print_choice(self, packets: Packets, why: str) -> None:
-        """Report the chosen PID and the reason for the choice."""
+        """Report the chosen PID, and the reason for the choice."""
         header = sum(run.length for run in packets.runs_with_pts() if HEADER in run.flags)
         line = f"{format_pid(packets.pid)}: page {self.request.page_name} has a header in " \
             f"{header} of {counted(packets.count, 'PES packet')}, {why}"
@@ -202,12 +206,16 @@ class Recording:
                                               packets.count))
 
     def unreadable_reasons(self) -> list[str]:
-        """Return the reasons why some PIDs can't be read as Teletext, as if they are scrambled."""
+        """Return the reasons why PIDs can't be read as Teletext, for example that they are
+        scrambled."""
         return [words for packets in find_unreadable_packets(self.survey)
                 for words in (explain_refusal(packets), self.header_problem(packets)) if words]
 
     def header_problem(self, packets: Packets) -> str:
-        """Return a message about a wrong first PES header of a PID, or an empty text."""
+        """Return a message if the first PES header of a PID has the wrong length.
+
+        Otherwise return an empty string.
+        """
         if packets.pid != PES and not packets.packets:
             return ""
         header = self.survey.head if packets.pid == PES else read_pes_header(
@@ -231,39 +239,40 @@ class Recording:
         for line in gap_marker_lines(packets):
             self.listener.print_line(line)
 
-    # Properties of the recording
-
     @property
     def is_stream(self) -> bool:
         """Return whether the recording is a transport stream."""
         return bool(self.survey.size)
 
     def stream(self) -> tuple[int, int] | None:
-        """Return the PID and the TS packet size in bytes of a transport stream."""
+        """Return the PID and the TS packet size in bytes, or `None` for a file of PES packets."""
         return (self.packets.pid, self.survey.size or 0) if self.is_stream else None
 
     def program_options(self) -> list[str]:
-        """Return the options for the program to read the recording."""
+        """Return the options with which the program reads the recording."""
         stream = self.stream()
         return stream_options(*stream) if stream else []
 
     @property
     def display_name(self) -> str:
-        """Return the name of the recording as typed, or of the copy if it came from a pipe."""
+        """Return the name of the recording as given, or of its copy if it came from a pipe."""
         if not self.is_piped:
             return self.name
         return self.names.display_path(KEPT_TS if self.is_stream else KEPT_PES)
 
     @property
     def kept_ending(self) -> str | None:
-        """Return the file name ending of the copy to keep: all data from a pipe, or the PES packets
-        of a transport stream. `None` for a PES file, which exists already."""
+        """Return the file name extension of the copy that --keep makes.
+
+        The copy has all data from a pipe, or the PES packets of a transport stream. Return `None`
+        for a file of PES packets, which needs no copy.
+        """
         if self.is_piped and self.is_stream:
             return KEPT_TS
         return KEPT_PES if self.is_piped or self.is_stream else None
 
     def read_kept_data(self) -> Iterator[bytes]:
-        """Yield the bytes for the copy to keep."""
+        """Yield the bytes of the copy that --keep makes."""
         if self.is_piped:
             yield from read_chunks(self.path)
             return
@@ -277,12 +286,17 @@ class Recording:
         yield from read_chunks(pes_path)
 
     def list_losses(self, jumps: Iterable[PTSPair] = ()) -> list[LossPlace]:
-        """Return the places where packets are missing, including announced jumps of the continuity
-        counter, which may hide a loss."""
+        """Return the places where packets are missing.
+
+        Include the announced jumps of the continuity counter, `jumps`, which may hide a loss.
+        """
         return find_loss_places(self.packets, jumps)
 
     def recorded_range(self) -> tuple[int, int] | None:
-        """Return the two PTS between which, by the PCR, all packets of the PID were recorded."""
+        """Return the PTS between which the PCR shows that all packets of the PID were recorded.
+
+        Return `None` if there is no PCR.
+        """
         return find_recorded_range(self.survey, self.packets)
 
     def find_last_time(self) -> int | None:
@@ -304,17 +318,15 @@ class Recording:
                                   "the recording was read up to this point"))
         return notices
 
-    # Messages and suggestions
-
     def other_pids(self) -> list[str]:
-        """Return suggested commands with other PIDs."""
+        """Return the suggested commands with other PIDs."""
         known = [f"0x{pid:X}" for pid, packets in sorted(self.survey.by_pid.items())
                  if self.request.page_name in packets.header_counts]
         return [self.suggest_call("--pid", word)
                 for word in known or ["PID"] * bool(self.survey.by_pid)]
 
     def has_picture(self) -> bool:
-        """Return whether the recording has a first picture for `--start`."""
+        """Return whether the recording has a first picture, which `--start` needs."""
         return self.is_stream and has_first_picture(self.survey, self.packets.pid)
 
     def no_picture_error(self, reason: NoFirstPicture) -> Unclear:
@@ -325,7 +337,10 @@ class Recording:
         return make_qc_command(self.request, self.command_paths, *more)
 
     def other_pages(self, several: Iterable[Packets]) -> Iterator[str]:
-        """Yield suggested commands for the other pages of some PIDs, most headers first."""
+        """Return suggested commands for the other pages on these PIDs.
+
+        The page with the largest number of headers is the first.
+        """
         counts = collections.Counter[str]()
         for one in several:
             counts.update(one.header_counts)
