@@ -26,7 +26,7 @@ from subtitles.common.program import TOP, find_built_program
 from .failures import Mismatch, calling_frame, comparison, explained, lines_of, place_of, shortened
 
 EXAMPLES = os.path.join(TOP, "examples")
-MAX_OF_NAME = 160  # maximum number of characters printed of a check's name
+MAX_OF_NAME = 160  # maximum number of characters of a check's name in a message
 SECONDS = 600  # time limit for a command or a wait, in seconds
 
 
@@ -157,8 +157,9 @@ class Case(unittest.TestCase):
         return done.status, done.out.decode().splitlines()
 
     def program_but(self, when: str, does: str) -> str:
-        """Write a script that runs the shell command `does` if its arguments match the pattern
-        `when`, and then the program under test; return its path."""
+        """Write a script that runs a shell command, then the program under test. Return its path.
+        The command `does` runs only if the script's arguments match the shell pattern `when`.
+        """
         return self.write_program("program", f"#!/bin/sh\ncase $* in {when}) {does} ;; esac\nexec "
                                              f"'{self.bench.program}' \"$@\"\n")
 

@@ -1,4 +1,4 @@
-"""Explain a failed check with the caller's line, both values and their differences."""
+"""Explain a failed check: the line that calls it, both values and their differences."""
 from __future__ import annotations
 
 import ast
@@ -36,7 +36,8 @@ def place_of(frame: FrameType) -> str:
 
 
 def shortened(lines: list[str]) -> str:
-    """Join the lines; replace those after the first MOST lines by their number."""
+    """Join the lines. Replace all lines after the first MOST with a line that gives their number.
+    """
     more = [f"  .. {len(lines) - MOST} more lines"] * (len(lines) > MOST)
     return "\n".join([*lines[:MOST], *more])
 
@@ -95,6 +96,6 @@ def explained(frame: FrameType, helper: str = "must") -> str:
                 return f"{text}\n" + (comparison(left, right) if kind else shortened(
                     [f"  left:     {left!r}", f"  right:    {right!r}"]))
             return text
-    except Exception as error:  # raised by the second evaluation
+    except Exception as error:  # raised when the condition is evaluated again
         return f"  not explained: {type(error).__name__}: {error}"
     return ""

@@ -50,7 +50,11 @@ class JudgedPair(NamedTuple):
         return decide(self.verdict.collect_grounds()._replace(has_clock=True)).word
 
     def is_timed(self) -> bool:
-        """Return whether qc printed `accepted` or `waived`, or returned 0, only with a clock."""
+        """Return whether a clock was known, or qc claimed nothing that needs a clock.
+
+        Without a clock, qc must print neither `accepted` nor `waived`. It must not return 0, unless
+        --relative allows it.
+        """
         request, printed = self.verdict.request, (
             self.verdict.word, self.result["verdict"], self.said[-1].split(" ")[0])
         return request.has_clock or not {"accepted", "waived", "waived:"} & {*printed} and (
@@ -62,11 +66,11 @@ class JudgedPair(NamedTuple):
         return [line[2:] for line in self.said if line.startswith("! ")]
 
     def lines(self, begin: str) -> list[str]:
-        """Return the printed lines that begin with a prefix, without this prefix."""
+        """Return what follows `begin` in each printed line that begins with it."""
         return [line[len(begin):] for line in self.said if line.startswith(begin)]
 
     def parts(self, *names: str) -> list[tuple[Any, ...]]:
-        """Return some members of each part in the JSON result."""
+        """Return the given members of each part in the JSON result."""
         return [tuple(part[name] for name in names) for part in self.result["parts"]]
 
 
@@ -102,7 +106,7 @@ def judge_files_with(program: str, *words: str, recorder: LineRecorder | None = 
         report_pair(verdict, recorder, files)
         result = json.loads("".join(write_result(verdict, ProgramInfo("1", "0" * 64, None))))
         listed = [line for part in verdict.parts for line in part.check_output.read_lines()]
-        # A recording read from a pipe is named by its stored copy.
+        # A recording read from a pipe is listed with the name of its stored copy.
         known_files = {request.stl, request.recording, os.devnull}
         if pair.recording:
             known_files.add(pair.recording.display_name)

@@ -118,7 +118,9 @@ def markup_text(*values: Value) -> str:
 
 
 def shell_script(lines: list[str], status: int) -> str:
-    """Return a shell command that prints lines, then exits with `status`, or ends by a signal if
-    `status` is negative."""
+    """Return a shell command that prints lines and exits with `status`.
+
+    If `status` is negative, the command kills itself with this signal instead.
+    """
     printed = "".join(f"echo '{line}'; " for line in lines)
     return printed + (f"exit {status}" if status >= 0 else f"kill {status} $$")

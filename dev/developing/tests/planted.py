@@ -62,8 +62,8 @@ def is_rare(chance: random.Random) -> bool:
     return chance.randrange(20) == 0
 
 
-# All inserters: one PES packet per frame, a few frames without a PES packet, or two PES packets per
-# frame, each with repeats that erase or keep the page.
+# All inserters. They send one PES packet in each frame, one in most frames, or two in each frame.
+# With each of these, headers of repeated pages erase the page or keep it.
 INSERTERS = [Inserter(name, begins, ends, 12 if keeps else 25, keeps, each, is_left_out)
              for name, (begins, ends) in SHARES.items() for keeps in (False, True)
              for each, is_left_out in ((1, lambda chance: False), (1, is_rare),
@@ -71,8 +71,9 @@ INSERTERS = [Inserter(name, begins, ends, 12 if keeps else 25, keeps, each, is_l
 
 
 class Fault(NamedTuple):
-    """A fault planted in the subtitle with the index `place`: its kind, the frames by which a cue
-    moves, and the index of a subtitle with which the text is exchanged.
+    """A fault planted in the subtitle with the index `place`.
+
+    Depending on `kind`, a cue moves by `frames`, or the text is that of the subtitle `other`.
     """
 
     kind: str
@@ -172,7 +173,7 @@ class Programme:
         return found
 
     def sent(self) -> Sent:
-        """Return the transmission, with repeats and with PES packets without Teletext."""
+        """Return the transmission: pages, repeated pages, and PES packets without Teletext."""
         changes, inserter, chance = self.changes(), self.inserter, self.chance
         begin, end = self.times[0][0] - BLANK_FRAMES, max(max(changes),
                                                           self.times[-1][1]) + BLANK_FRAMES
@@ -202,12 +203,12 @@ class Programme:
                              rf'(, ".*",)? {SENTENCES[fault.kind]}\b', sentence))
 
     def time(self, place: int) -> str:
-        """Return the TCI of the subtitle with an index, as a time code."""
+        """Return the TCI of the subtitle with the index `place` as a time code."""
         return time_of(self.times[place][0])
 
 
 def with_character(page: Sequence[bytes]) -> list[bytes]:
-    """Replace the last letter or digit in a page's first row by an X."""
+    """Return the page with an X in place of the last letter or digit in its first row."""
     first = page[0]
     at = max(at for at in range(2, 42) if chr(first[at] & 0x7F).isalnum())
     return [first[:at] + bytes([add_odd_parity(0x58)]) + first[at + 1:], *page[1:]]
@@ -236,7 +237,7 @@ KINDS = (*SENTENCES, EXCHANGED)
 
 
 def plant_fault(case: Case, number: int) -> Programme:
-    """Return the random programme for a seed, with one planted fault."""
+    """Return the random programme with the seed `number`, and plant a fault in it."""
     chance = random.Random(number)
     made = Programme(case, number, chance.choice(INSERTERS))
     assert made.plant(chance.choice(KINDS))

@@ -62,7 +62,7 @@ def in_process(entry: Any, words: list[str]) -> tuple[int, str, str]:
 
 @functools.lru_cache(maxsize=4)  # several files often have the same text
 def without_volatile(text: str, program: str) -> str:
-    """Replace dates, times, temporary paths and programs in a text by fixed words."""
+    """Return a text with fixed words in place of dates, times, temporary paths and programs."""
     if text.startswith("{"):
         known = json.loads(text)
         for one in (known, *known.get("pairs", ())):
@@ -93,7 +93,7 @@ def measure_pair(recording: str, program: str) -> str:
     return f"measured {status}\n{out}{reported}"
 
 
-# Named runs use pairs in the folder `in`. During `claimed`, another process has claimed a pair.
+# Named runs use pairs in the folder `in`. Before the run `claimed`, another process claims a pair.
 PAIRS = [("a", "hello", "hello.pes"), ("b", "story", "five-faults.pes"),
          ("c", "accent", "hello.pes"), ("d", "hello", "recording.ts")]
 TEXTS = {"house": "--every 25\n--within 1 # frame\n", "wrong": "--every 25\n--every 50\n",
@@ -148,7 +148,7 @@ def in_folder() -> Iterator[None]:
 
 
 def schema_violations(known: Any) -> list[str]:
-    """Return the schema violations in a JSON result that `results.violations` finds."""
+    """Return the violations of the schema that `results.violations` finds in a JSON result."""
     return [*violations(known, schema())]
 
 

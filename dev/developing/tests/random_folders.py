@@ -48,12 +48,12 @@ class Folder:
         self.write_list()
 
     def some_options(self) -> list[str]:
-        """Return up to two random options; rarely, they contradict each other."""
+        """Return up to two random options, which occasionally contradict each other."""
         found = self.chance.sample(OPTIONS, self.chance.choice((0, 0, 1, 1, 2)))
         return [word for one in found for word in one.split()]
 
     def put_pair(self, name: str) -> None:
-        """Add a subtitle file or a recording or both; rarely, add a second recording."""
+        """Add a subtitle file or a recording or both, and occasionally a second recording."""
         stl, recording = self.chance.choice(PAIRS)
         for source in filter(None, (stl, recording)):
             ending = source.rpartition(".")[2]
@@ -159,7 +159,7 @@ class Folder:
                         yield path, self.plainly(file.read())
 
     def plainly(self, text: str) -> str:
-        """Replace dates, times and paths in a file's text by fixed words."""
+        """Return a file's text with fixed words in place of dates, times and paths."""
         try:
             text = without_volatile(text, self.program)
         except (ValueError, TypeError, AttributeError):
@@ -168,7 +168,10 @@ class Folder:
 
 
 def calls_in(number: int, program: str) -> list[CallOutput]:
-    """Run qc several times in the random folder of a seed; return the output of each run."""
+    """Run qc several times in a random folder, and return the output of each run.
+
+    `number` is the seed of the folder.
+    """
     found = []
     with in_folder():
         folder = Folder(number, program)

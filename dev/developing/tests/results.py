@@ -19,14 +19,15 @@ from .bench import Case
 SCHEMA = os.path.join(TOP, "docs", "verdict.schema.json")
 KINDS: dict[str, Any] = {"object": dict, "array": list, "string": str, "null": type(None),
                          "boolean": bool, "integer": int, "number": (int, float)}
-# The keywords used in the schema, and the keywords for limits by type.
+# The keywords that occur in the schema, and for each type the keywords that limit its values.
 WORDS = frozenset("""description $schema $comment title definitions $ref type const enum anyOf oneOf
     allOf required additionalProperties properties items minItems maxItems pattern minLength
     maxLength minimum maximum""".split())
 ENDS: dict[type, tuple[str, str]] = {
     str: ("minLength", "maxLength"), list: ("minItems", "maxItems"),
     int: ("minimum", "maximum"), float: ("minimum", "maximum")}
-SOME = 20  # number of items validated from the start of a list; then each 50th
+# Number of items that are validated at the start of a list. After them, every 50th item is.
+SOME = 20
 REQUEST = {
     "stl": "one.stl", "recording": "one.ts", "page": "888", "every": 250, "option": "english",
     "origin": 0, "complete": True, "pid": None, "allow_lost": False, "severity": None, "breaks": 0,
@@ -116,7 +117,11 @@ def is_of_kind(value: Any, kind: str) -> bool:
 
 
 def choice_errors(known: dict[str, Any], lines: Sequence[str]) -> Iterator[object]:
-    """Yield choices in a result that were not printed, and chosen values that are not listed."""
+    """Yield the faults in the choices of a result.
+
+    These are choices that qc did not print, values that are not listed as choices, and choices of
+    options that the user gave.
+    """
     printed = {line.removeprefix("qc: ").removeprefix("! ") for line in lines}
     chosen = {(one["option"], one["value"]) for one in known["choices"]}
     own = {(one["option"], one["value"], one["part"]) for one in known["choices"]}

@@ -21,7 +21,7 @@ from .transmissions import start_feed
 SECOND_PID = 0x102
 TEXTS = [b"Good evening.", b"Here is the news.", b"It costs \xa35, or \xa47.",
          b"Thank you, Anne.", b"No!", b"Yes."]
-Sent = list[tuple[int, bytes]]  # PTS and PES packets
+Sent = list[tuple[int, bytes]]  # pairs of a PTS and a PES packet
 Text = tuple[bytes, ...]  # the lines of a subtitle
 
 
@@ -74,8 +74,7 @@ class Scenario:
         return box_line(self.chance.choice(TEXTS), self.chance.choice((b"", b"", b"\x03")))
 
     def random_subtitles(self) -> list[Written]:
-        """Return random subtitles, rarely with an unsupported character or a TCO equal to the TCI.
-        """
+        """Return random subtitles. A few have an unsupported character, or a TCO equal to TCI."""
         chance, found = self.chance, list[Written]()
         # Subtitle numbers that the file usually does not have.
         of_none, empty = (chance.randrange(200) for _ in range(2))
@@ -166,8 +165,12 @@ class Scenario:
                 for at, (pts, one) in enumerate(sent)]
 
     def split(self, sent: Sent, first: int, last: int, kind: int) -> Sent:
-        """Send the header and the other packets of each PES packet apart, or delete the first or
-        last packet of some PES packets."""
+        """Split PES packets, or remove Teletext packets from them.
+
+        If `kind` is 10, send the header and the other Teletext packets in separate PES packets. If
+        it is 11 or 12, delete the first or the last Teletext packet in the PES packets `first` to
+        `last - 1`.
+        """
         later = self.chance.choice((TICKS, TICKS, TICKS // 2, 3 * TICKS))
         found: Sent = []
         for at, (pts, one) in enumerate(sent):
@@ -183,7 +186,7 @@ class Scenario:
         return found
 
     def add_break(self, sent: Sent) -> Sent:
-        """Insert a break before the 13th subtitle by a shift of all later PTS."""
+        """Insert a break before the 13th subtitle by adding an offset to all later PTS."""
         middle = self.origin + TICKS * (self.times[12][0] - 2)
         later = self.chance.choice((300, 700, 700, -5000)) * TICKS
         self.words += ["--breaks", "1"] if self.has_chance(90) else []

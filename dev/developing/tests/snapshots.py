@@ -24,7 +24,7 @@ from .bench import BENCH
 FOLDER = os.path.join(TOP, "dev", "snapshots")
 HEAD, TAIL = 16, 4  # number of lines stored from the start and end of a long list
 OF_PAGE = 60  # number of lines stored from the start of a report
-OF_FOLDER = 6  # number of lines stored from the start of each file in a run on many pairs
+OF_FOLDER = 6  # number of lines stored from the start of each file if a run has many pairs
 MOST = 12  # maximum number of different changes in a failure message
 WIDTH = 300  # maximum number of characters stored from a line
 OMITTED = re.compile(r"date$|seconds$|^files_at_start\.|^inputs\.|^commands\b|^omitted\.|^format$")
@@ -35,7 +35,10 @@ def sha(text: str) -> str:
 
 
 def shortened(lines: Iterable[str], head: int = HEAD) -> list[str]:
-    """Replace the middle lines of a long list by a line with their number and hash."""
+    """Return the lines of a list.
+
+    Replace the middle of a long list with a line that gives its number of lines and its hash.
+    """
     lines = [part if len(part) <= WIDTH else f"{part[:WIDTH]}.. {sha(part)}"
              for line in lines for part in line.splitlines()]
     between = lines[head:-TAIL]
@@ -59,7 +62,7 @@ def members(value: Any, path: str = "") -> Iterator[str]:
 
 
 def json_text(text: str, printed: str, head: int) -> list[str]:
-    """Return a line for each member of a result that was not printed, and the result's hash."""
+    """Return a line for each value in a JSON result that is not in `printed`, and a hash of all."""
     found = json.loads(text.replace(" SECONDS,", ' "seconds": 0,'))  # see `without_volatile`
     lines = [line for line in members(found) if "=" not in line
              or line.partition(" = ")[2].strip('"') not in printed]
@@ -99,7 +102,7 @@ def call_text(output: random_calls.CallOutput, head: int = HEAD) -> list[str]:
 
 
 def folder_text(number: int) -> list[str]:
-    """Return the lines stored for all runs of qc in a random folder."""
+    """Return the lines to store for all runs of qc in the random folder with the seed `number`."""
     return [line for printed in random_folders.calls_in(number, BENCH.program)
             for line in call_text(printed, OF_FOLDER)]
 
@@ -161,7 +164,10 @@ def change_of(before: str, after: str) -> Change:
 
 
 def changes_in(before: list[str], after: list[str]) -> Iterator[tuple[Change, str, str]]:
-    """Yield each change between two texts with the old and new line ("" if it has none)."""
+    """Yield each change between two texts, with the old and the new line.
+
+    The old line of an added line, and the new line of a deleted line, is an empty string.
+    """
     matcher = difflib.SequenceMatcher(None, before, after, autojunk=False)
     for kind, first, end, start, stop in matcher.get_opcodes():
         if kind == "replace" and end - first == stop - start:
@@ -205,7 +211,11 @@ def summary(changed: dict[str, list[tuple[Change, str, str]]]) -> list[str]:
 
 
 def compare(group: str, make: Callable[[str], list[str]], is_updated: bool) -> str:
-    """Compare all runs in a group with their stored lines; return a message on changes, or ""."""
+    """Compare all runs in a group with their stored lines.
+
+    Return a message about the changes, or an empty string. If `is_updated` is true, store the lines
+    instead.
+    """
     before = stored(group)
     after = {name: make(name) for name in before}
     if is_updated:

@@ -95,7 +95,7 @@ class Maker:
         return made
 
     def taken_of(self, pid: int) -> list[Packet]:
-        """Return the packets made since the last call, each labelled with `pid`."""
+        """Return the TS packets made since the last call, each with the PID `pid`."""
         return [Packet(pid, one) for one in self.taken()]
 
     def put_tables(self) -> None:
@@ -168,9 +168,11 @@ def with_pictures(pes: bytes, first: int, kind: int = MPEG_2, picture: bytes = b
 
 
 class Programme(NamedTuple):
-    """A programme with one picture per frame: the PES packets of each Teletext PID, the PTS of the
-    first picture, the video and PCR PID, the frames with a random_access_indicator, and video
-    delays in ticks with their first frames.
+    """A programme with one picture per frame.
+
+    `pes` contains the PES packets of each Teletext PID. The PID `video` carries pictures from the
+    PTS `first` on, and PCRs. Pictures of the frames `flagged` have a random_access_indicator.
+    `later` contains frames, each with the ticks by which pictures from this frame on are delayed.
     """
 
     pes: Mapping[int, Sequence[bytes]]
@@ -241,9 +243,11 @@ class Packet(NamedTuple):
 
 def stream_of(pes: list[bytes], begin: int, end: int, rate: int = 200, pid: int = TELETEXT_PID,
               before: Maker | None = None) -> tuple[list[Packet], Maker]:
-    """Make a transport stream from PTS `begin` to `end` with PES packets of Teletext, `rate` video
-    and audio packets per second, a PCR each 40 ms, and tables twice a second. Continue the
-    continuity counters of `before`."""
+    """Return the packets of a transport stream from PTS `begin` to `end`, and their maker.
+
+    The stream has PES packets of Teletext, `rate` video and audio packets per second, a PCR every
+    40 ms, and tables twice a second. It continues the continuity counters of `before`.
+    """
     maker = Maker(components(pid=pid))
     maker.counters = before.counters if before else maker.counters
     made: list[Packet] = []
@@ -278,9 +282,11 @@ FILLERS = {pid: [Packet(pid, make_head(pid, 0, PAYLOAD | counter) + b"\x55" * (P
 
 
 class Shape(NamedTuple):
-    """The parameters of a transport stream: TS packets per second, ticks between PCRs, whether it
-    has null packets, the frames without a PCR, the frame and ticks of a clock jump, and whether the
-    jump is announced.
+    """The parameters of a transport stream.
+
+    The stream has `rate` TS packets per second, and PCRs at intervals of `every` ticks. `has_null`
+    adds null packets. `pause` contains the frames without a PCR. `jump` contains the frame and the
+    ticks of a clock jump, which is announced if `is_announced` is true.
     """
 
     rate: int = 1000
@@ -329,7 +335,8 @@ def announce_jump(data: bytes) -> bytes:
 
 
 def teletext_places(made: Sequence[Packet], pts: int) -> list[int]:
-    """Return the indexes of Teletext packets, beginning at the PES packet with a PTS."""
+    """Return the indexes of the Teletext packets, beginning with the PES packet that has this PTS.
+    """
     begin = encode_pts(pts)
     first = next(at for at, one in enumerate(made)
                  if one.pid == TELETEXT_PID and begin in one.data[4:40])
@@ -338,8 +345,10 @@ def teletext_places(made: Sequence[Packet], pts: int) -> list[int]:
 
 def with_loss(made: Sequence[Packet], pts: int, count: int, is_announced: bool = False
               ) -> list[Packet]:
-    """Delete `count` Teletext packets, beginning at a PTS; insert a discontinuity_indicator if the
-    loss is announced."""
+    """Delete `count` Teletext packets, beginning with the PES packet that has this PTS.
+
+    If the loss is announced, insert a packet with a discontinuity_indicator.
+    """
     missing = teletext_places(made, pts)[:count]
     field = bytes([PACKET - 5, 0x80]).ljust(PACKET - 4, b"\xff")
     says = Packet(TELETEXT_PID, make_head(TELETEXT_PID, 0, ADAPTATION_ALONE) + field)
@@ -348,7 +357,7 @@ def with_loss(made: Sequence[Packet], pts: int, count: int, is_announced: bool =
 
 
 def delete_between(made: list[Packet], first: int, count: int) -> list[Packet]:
-    """Delete all packets from the Teletext packet `first` up to the `count`-th packet after it."""
+    """Delete the packets from Teletext packet `first` to before Teletext packet `first + count`."""
     own = [at for at, one in enumerate(made) if one.pid == TELETEXT_PID]
     return made[:own[first]] + made[own[first + count]:]
 
@@ -361,10 +370,10 @@ Carried = Callable[[int], Sequence[tuple[int, bytes]]]
 def stream_by_plan(pes: Sequence[bytes], plan: Sequence[tuple[int, int]],
                    carried: Carried | None = None,
             descriptor: bytes = teletext_descriptor(), ahead: int | None = AHEAD) -> bytes:
-    """Make a transport stream whose Teletext moves to other PIDs.
+    """Return a transport stream whose Teletext moves to other PIDs.
 
-    `plan` lists numbers of PES packets, each with the PID that the PMT names from this packet on.
-    `carried` may put PES packets on other PIDs. PCRs precede PES packets by `ahead` ticks.
+    `plan` contains indexes of PES packets, each with the PID that the PMT names from this packet
+    on. `carried` may put PES packets on other PIDs. PCRs precede PES packets by `ahead` ticks.
     """
     maker, pid = Maker([]), 0
     for number, one in enumerate(pes):

@@ -43,11 +43,11 @@ def tests_of(name: str) -> list[str]:
 
 def chosen(functions: Collection[str], classes: Mapping[str, Called],
            near: Collection[str] = (), standing: Collection[str] = ()) -> list[str]:
-    """Choose test classes so that each function is called by `TIMES` of them, or by all if there
-    are fewer.
+    """Choose test classes so that `TIMES` of them call each function.
 
-    The classes in `standing` are always chosen. Then choose the class with the most missing
-    functions per run time, first from `near`, until no function is missing.
+    If fewer classes call a function, choose all of these. The classes in `standing` are always
+    chosen. Others are chosen one by one, first from `near`, until no function is missing: always
+    the class that calls the largest number of missing functions for its run time.
     """
     wanted = {name: min(TIMES, sum(name in one.functions for one in classes.values()))
               for name in functions}
@@ -74,8 +74,8 @@ def lines(classes: Mapping[str, Called], kinds: Collection[Type[object]],
     """Yield the new lines of the table.
 
     A module keeps its previous test classes if they still exist, since some of them run it in
-    another process. Other classes are chosen by the functions that they call, first those that
-    import the module. The tests of a script are found by its name in their source.
+    another process. More classes are chosen by the functions that they call. Classes that import
+    the module are preferred. The tests of a script are found by its name in their source.
     """
     names = {name_of(one) for one in kinds}
     standing = {module: {*tests} & names for module, tests in before.items()}

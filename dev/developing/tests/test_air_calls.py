@@ -151,7 +151,8 @@ class Calls(Feeds):
                 self.path("out"), "-p", self.bench.program, *words]
 
     def spread(self, begin: float, end: float) -> None:
-        """Give the segments names from `begin` on, and the modification time `end`."""
+        """Rename the segments: the first begins at `begin`. Set their modification times to `end`.
+        """
         names = sorted(name for name in os.listdir(self.path("segments")) if name.endswith(".ts"))
         for number, name in enumerate(names):
             path = self.path(f"segments/{segment_name(begin + number)}")

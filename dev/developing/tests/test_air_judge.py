@@ -23,8 +23,11 @@ OTHER = NAME.replace("one", "two")
 
 
 class Trial(NamedTuple):
-    """A test case: recorded and missing seconds, the actual transmission, the expected verdict, its
-    time in seconds after the scheduled end, and its reason."""
+    """A test case: what is recorded and sent, and the expected verdict.
+
+    All times are in seconds. `missing` contains lost parts of the recording. The verdict is due
+    `after` seconds after the scheduled end, with this reason.
+    """
 
     recorded: tuple[int, int]
     missing: tuple[tuple[int, int], ...]
@@ -94,7 +97,7 @@ class Judged(Air):
         return judge
 
     def recorded_so_far(self, folder: str, begin: float, end: float) -> list[Segment]:
-        """Return the segments between two times, as far as they have been recorded by now."""
+        """Return the segments between two times that have been recorded so far."""
         now = DAY + self.now - self.lag
         found = segments_between(folder, begin, min(end, now))
         return [one._replace(end=min(one.end, now)) for one in found]
@@ -270,7 +273,7 @@ class Judged(Air):
             self.write(f"work/{NAME}.{ending}", b'{"verdict": "relative"}')
         found = outcome(NAME, "relative", "relative")
         assert found.result
-        found.result["request"] = {}  # the result of a judged programme
+        found.result["request"] = {}  # contained in the result of a judged programme
         checker.check = lambda *_: found  # type: ignore
 
         def write(path: str, is_stored: bool) -> contextlib.AbstractContextManager[BinaryIO]:

@@ -17,10 +17,11 @@ Lost = Sequence["tuple[int, int]"]
 
 
 class Day(NamedTuple):
-    """A random day: lines of the schedule, the scheduled and actual times of each programme, lost
-    parts of the feed, the seconds for which segments are kept, and a time without a judge.
+    """A random day. All times are in seconds.
 
-    A loss of length 0 stands for a restart of the recorder. All times are in seconds.
+    `times` and `sent` give the scheduled and the actual times of each programme. `lost` contains
+    lost parts of the feed; a length of 0 stands for a restart of the recorder. Segments are deleted
+    after `kept` seconds. No judge runs during `away`.
     """
 
     lines: list[str]
@@ -121,7 +122,7 @@ class Days(Air):
                     first <= begin and end <= last for first, last in gaps), gaps)
 
     def delete_segment(self, begin: int) -> None:
-        """Delete the segment that begins at a second, if it exists."""
+        """Delete the segment that begins at the second `begin`, if it exists."""
         for is_new in (False, True):
             path = self.path(f"segments/{segment_name(DAY + begin, is_new)}")
             if os.path.exists(path):
@@ -129,7 +130,7 @@ class Days(Air):
 
 
 def merge(lost: Lost) -> list[tuple[int, int]]:
-    """Merge losses that overlap or adjoin."""
+    """Return the losses in order. Losses that overlap or adjoin are merged."""
     found = list[tuple[int, int]]()
     for first, last in sorted(lost):
         if found and first <= found[-1][1]:

@@ -61,7 +61,7 @@ def shown(time: float | None) -> str:
 
 class Lines(Air):
     def read_lines(self, text: str) -> list[str]:
-        """Parse a schedule; return a line for each programme, and then the faults."""
+        """Parse a schedule. Return a line for each programme, followed by the faults."""
         schedule = read_schedule(self.write("schedule", text.encode()), self.args())
         printed = [f"{one.name} {shown(one.begin)} {shown(one.end)}" for one in schedule.programmes]
         return printed + [*schedule.faults]

@@ -32,7 +32,7 @@ NAMES = {
 }
 
 # Segments as begin-end, with ! if their names report a possible loss before them; the longest
-# allowed pause; the expected stretches without losses.
+# allowed pause; and the expected intervals without losses.
 STRETCHES = {
     "none": ("", 2, ""),
     "the clock was set back in one": ("10-5 12-20 20-30", 2, "10-30"),
@@ -98,7 +98,10 @@ class Segments(Air):
                 self.check(f"{name}, {size} bytes a packet", found, expected)
 
     def stretches_of(self, text: str, pause: float, *data: bytes) -> str:
-        """Write segments with these times and contents, and return the stretches found in them."""
+        """Write segments with the times in `text` and the contents `data`.
+
+        Return the intervals between losses. A gap of up to `pause` seconds is not a loss.
+        """
         self.delete_all("segments")
         for number, word in enumerate(text.split()):
             begin, end = map(float, word.strip("!").split("-"))
@@ -174,7 +177,7 @@ class Recorded(Air):
                 for begin, name in names_in(self.path("segments"))]
 
     def are_new(self) -> list[bool]:
-        """Return for each segment whether its name reports a possible loss before it."""
+        """Return, for each segment, whether its name reports a possible loss before it."""
         return ["-new" in name for _, name in names_in(self.path("segments"))]
 
     def test_writes_each_byte_into_the_segment_of_its_time(self) -> None:

@@ -255,11 +255,12 @@ class ForkedPairs(Case):
             kept = ["-o", call.out] if call.out else ["--json", call.json or ""]
             words = [f"--name={call.name}", *["--claimed"] * call.is_claimed, *kept,
                      *["--keep"] * call.is_kept, "-p", call.program or "", *call_arguments(request)]
-            # The parent process detects the end of this process by an inherited file.
+            # The parent process detects the end of this process by a file descriptor that it
+            # inherits.
             for file in os.listdir("/proc/self/fd"):
                 with contextlib.suppress(OSError):
                     os.set_inheritable(int(file), True)
-            signal.signal(signal.SIGTERM, signal.SIG_DFL)  # deliver earlier signals
+            signal.signal(signal.SIGTERM, signal.SIG_DFL)  # let a pending signal end the process
             os.execv(path, [path, *words])
 
         asking = mock.patch.object(batch, "judge_forked_pair", execute)
@@ -271,7 +272,7 @@ class ForkedPairs(Case):
         self.calls = PairRunner(self.command_paths, self.path("temporary"), self.path("out"), False)
 
     def item(self, kind: str, name: str = "one", *words: str) -> BatchItem:
-        """Return a pair whose subtitle file determines how the script `CALL` ends."""
+        """Return a pair whose subtitle file contains `kind`, which tells `CALL` how to end."""
         stl = self.write(f"{name}.stl", kind.encode())
         return BatchItem(name, request_for(stl, self.path("one.ts"), *words), None)
 
@@ -443,7 +444,7 @@ class ForkedPairs(Case):
         items, taken = [self.item("accepted", f"name{at}") for at in range(3)], list[Row]()
 
         def are_over() -> bool:
-            running = self.calls.running  # empty if all ended before
+            running = self.calls.running  # empty if all processes have ended
             return all(os.path.exists(self.calls.result_path(item)) for item in items) and (
                 not running or len(wait_for_any(running, SECONDS)) == len(running))
 

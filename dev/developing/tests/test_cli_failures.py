@@ -36,8 +36,8 @@ case "$*" in
 esac
 """
 EMPTY = ["refused 60 Empty", "1 faults"]
-# Output of `check`, with the end of the script that makes it valid for a subtitle file alone and
-# for a recording (`None` if it is always invalid).
+# Output of `check`, and how the script must end to make this output valid, for a subtitle file
+# alone and for a recording. `None` means that no end makes the output valid.
 ANSWERS: dict[str, tuple[list[str], str | None, str | None]] = {
     "accepted": ([ACCEPTED], None, "exit 0"), "no PES packet": (EMPTY, "exit 1", "exit 1"),
     "a fault of the subtitle file": (["refused 50 Character block 1 at 0", "1 faults"], "exit 1",
@@ -62,7 +62,7 @@ ENDS = ("exit 0", "exit 1", "exit 2", "kill -9 $$")
 
 
 class Ended(NamedTuple):
-    """The exit status, output and error output of a run of qc, without the note on the pace."""
+    """The exit status, output and error output of qc, without the note FEW."""
 
     status: int
     printed: list[str]
@@ -131,7 +131,7 @@ class Programs(CallCase):
                 self.fake_program(*lines, then=end), "--json", "one.json"))
 
     def check_judged(self, name: str, status: int, done: Ended) -> None:
-        """Check the status of a run of qc and its JSON result."""
+        """Check that a run of qc has this exit status, and that its JSON result agrees."""
         known = self.object()
         with self.subTest(name):
             self.assertEqual((done.status, known["status"], known["line"] is None),
@@ -262,7 +262,7 @@ class UsageErrors(CallCase):
 
 class Bugs(CallCase):
     def check_failing(self, place: str, error: Exception) -> None:
-        """Check a run of qc in which a function raises an error."""
+        """Check that qc is not judged, with a message, if the function `place` raises `error`."""
         if os.path.exists(self.path("one.json")):
             os.unlink(self.path("one.json"))
         with mock.patch(f"subtitles.{place}", side_effect=error):

@@ -114,7 +114,7 @@ class Installation(Case):
         os.makedirs(self.path("shared/share/man/man1"))
         self.write("shared/bin/subttx-own", b"of somebody else")
         self.tool("install", "-p", self.bench.program, "shared")
-        self.tool("install", "-p", self.bench.program, "shared")  # install again over it
+        self.tool("install", "-p", self.bench.program, "shared")  # replace the first installation
         self.write("shared/share/man/other", b"")
         os.symlink("../lib/subttx/tools/older", self.path("shared/bin/subttx-older"))
         done = self.tool(*tool, "shared")
@@ -310,7 +310,7 @@ def write_slowly(case: Case, name: str) -> float:
 
 
 def rename_example(case: Case, name: str, of: str) -> None:
-    """Create a copy of an example under its final name in one step."""
+    """Copy an example so that the final name appears only with the complete contents."""
     os.rename(case.write("whole", example_bytes(of)), case.path(name))
 
 

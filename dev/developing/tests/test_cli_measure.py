@@ -34,8 +34,8 @@ ENGLISH = BY_WORD["english"]
 GERMAN_HEADER = make_packet(0, 0, bytes([8, 8, 0, 8, 0, 8, 1, 8]), b" " * 32)
 GERMAN_KEEPING = make_packet(0, 0, bytes([8, 8, 0, 0, 0, 8, 1, 8]), b" " * 32)
 KINDS = {"missing": b"", "late": b"", "keeping": KEEPING_HEADER, "german": GERMAN_HEADER}
-# Subtitles (begin, end, text); changes of the page; first and last received frame; the expected
-# delays of in-cues and of out-cues; the expected early cues and missing subtitles.
+# Columns: subtitles (begin, end, text); page changes; first and last received frame; expected
+# delays of in-cues; expected delays of out-cues; expected early cues and missing subtitles.
 ONE, TWO = (100, 150, "a"), (200, 250, "b")
 Shown = tuple[int, int, str]
 ROWS: list[tuple[list[Shown], dict[int, str], tuple[int, int], list[int], list[int], list[str]]] = [
@@ -61,7 +61,7 @@ ROWS: list[tuple[list[Shown], dict[int, str], tuple[int, int], list[int], list[i
     ([ONE, (150, 200, "b")], {100: "a", 152: "b", 200: ""}, (0, 999), [0, 2], [0], []),
     ([ONE, (151, 200, "b")], {100: "a", 150: "", 152: "b", 200: ""}, (0, 999), [0, 1], [0, 0], []),
     ([ONE, (150, 200, "a")], {100: "a", 201: ""}, (0, 999), [0], [1], []),
-    # If a subtitle is erased for a while, its last end counts, within a limit.
+    # If a subtitle is erased and sent again, its last end counts, within a limit.
     ([ONE], {100: "a", 110: "", 120: "a", 150: ""}, (0, 999), [0], [0], []),
     ([ONE], {100: "a", 200: ""}, (0, 999), [0], [50], []),
     ([ONE], {100: "a", 150: "", 200: "a", 210: ""}, (0, 999), [0], [60], []),
@@ -201,7 +201,7 @@ class Parts(Case):
                       len(found.paces) == 2 and len(found.sendings) == 24, found)
 
 
-SEEDS = 20  # number of seeds in the gate
+SEEDS = 20  # number of seeds in an automatic test run
 ACCEPTED = "# By this profile none of these recordings is refused."
 
 

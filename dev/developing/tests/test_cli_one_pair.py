@@ -423,7 +423,7 @@ class Pages(Case):
             self.must("outside", listed.count("3 TS packets lost, outside") == count, listed)
         scope = markup_text(report_page.scope_section(verdict))
         self.must("scope", "00:00:00:00 to 00:00:05:24, " in scope, scope)
-        verdict.request = request_for("piped.stl", "one.pes")  # a pipe has a stored copy
+        verdict.request = request_for("piped.stl", "one.pes")  # a pipe is judged by its stored copy
         verdict.request.kept_stl = example("story.stl")
         self.must("a pipe", "Programme" in scope and "piped.stl" in
                   markup_text(report_page.scope_section(verdict)), scope)

@@ -214,7 +214,7 @@ class SubtitlePipes(Case):
             name = self.write("one.stl", data)
             of_file = self.qc(name, *words, "-o", self.path("out"))
             known = json.loads(self.read("x.json"))
-            pipe = self.path("pipe/one.stl")  # named like the file
+            pipe = self.path("pipe/one.stl")  # has the same name as the file
             shutil.rmtree(os.path.dirname(pipe), ignore_errors=True)
             os.mkdir(os.path.dirname(pipe))
             write_pipe(self, data, pipe)

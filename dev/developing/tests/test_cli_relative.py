@@ -26,7 +26,7 @@ from .bench import BENCH, example
 from .programmes import BEGIN, SECOND
 from .test_air_calls import ALL, LEAD, Feeds
 
-SEEDS = 12  # number of seeds in the gate
+SEEDS = 12  # number of seeds in an automatic test run
 # Subtitle files, recordings, and origins of the recordings.
 PAIRS = [("hello", "hello.pes", 0), ("story", "story.pes", 0), ("story", "recording.ts", 5 * 10**9),
          ("story", "five-faults.pes", 0), ("story", "late-rows.pes", 0),
@@ -91,7 +91,7 @@ class Clocks(Feeds):
                 for word in [*words, *clock, *allowed]], given
 
     def paths(self, name: str) -> list[str]:
-        """Return the two files of a pair."""
+        """Return the paths of a pair's files, the subtitle file first."""
         return [self.path(f"in/{one}") for one in sorted(os.listdir(self.path("in")), key=lambda
                 one: not one.endswith(".stl")) if one.startswith(f"{name}.")]
 
@@ -115,7 +115,7 @@ class Clocks(Feeds):
         self.check_lines(f"{name}: rows", self.read("all.csv").decode().splitlines(), given)
 
     def check_status(self, name: str, status: int, given: dict[str, Given]) -> None:
-        """Check that the status is 0 only if it is allowed for each pair."""
+        """Check that the status is 0 only if each pair has a clock or --relative."""
         is_zero_allowed = all(one.has_clock or one.is_allowed for one in given.values())
         self.must(f"{name}: status", status != 0 or is_zero_allowed, given)
 
@@ -183,7 +183,7 @@ class Clocks(Feeds):
         self.check_results(name, several)
 
     def air(self, name: str, chance: random.Random) -> None:
-        """Judge a programme with tools/air, and check its result."""
+        """Judge a programme as tools/air does, with random options, and check its result."""
         frames = self.feed()
         self.delete_all("segments", "out")
         self.put_segment(0, ALL, b"".join(frames))
@@ -201,7 +201,7 @@ class Clocks(Feeds):
 
 
 def main(program: str, first: int, last: int) -> None:
-    """Test the pairs and options for some seeds."""
+    """Test pairs and options with the seeds `first` to `last - 1`."""
     BENCH.chosen = program
     case = Clocks("test_accepts_nothing_without_a_clock")
     case.setUp()

@@ -1,5 +1,5 @@
-"""Test runs of tools/qc with untrusted lists and results, inputs named as outputs, missing
-resources, and early signals."""
+"""Test qc with untrusted lists and results, inputs as outputs, missing resources and early signals.
+"""
 from __future__ import annotations
 
 import html
@@ -35,7 +35,7 @@ addEventListener("load", () => setTimeout(() => {{
 }}, 500));
 </script>{frames}<pre id="told"></pre></body></html>
 """
-# Milliseconds from the start of qc to a signal; with --speed, ALL_STARTS for each signal.
+# Milliseconds from the start of qc to a signal. With --speed, ALL_STARTS is used for each signal.
 STARTS = {signal.SIGINT: range(0, 101, 10), signal.SIGTERM: range(0, 401, 80),
           signal.SIGHUP: range(40, 401, 80)}
 ALL_STARTS = range(0, 401, 5)

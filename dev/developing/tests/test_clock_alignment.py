@@ -128,8 +128,9 @@ class EstimatedClocks(unittest.TestCase):
 
     def clock_delay(self, delays: Sequence[int], within: int, shares: Lateness | None = None
               ) -> tuple[int, EarlyCues | None]:
-        """Return by how many frames the chosen clock is later than the earliest in-cue, for in-cues
-        with these delays."""
+        """Return the frames from the earliest in-cue to the chosen clock, and the early cues.
+        The in-cues have the delays `delays`.
+        """
         frames = [100 * at + at * at for at in range(1, len(delays) + 1)]
         cues = [ExpectedCue(frame, b"%d" % at, True) for at, frame in enumerate(frames)]
         base = find_time_bases([], packets_of([(TICKS * (frame + by), cue.letters) for frame, by,
@@ -236,7 +237,7 @@ class Drifts(unittest.TestCase):
                 chance = random.Random(seed)
                 delays = [inserter(chance, True) for _ in range(chance.choice((6, 8, 12, 40)))]
                 count += self.drift(delays) is not None
-        self.assertLess(count, 4)  # at most 3 of 1800 programmes
+        self.assertLess(count, 4)  # a drift is reported in at most 3 of 1800 programmes
 
 
 class RepeatedProgrammes(unittest.TestCase):
@@ -286,7 +287,7 @@ class JudgedPairs(Case):
             self.must(f"{count}: late", one.word == "accepted", one.said)
 
     def judge_drift(self, frames: int) -> JudgedPair:
-        """Judge twenty subtitles with a drift, so that the last subtitle is `frames` late."""
+        """Judge twenty subtitles whose delay grows steadily to `frames` frames."""
         stl = write_programme(self, evenly_spaced(20))
         begin, end = evenly_spaced(20)[0][0], evenly_spaced(20)[-1][1]
         path = self.write("one.pes", pes_file([
@@ -345,8 +346,8 @@ class PtsAndFrames(unittest.TestCase):
 
 
 class LossesInParts(unittest.TestCase):
-    # Frames before and after a loss, extra ticks, and whether the loss affects a part from frame
-    # 100 to 200.
+    # Frames before and after a loss, ticks that are added to their PTS, and whether the loss
+    # affects a part that lasts from frame 100 to frame 200.
     PLACES = (
         (90, 99, 0, False), (90, 100, 0, False), (90, 101, 0, True), (99, 150, 0, True),
         (120, 130, 0, True), (199, 250, 0, True), (200, 210, 0, False), (201, 210, 0, False),

@@ -23,7 +23,7 @@ FIRST_PTS, STARTED = (BEGIN - EARLIER) * TICKS, time_of(BEGIN - EARLIER)
 
 
 def evenly_spaced(count: int) -> list[tuple[int, int]]:
-    """Return the first and end frames of subtitles at distances of five seconds."""
+    """Return the start and end frames of `count` subtitles that begin every five seconds."""
     return [(FIRST + EACH * at, FIRST + EACH * at + LASTS) for at in range(count)]
 
 

@@ -1,4 +1,4 @@
-"""Test the messages about an origin and the first picture, and pages of the next programme."""
+"""Test messages about the origin and the first picture, and about pages of the next programme."""
 from __future__ import annotations
 
 import itertools
@@ -239,7 +239,7 @@ GROUP = [2, 0, 1, 5, 3, 4, 8, 6, 7]
 
 
 def programme_with(*streams: tuple[int, int]) -> list[str]:
-    """Return lines of `survey` about a PMT with Teletext and these streams."""
+    """Return the lines of `survey` for a PMT with Teletext and these streams."""
     return [f"programme 1 {VIDEO}", f"stream {TELETEXT} 6",
             *(f"stream {pid} {kind}" for pid, kind in streams)]
 
@@ -253,7 +253,10 @@ def surveyed(lines: Sequence[str], is_whole: bool = True) -> Survey:
 
 
 def picture_lines(frames: Sequence[int | None], end: str = "0 0", passed: int = 3) -> list[str]:
-    """Return lines of `survey` about pictures at these frames, with PTS that wrap in between."""
+    """Return the lines of `survey` for pictures at these frames, whose PTS wrap.
+
+    `passed` is the number of pictures before the first group.
+    """
     pts = ["-" if one is None else (CLOCK - 5 + TICKS * one) % CLOCK for one in frames]
     return [*programme_with((VIDEO, MPEG_2)), f"video {VIDEO} {passed}",
             *(f"picture {VIDEO} {one}" for one in pts), f"pictures {VIDEO} {end}"]
@@ -392,7 +395,8 @@ class FirstPictures(unittest.TestCase):
             self.assertEqual(count_skipped(pts, is_cut), count, (pts[:5], is_cut))
 
 
-BEGIN, EACH, LENGTH, COUNT = 900_000, 60, 40, 6  # frames; number of subtitles
+# First TCI, interval between TCIs and duration in frames; number of subtitles.
+BEGIN, EACH, LENGTH, COUNT = 900_000, 60, 40, 6
 OWN = [(BEGIN + EACH * at, BEGIN + EACH * at + LENGTH) for at in range(COUNT)]
 LAST = OWN[-1][1]  # last TCO of the programme
 OTHERS = [(LAST + EACH * at, LAST + EACH * at + LENGTH) for at in range(COUNT)]

@@ -402,7 +402,8 @@ class Tracks(unittest.TestCase):
                 (first[2], [0] * 7 + [3] * 5, 7), ([3] * 7 + [0] * 5, second, 6),
                 ([3] * 5 + [0, 1] + [0] * 5, [0] * 5 + [3, 0] + [3] * 5, 5)):
             self.assertEqual(row((0, 0, before), (0, -40, own)), [(0, end), (-40, 12)], own)
-        # A change to another track costs four points, and needs a next cue that comes later.
+        # A change to another track must gain more than four points, and needs a next cue that is
+        # later.
         half, rest = [3] * 7 + [0] * 5, [0] * 7 + [3] * 5
         for before, place, wanted in (
                 ([3] * 8 + [2] * 4, (0, -40), [(0, 12)]), ([3] * 7 + [2] * 5, (0, -40), [

@@ -253,7 +253,11 @@ class Ranges(unittest.TestCase):
 
 def plain_range(packets: Packets, frames: Sequence[int], begin: int, end: int,
           every: int | None) -> tuple[int, int] | None:
-    """Return the range as the manual defines it, for PES packets that are sorted by frames."""
+    """Return the range of PES packets as the manual defines it.
+
+    `frames` contains the frames of the PES packets in ascending order. `every` is the value of
+    --every, or `None` if the range has no limit.
+    """
     does = [run.flags for run in packets.runs]
     changed = {one.number for one in packets.changes}
     early = [at for at, frame in enumerate(frames) if max(begin - (every or 0), 0) <= frame < begin]

@@ -25,7 +25,7 @@ class Requests(Case):
         self.cues = find_expected_cues(self.shown)
 
     def find(self, sendings: Sequence[tuple[int, bytes]], **asked: Any) -> OriginEstimate:
-        """Estimate the origin of page transmissions, with options for the search."""
+        """Estimate the origin of page transmissions. `asked` contains the options of the search."""
         return estimate_origin(OriginSearch(self.stl, "one.pes", **asked), packets_of(sendings))
 
     def transmissions(self, late: Sequence[int]) -> list[tuple[int, bytes]]:

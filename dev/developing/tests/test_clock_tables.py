@@ -1,4 +1,4 @@
-"""Test the search for a clock with tables: its time bases, matching cues, parts and repeats."""
+"""Test, with tables, the search for a clock: time bases, matching cues, parts and repeats."""
 from __future__ import annotations
 
 import itertools
@@ -20,11 +20,11 @@ from subtitles.stream.packets import PacketRun, Packets, PageChange
 from .test_clock_properties import packets_of
 
 EACH = 5000  # frames between the starts of two airings of the programme
-SHIFTS = (0, CLOCK - 2 * TICKS - 7)  # first PTS, before a PTS wrap or without it
+SHIFTS = (0, CLOCK - 2 * TICKS - 7)  # first PTS: without a wrap, and shortly before a wrap
 
 
 def changes_at(several: Sequence[tuple[int, bytes]], shift: int = 0) -> list[PageChange]:
-    """Return page changes to these texts, each at some ticks after the first PTS `shift`."""
+    """Return page changes to these texts, each with its ticks after the PTS `shift`."""
     return [PageChange((shift + ticks) % CLOCK, letters, at, ((20, letters),) if letters else ())
             for at, (ticks, letters) in enumerate(several)]
 
@@ -92,7 +92,10 @@ class TimeBases(unittest.TestCase):
 
     def test_selects_the_time_bases_with_the_most_changes(self) -> None:
         def bases(counts: Sequence[int], inside: tuple[int, int]) -> list[tuple[int, int, int]]:
-            """Return start, end and number of changes of the time bases, each of four packets."""
+            """Return the selected time bases, each with its start, end and number of changes.
+
+            `counts` contains the numbers of changes. Each time base has four PES packets.
+            """
             packets = Packets(0, [PacketRun(4 * at, 4, 10 ** 9 - at * 10 ** 6, TICKS, "h", "")
                                   for at in range(len(counts))])
             packets.changes = [PageChange(0, b"", 4 * at + more) for at, count in enumerate(counts)
@@ -133,7 +136,8 @@ class Fits(unittest.TestCase):
 
     def fit(self, sent: Sequence[tuple[int, bytes]], offs: Sequence[int] = (0,) * 9,
                length: int = 50, within: int = 0, shift: int = 0, start: int = 10) -> Any:
-        """Return the match of the cues with these page changes at the start frame `start`."""
+        """Return the match of the cues with page changes, if the programme starts at frame `start`.
+        """
         return base_with(self.cues, [(TICKS * frame + off, letters) for (frame, letters), off in
                                      zip(sent, offs)], length, within, shift).compare(start)
 
@@ -250,9 +254,10 @@ class Parts(unittest.TestCase):
 
     def parts(self, shown: Sequence[ExpectedSubtitle], later: int, is_anew: bool,
               extra: Sequence[tuple[int, bytes]] = ()) -> list[EstimatedPart]:
-        """Return the parts of a programme whose second half is delayed, or is in a new time base.
+        """Return the parts of a programme whose second half is `later` frames late.
 
-        `extra` has further page changes in the first time base.
+        If `is_anew` is true, the second half has its own time base. `extra` contains further page
+        changes of the first half.
         """
         cues = find_expected_cues(shown)
         half = sum(cue.frame < 400 for cue in cues)

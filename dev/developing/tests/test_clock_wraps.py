@@ -38,7 +38,7 @@ def add_ticks(time: bytes, by: int) -> bytes:
 
 
 def shift_clocks(data: bytes, by: int) -> bytes:
-    """Shift all PCRs, PTS and DTS in a transport stream by ticks."""
+    """Add `by` ticks to all PCRs, PTS and DTS in a transport stream."""
     made = bytearray(data)
     for at in range(0, len(made), PACKET):
         begin = at + 4
@@ -63,7 +63,7 @@ class Wraps(Case):
         self.sent = filled(schedule_pages(self, self.stl))
 
     def judge(self, stl: str, data: bytes, *words: str) -> tuple[str, str]:
-        """Judge a recording; return its verdict and all output with PTS replaced."""
+        """Judge a recording. Return its verdict and its output, in which N replaces each PTS."""
         found = judge_files(self, stl, self.write("one.ts", data), *words)
         known: dict[str, Any] = {name: value for name, value in found.result.items()
                                  if name not in OF_FILE}

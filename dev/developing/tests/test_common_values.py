@@ -1,4 +1,4 @@
-"""Test shapes of JSON values, ranges of frames, printed lines and names of files with tables."""
+"""Test JSON shapes, frame ranges, printed lines, and the names of result files."""
 from __future__ import annotations
 
 import io
@@ -135,7 +135,7 @@ class PrintedLines(unittest.TestCase):
 class FileNames(Case):
     def test_gives_the_program_a_file_name_in_utf_8(self) -> None:
         later = OutputNames("one", self.folder, "out",
-                            "later")  # files are later moved to `out`
+                            "later")  # folder whose files are moved to `out` later
         for one, name in ((later, "one"), (later.name_part(2), "one.2")):
             self.must(f"{name}: later", (one.display_path("html"), one.report_path,
                                          one.json_path) == (

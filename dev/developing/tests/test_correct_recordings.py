@@ -1,9 +1,9 @@
-"""Test that correct recordings are accepted, although their delays or intervals are unusual.
+"""Test that correct recordings are accepted even if their delays or intervals are unusual.
 
 The recordings have eleven kinds of delays, fourteen kinds of intervals between PES packets, breaks,
 several programmes, or repeats. `LOST` limits how many recordings of each kind may be refused or not
-judged. The gate judges some of each kind. From dev/, `python3 -m
-developing.tests.test_correct_recordings PROGRAM` judges all recordings; it prints the counts, and
+judged. The tests judge only some recordings of each kind. From dev/, `python3 -m
+developing.tests.test_correct_recordings PROGRAM` judges all recordings. It prints the counts, and
 each recording that was not accepted.
 """
 from __future__ import annotations
@@ -23,22 +23,22 @@ from .streams import (
 from .transmissions import CLOSING, HEADER, Sent, pes_file, write_programme, schedule_pages
 from .test_judging_losses import WRONG, large
 
-FIRST, EACH, LASTS = 900_000, 100, 60  # first TCI, distance of TCIs, duration, in frames
+FIRST, EACH, LASTS = 900_000, 100, 60  # first TCI, interval between TCIs, and duration, in frames
 SILENT_PID, OTHER_PID, LATER_PMT = 0x121, 0x111, 0x110
 INSERTERS, ONE_A_FRAME, TWO_A_FRAME = "inserters", "one a frame", "two a frame"
 BREAKS, PROGRAMMES, AIRINGS = "breaks", "programmes", "airings"
-GATE = 8  # the gate judges every eighth recording of a kind
+GATE = 8  # the tests judge every eighth recording of a kind
 
 
 class Bound(NamedTuple):
-    """The number of recordings of a kind, and how many of them may be refused or not judged."""
+    """Limits for a kind of recording: how many may be refused, and how many not judged."""
 
     recordings: int
     refused: int
     not_judged: int
 
 
-# Limits for each kind of recordings. The refused recordings can't be distinguished from faulty
+# Limits for each kind of recording. The refused recordings can't be distinguished from faulty
 # recordings: see `IndistinguishableFaults`.
 LOST = {
     INSERTERS: Bound(66, 2, 12), ONE_A_FRAME: Bound(30, 7, 0), TWO_A_FRAME: Bound(28, 6, 0),
@@ -50,7 +50,7 @@ class Recording(NamedTuple):
 
     kind: str
     name: str
-    # Writes the subtitle file and the recording, and returns their paths.
+    # Function that writes the subtitle file and the recording, and returns their paths.
     made: Callable[[Case], tuple[str, str]]
     words: Sequence[str]
 
@@ -61,7 +61,7 @@ class Recording(NamedTuple):
 
 
 def evenly(count: int, is_adjoining: bool = False) -> list[tuple[int, int]]:
-    """Return the first and end frames of `count` subtitles at distances of a hundred frames."""
+    """Return the start and end frames of `count` subtitles that begin every hundred frames."""
     lasts = EACH if is_adjoining else LASTS
     return [(FIRST + EACH * at, FIRST + EACH * at + lasts) for at in range(count)]
 
@@ -115,7 +115,7 @@ def all_but(left_out: Callable[[int], bool]) -> Callable[[random.Random, int], l
 
 
 def share_of(one_in: int) -> Callable[[random.Random, int], list[int]]:
-    """Return a function that selects all frames except a random share of one in `one_in`."""
+    """Return a function that selects random frames, and leaves out one in `one_in`."""
     return lambda chance, frames: [at for at in range(frames) if chance.randrange(one_in)]
 
 
@@ -170,8 +170,10 @@ def paced(name: str, count: int, each: int) -> Callable[[Case], tuple[str, str]]
 
 
 def paces() -> Iterator[Recording]:
-    """Yield recordings with one or two PES packets in each frame, or in the frames selected by each
-    kind."""
+    """Yield recordings with one or two PES packets in each frame that has PES packets.
+
+    The kinds in DISTANCES differ in which frames have PES packets.
+    """
     for kind, each, names in ((ONE_A_FRAME, 1, [*DISTANCES, "alone"]),
                               (TWO_A_FRAME, 2, [*DISTANCES])):
         for name in names:
@@ -301,8 +303,10 @@ def near_short_subtitles(count: int, is_before: bool) -> Callable[[Case], tuple[
 
 
 def cut_at(count: int) -> Callable[[Case], tuple[str, str]]:
-    """Return a function that writes a programme with a break between adjoining subtitles, at which
-    the page is erased."""
+    """Return a function that writes a programme with a break between adjoining subtitles.
+
+    At the break, after `count` subtitles, the page is erased.
+    """
     def made(case: Case) -> tuple[str, str]:
         times = evenly(20, True)
         stl = write_programme(case, times)
@@ -365,8 +369,10 @@ LARGEST = 9  # maximum size of a PES packet in TS packets
 
 
 def lossy(sent: Sent, each: int) -> bytes:
-    """Return a stream with PES packets in each frame, after the loss of all PES packets that `sent`
-    does not have."""
+    """Return a stream after a loss of all PES packets that are not in `sent`.
+
+    Before the loss, the stream had `each` PES packets in every frame.
+    """
     maker = Maker([])
     maker.tables = tables_of((OWN,))
     for number, (pts, some) in enumerate(sent):
@@ -389,7 +395,7 @@ def lossy(sent: Sent, each: int) -> bytes:
 
 
 def is_bounded(kind: str, words: Sequence[str]) -> bool:
-    """Return whether at most the allowed number of recordings was refused or not judged."""
+    """Return whether no more recordings than allowed were refused or not judged."""
     bound = LOST[kind]
     refused = sum(word not in ("accepted", "not judged") for word in words)
     return refused <= bound.refused and \

@@ -85,7 +85,7 @@ class Clone:
         shutil.copy(self.case.bench.program, os.path.join(folder, "subttx"))
 
     def give(self, name: str, text: str) -> None:
-        """Write a script to the folder with rt."""
+        """Write a script to the folder that contains `rt`."""
         os.makedirs(self.path("bin"), exist_ok=True)
         self.case.write_program(self.path("bin", name), text)
 
@@ -102,7 +102,7 @@ class Clone:
         return Done(done.returncode, done.stdout, done.stderr.decode().splitlines())
 
     def run(self, *words: str, script: str | None = None, user: int | None = None) -> Done:
-        """Run ./subttx without an rt on the PATH."""
+        """Run ./subttx without an `rt` command on the PATH."""
         return self.call([script or self.path("subttx"), *words], path_without_rt(), user)
 
     def release(self, *words: str) -> Done:

@@ -1,6 +1,4 @@
-"""Test the documents' links, quoted sources, lists of tools and man pages, and functions without a
-contract.
-"""
+"""Test the documents: links, quoted sources, man pages, and lists of tools and of functions."""
 from __future__ import annotations
 
 import collections
@@ -38,7 +36,7 @@ def documents() -> Iterator[tuple[str, str]]:
 
 
 def anchors(text: str) -> set[str]:
-    """Return the names by which links refer to the anchors and headings of a document."""
+    """Return the names that links to the anchors and headings of a document use."""
     text = BLOCK.sub("", text)
     return {*ANCHOR.findall(text), *(re.sub(r"[^\w\- ]", "", found.lower()).replace(" ", "-")
                                      for found in HEADING.findall(text))}
@@ -210,8 +208,9 @@ LINE = re.compile(r"^([a-z_]+) +\S", re.M)  # line of the module list in __init_
 
 
 def entries(folder: str) -> list[str]:
-    """Return the names in a folder as lists write them: modules without their ending, and folders
-    with a slash.
+    """Return the names in a folder, as in the documents' lists.
+
+    Modules have no ending, and folders have a slash.
     """
     return sorted(name.removesuffix(".py") + "/" * os.path.isdir(os.path.join(folder, name))
                   for name in os.listdir(folder) if not name.startswith("__"))
@@ -277,7 +276,7 @@ class ModuleLists(Case):
 
 
 STORED = "dev/bodies-to-read.txt"
-# The first line of each stored function or impl, which calls the system without a contract.
+# The first line of each function or impl in STORED. They call the system without a contract.
 HELD = [
     "fn main(rt: HostRuntime)",
     "impl<'a, R: Files + Eprint> FileSystem for SystemFiles<'a, R>",
