@@ -1,4 +1,4 @@
-"""Test shell scripts, the job scripts in the manual, and the selection of tests for the gate."""
+"""Test shell scripts, the job scripts in the manual, and which tests .ci/run selects."""
 from __future__ import annotations
 
 import glob

@@ -13,8 +13,9 @@ from subtitles.common.program import TOP
 from subtitles.common.times import CLOCK, ticks_between, wrap_pts
 from .bench import Case, SECONDS
 
+# Packages of the tools. Each may import only packages before it.
 ORDER = ["common", "formats", "request", "stream", "clock", "recording", "judging", "results",
-         "report", "cli", "air"]  # packages of the tools, lowest first
+         "report", "cli", "air"]
 LONGEST_LINE = 100
 MAIN = "subtitles.cli.main"  # module that imports other modules on demand
 IN_ROWS = os.path.join("developing", "signs.py")  # file with a table of long lines
@@ -232,8 +233,10 @@ def scripts() -> list[str]:
 
 @contextlib.contextmanager
 def cache_of(case: Case) -> Iterator[str]:
-    """Return a context manager for mypy's cache folder: the user's folder if no other process uses
-    it, and an empty folder otherwise or in the gate.
+    """Return a context manager for mypy's cache folder.
+
+    It is the user's folder, or an empty folder if another process uses the user's folder or CI is
+    set.
     """
     home = os.environ.get("XDG_CACHE_HOME") or os.path.expanduser("~/.cache")
     kept = os.path.join(home, "subttx-mypy")

@@ -1,4 +1,4 @@
-"""Compare times, codes and PES packets bit by bit with the standards."""
+"""Check times, codes and PES packets bit by bit against the standards."""
 from __future__ import annotations
 
 import itertools

@@ -153,7 +153,10 @@ def character_texts(option: NationalOption) -> list[tuple[Text, str]]:
 
 
 def texts(option: NationalOption) -> list[tuple[Text, str]]:
-    """Return the longer texts for a national option, each with its error message or ""."""
+    """Return the texts of vectors.tsv for a national option, each with its error message.
+
+    The message is an empty string if the text can be drawn.
+    """
     found = []
     for line in rows_of("vectors.tsv"):
         cells, message = b"", line["prepared line or refusal"]
@@ -221,7 +224,10 @@ class Transmissions(Case):
                             option.word)[1][-1]
 
     def transmit(self, option: NationalOption, several: list[Text]) -> list[list[bytes]]:
-        """Return the Teletext packets sent for each text, or no packets for a repeated page."""
+        """Return the Teletext packets that a transmission has for each text.
+
+        The list is empty for a text that repeats the previous page.
+        """
         line = self.schedule_of(option, several)
         self.must(f"{option.word}: a schedule", line.startswith("written "), line)
         line = self.program("check", "a.stl", "a.pes", "--every", "1500", "--option",

@@ -1,4 +1,4 @@
-"""Test the parsers for subtitle files and for the program's output at their limits."""
+"""Test the limits of the parsers for subtitle files and for the program's output."""
 from __future__ import annotations
 
 import itertools
@@ -101,7 +101,7 @@ class Blocks(unittest.TestCase):
 
 
 class PlainSubtitle(NamedTuple):
-    """A subtitle as a simple model of the format describes it."""
+    """A subtitle in a simple model of the format."""
 
     blocks: list[int]
     begin: int | None

@@ -1,4 +1,4 @@
-"""Test how output of `check --all` is read, files that change meanwhile, and stored recordings."""
+"""Test parsing the output of `check --all`, and judging changing files and stored recordings."""
 from __future__ import annotations
 
 import contextlib
@@ -34,7 +34,7 @@ FIRST, SECOND = "refused 72 Content frame 00:00:05:00 row 20 column 1", \
 GOOD, TRUSTED, ENDED = "accepted 10 frames 2 transmissions", \
     "trusted frames 00:00:06:00 00:00:07:00", "ended 72 Content frame 00:00:07:00"
 NONE = [f"refused {number} Flags pes 0" for number in ("\u0663\u0663", "+33", "")]
-# Invalid lines with a space at either end, or with a byte that is not a character.
+# Invalid lines: with a space at one end, or with a byte that is not valid UTF-8.
 AROUND = [*(f" {one}" for one in (FIRST, GOOD, TRUSTED, ENDED, "1 faults")),
           *(f"{one} " for one in (GOOD, TRUSTED, ENDED, "1 faults")),
           *(one.replace("0", "0\udcff", 1) for one in (GOOD, ENDED))]
@@ -53,14 +53,14 @@ LISTS: list[tuple[list[str], int, str | None]] = [
     # The list is truncated, or the number of faults is wrong.
     ([FIRST], 1, None), ([FIRST, ENDED], 1, None), ([FIRST, "2 faults"], 1, None),
     ([FIRST, SECOND, "1 faults"], 1, None), ([FIRST, "1 faults", FIRST], 1, None),
-    # The recording is accepted and refused, or accepted before the last line.
+    # The output accepts and refuses the recording, or accepts it before the last line.
     ([FIRST, GOOD], 0, None), ([FIRST, GOOD, "1 faults"], 0, None),
     ([GOOD, FIRST, "1 faults"], 1, None), ([GOOD, "0 faults"], 0, None),
     ([GOOD, "0 faults"], 1, None), ([GOOD, TRUSTED], 0, None),
     # The program reports an error.
     (["fault 91 Memory"], 2, None), (["usage 80 Every"], 2, None),
     ([FIRST, "fault 41 Read pes 4"], 2, None),
-    # The output has foreign lines.
+    # The output contains lines in another format.
     ([GOOD, "hello"], 0, None), (["hello", "?", GOOD], 0, None),
     ([FIRST, "hello", "1 faults"], 1, None), ([f"{GOOD} more"], 0, None),
     (["accepted of course"], 0, None), (["refused", "1 faults"], 1, None),

@@ -1,4 +1,4 @@
-"""Test the search for the causes of refused subtitles with tables and random pages."""
+"""Test how the causes of refused subtitles are found, with tables and random pages."""
 from __future__ import annotations
 
 import os
@@ -29,7 +29,7 @@ TIMES = [(BEGIN + 100 * at, BEGIN + 100 * at + 50) for at in range(6)]
 
 
 def with_page(sent: Sent, frame: int, *rows: bytes) -> Sent:
-    """Replace the Teletext sent at a frame by a page with these rows."""
+    """Replace the Teletext packets in a frame with a page that has these rows."""
     pts = frame * TICKS
     return sorted([*(one for one in sent if one[0] != pts), (pts, [HEADER, *rows, CLOSING])])
 
@@ -125,14 +125,14 @@ class SenderFaults(ProgrammeCase):
 VECTORS = os.path.join(DEV, "vectors", "causes.tsv")
 COUNT = 500  # number of rows
 BY = (-260, -30, -3, -1, 1, 1, 2, 3, 5, 8, 30, 240, 260)  # frames by which cues are moved
-END = 1600  # end frame of the examined frames
+END = 1600  # end of the examined range of frames
 
 
 def page_of(name: str) -> Rows:
-    """Return the page with a name: a letter names a page with two lines, and `-` the blank page.
+    """Return the page that a name describes.
 
-    A second letter after a comma changes the first line: t (text), a (attribute), r (removed),
-    m (margin) or p (position).
+    A letter stands for a page with two lines, and `-` for the blank page. A second letter after a
+    comma changes the first line: t (text), a (attribute), r (removed), m (margin) or p (position).
     """
     page = list(BLANK_PAGE)
     if name[0] == "-":
@@ -151,7 +151,7 @@ def empty(within: int = 0) -> Timeline:
 
 
 def steady(decoded: Timeline) -> None:
-    """Set the count of PES packets to 500, so that pauses between them are used."""
+    """Set the number of PES packets to 500, enough for pauses between them to be considered."""
     decoded.count = 500
 
 
@@ -163,7 +163,8 @@ def fake_answer(spans: list[tuple[int, int]], *edges: tuple[int, int]) -> Any:
 
 
 class RandomRow:
-    """A row of the table, made from a seed: a random programme and its decoded pages."""
+    """A row of dev/vectors/causes.tsv, made from a seed: a random programme and its decoded pages.
+    """
 
     def __init__(self, number: int) -> None:
         self.chance = chance = random.Random(number)
@@ -188,7 +189,11 @@ class RandomRow:
                                   for (begin, end), text in zip(times, texts))
 
     def wrong(self, due: dict[int, str], texts: list[str]) -> dict[int, str]:
-        """Return the sent pages with one more random fault."""
+        """Return the pages in `due` with one random fault.
+
+        `due` gives the page that each frame changes to. `texts` contains the pages of all
+        subtitles.
+        """
         chance = self.chance
         frame = chance.choice(list(due)[1:] or list(due))
         text, kind = due[frame], chance.randrange(9)
@@ -276,7 +281,7 @@ class StoredRows(unittest.TestCase):
 BY_HAND: list[tuple[str, str, list[tuple[int, str, int | None, int | None, str | None]]]] = [
     ("100-150 a", "0:- 100:a 150:-", []), ("100-150 a", "0:- 103:a 150:-", [
         (0, "late", 3, None, "a")]),
-    # One or all subtitles are moved, in part to the time of another subtitle.
+    # One or all subtitles are moved, some of them to the time of another subtitle.
     ("100-200 a;200-300 b", "0:- 200:a 300:b 400:-", [(0, "late", 100, None, "a"),
                                                      (1, "late", 100, None, "b")]),
     ("200-300 a;300-400 b", "0:- 100:a 200:b 400:-", [(0, "early", 100, None, "a"),
@@ -285,12 +290,12 @@ BY_HAND: list[tuple[str, str, list[tuple[int, str, int | None, int | None, str |
         (0, "never sent", None, None, None), (1, "another subtitle's text", None, 0, "a")]),
     ("100-150 a;200-250 b;300-350 c", "0:- 100:a 150:- 200:c 250:- 300:c 350:-", [
         (1, "another subtitle's text", None, 2, "c")]),
-    # A subtitle is searched up to 250 frames around its TCI.
+    # A subtitle is searched for from 250 frames before its TCI to 250 frames after it.
     ("100-150 a;300-340 b", "0:- 300:b 340:- 350:a 380:-", [(0, "late", 250, None, "a")]),
     ("100-150 a;300-340 b", "0:- 300:b 340:- 351:a 380:-", [
         (0, "never sent", None, None, None), (1, "unknown", None, None, "a")]),
-    # A foreign text between adjoining subtitles belongs to the subtitle in whose time it stays
-    # longer.
+    # A text that is not in the file, sent between adjoining subtitles, counts for the subtitle
+    # whose time it takes up longer.
     ("100-203 a;203-260 b", "0:- 100:a 200:z 260:-", [(1, "wrong text", None, None, "z")]),
     ("100-190 a;203-260 b", "0:- 100:a 195:- 200:z 260:-", [
         (0, "not erased", None, None, "a"), (1, "wrong text", None, None, "z")]),
@@ -308,10 +313,11 @@ BY_HAND: list[tuple[str, str, list[tuple[int, str, int | None, int | None, str |
     # Subtitles before the first decoded page.
     ("10-50 a;100-150 b", "60:b 150:-", [
         (0, "never sent", None, None, None), (1, "early", 40, None, "b")]),
-    # A foreign page sent in a pause stays into the next subtitle.
+    # A page with another text is sent in a pause, and is still displayed during the next subtitle.
     ("100-150 a;200-250 b", "0:- 100:a 150:- 180:z 220:b 250:-", [
         (0, "another text in a pause", None, None, "z"), (1, "wrong text", None, None, "z")]),
-    # A foreign page is sent at a TCO; after the last TCO, it belongs to the next programme.
+    # A page with another text is sent at a TCO. At the last TCO it may belong to the next
+    # programme.
     ("100-150 a;200-250 b", "0:- 100:a 150:z 170:- 200:b 250:-", [
         (0, "another text in a pause", None, None, "z")]),
     ("100-150 a;200-250 b", "0:- 100:a 150:- 200:b 250:z 270:-", [(1, "unknown", None, None, "z")]),
@@ -323,7 +329,7 @@ BY_HAND: list[tuple[str, str, list[tuple[int, str, int | None, int | None, str |
     ("100-150 a", "0:- 100:a 120:z 130:a 160:-", [(0, "wrong text", None, None, "z")]),
     ("50-60 c;100-150 a;300-350 b", "0:- 50:c 110:- 120:b 150:- 300:b 350:-", [
         (0, "not erased", None, None, "c"), (1, "another subtitle's text", None, 2, "b")]),
-    # A regular stream pauses until the page changes, or ends its pause before or after.
+    # A regular stream has a pause until the page changes, or until a few frames before.
     ("100-150 a", "0:- 100:a 161:- !148-160", [(0, "unknown", None, None, "a")]),
     ("100-150 a", "0:- 100:a 165:- !148-160", [(0, "not erased", None, None, "a")]),
     ("100-150 a", "0:- 111:a 150:- !95-110", [(0, "unknown", None, None, None)]),
@@ -334,7 +340,7 @@ BY_HAND: list[tuple[str, str, list[tuple[int, str, int | None, int | None, str |
     ("100-150 a", "0:- 160:- @99 @150", [(0, "never sent", None, None, None)]),
     ("100-150 a", "0:- 160:- @90 @120", [(0, "unknown", None, None, None)]),
     ("100-150 a", "0:- 160:- @149 @160", [(0, "unknown", None, None, None)]),
-    # Frames are unreadable after or within faulty frames.
+    # Frames are unreadable before, during or after the frames with a wrong page.
     ("100-150 a", "0:- 100:a 110:z 130:a 150:- ?130-140", [(0, "wrong text", None, None, "z")]),
     ("100-150 a", "0:- 100:a 110:z 130:a 150:- ?129-140", [(0, "unknown", None, None, "z")]),
     ("100-150 a", "0:- 100:a 110:z 130:a 150:- ?100-109", [(0, "wrong text", None, None, "z")]),
@@ -346,7 +352,7 @@ BY_HAND: list[tuple[str, str, list[tuple[int, str, int | None, int | None, str |
     ("100-150 a", "0:- 100:a,r 150:-", [(0, "wrong text", None, None, "a,r")]),
     ("100-150 a", "0:- 100:a,m 150:-", [(0, "wrong place", None, None, "a,m")]),
     ("100-150 a", "0:- 100:a,a 150:-", [(0, "wrong colour or attribute", None, None, "a,a")]),
-    # A subtitle is not erased until another text, until the same text, or forever.
+    # A subtitle is not erased: another text follows, or the same text, or nothing.
     ("100-150 a;200-250 b", "0:- 100:a 200:b 250:-", [(0, "not erased", None, None, "a")]),
     ("100-150 a;160-250 a", "0:- 100:a 250:-", [(0, "not erased", None, None, "a")]),
     ("100-150 a", "0:- 100:a", [(0, "not erased", None, None, "a")])]

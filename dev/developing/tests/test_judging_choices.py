@@ -56,7 +56,7 @@ LANGUAGES = {b"08": ("german", "the language of the file (LC) is 08"),
 
 
 def choices_of(found: JudgedPair) -> list[tuple[Any, ...]]:
-    """Return the values that qc chose, sorted by the order of their options."""
+    """Return the values that qc chose, in the order of CHOICES."""
     keys = ("option", "value", "matches", "total", "part", "line")
     return sorted((tuple(choice[key] for key in keys) for choice in found.result["choices"]),
                   key=lambda values: CHOICES.index(values[0]))
@@ -180,7 +180,10 @@ class ForeignPackets(ProgrammeCase):
         self.pes += [make_pes_packet(last + 90_000 * at, blank) for at in range(1, 5)]
 
     def make_stream(self, first: int, number: int) -> bytes:
-        """Return a stream with wrong stream_ids or lengths (fault 31 or 32) from a packet on."""
+        """Return a stream in which PES packets from `first` on are faulty.
+
+        The fault `number` is 31 (wrong stream_id) or 32 (wrong length).
+        """
         def carried(at: int) -> list[tuple[int, bytes]]:
             one = self.pes[at]
             if at >= first:
@@ -213,7 +216,7 @@ class ForeignPackets(ProgrammeCase):
                   "no PES packets of private_stream_1" in found.told[0], found.told)
 
 
-FIRST, EACH, LASTS = 900_000, 100, 60  # first TCI, distance of TCIs, duration, in frames
+FIRST, EACH, LASTS = 900_000, 100, 60  # first TCI, interval between TCIs, and duration, in frames
 LINES = ("Good evening.", "Here", "is the news of today", "Thank you, Anne.", "Yes", "No no no")
 CLOCK_WORDS = ["--start", time_of(FIRST - 50)]
 

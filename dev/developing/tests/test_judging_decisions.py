@@ -1,4 +1,4 @@
-"""Test decisions of qc about folders, watched pairs, subtitles and pages with tables."""
+"""Test, with tables, how qc handles folders, watched pairs, subtitles and pages."""
 from __future__ import annotations
 
 import contextlib

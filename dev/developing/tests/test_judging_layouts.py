@@ -1,4 +1,4 @@
-"""Test recordings with other layouts, and files with open subtitles.
+"""Test recordings whose pages are not in the default layout, and files with open subtitles.
 
 From dev/, `python3 -m developing.tests.test_judging_layouts PROGRAM FIRST END` judges random
 programmes with the seeds FIRST to END - 1.
@@ -27,7 +27,7 @@ from .parts import decode_packets
 from .transmissions import CLOSING, HEADER, Sent, pes_file, row_packet, schedule_pages
 from .test_stream_layouts import HOUSES, line
 
-FIRST, EACH, LASTS = 3000, 60, 45  # first TCI, distance of TCIs, and duration, in frames
+FIRST, EACH, LASTS = 3000, 60, 45  # first TCI, interval between TCIs, and duration, in frames
 DSC = slice(11, 12)
 FAULTS = [
     ("left=40", "left=40 is not an item: left takes 0 to 39"), ("fit,fit", "fit is given twice"),
@@ -47,7 +47,10 @@ def file_of(case: Case, texts: list[tuple[bytes, int]], name: str, dsc: bytes = 
 
 def texts_of(some: random.Random, has_codes: bool, between: bytes, count: int
              ) -> list[tuple[bytes, int]]:
-    """Return random texts of one or two lines, with their justification codes."""
+    """Return `count` random texts of one or two lines, each with a justification code.
+
+    `has_codes` adds control codes to the lines. `between` separates the lines.
+    """
     return [(between.join(line(some, has_codes) for _ in range(some.choice([1, 2, 2]))),
              some.choice([2, 2, 2, 1, 3, 0])) for _ in range(count)]
 
@@ -55,7 +58,10 @@ def texts_of(some: random.Random, has_codes: bool, between: bytes, count: int
 class OtherLayouts(Case):
     def judge(self, texts: list[tuple[bytes, int]], drawn: str, *words: str,
               sent: list[tuple[bytes, int]] | None = None) -> JudgedPair:
-        """Judge a pair whose recording is drawn by a layout, from the texts `sent` if given."""
+        """Judge a subtitle file with a recording that is drawn in the layout `drawn`.
+
+        The recording contains the texts `sent` if given, otherwise `texts`.
+        """
         number = str(len(os.listdir(self.folder)))
         stl = file_of(self, texts, f"{number}.stl")
         other = file_of(self, sent or texts, f"{number}.sent.stl")
@@ -166,7 +172,10 @@ Said = tuple[bytes, int]  # subtitle text and justification code
 
 
 def altered(printed: Said, kind: int) -> Said:
-    """Return a text with other codes, characters, lines or justification than the sent text."""
+    """Return a text with one difference from the sent text.
+
+    `kind` selects a difference in control codes, characters, lines or justification.
+    """
     text, justify = printed
     return [(b"\x03" + text, justify), (b"\x08" + text, justify), (b"\x0d" + text, justify),
             (b"  " + text, justify), (text.replace(b"\x8a", b"\x8a\x8a\x8a", 1), justify),
@@ -198,12 +207,12 @@ class Programme(NamedTuple):
         return found
 
     def page(self, printed: Said) -> object:
-        """Return the rows that the layout draws for a text, or a fault in the text."""
+        """Return the rows that the layout draws for a text, or a `TextFault` for a faulty text."""
         lines = draw_text(printed[0], 18, printed[1], self.layout, ENGLISH)
         return lines if isinstance(lines, TextFault) else make_page_rows(lines)
 
     def is_right(self) -> bool:
-        """Return whether each sent page is the expected page, at its time."""
+        """Return whether each page is sent as expected, and at the expected time."""
         pages = [(self.page(one), self.page(other)) for one, other in zip(self.file, self.sent)]
         return not self.has_wrong and self.early is None and self.missing is None and \
             all(one == other for one, other in pages)
@@ -228,9 +237,9 @@ def programme_of(seed: int) -> Programme:
         printed = altered(found.file[at], kind)
         if not isinstance(found.page(printed), TextFault):
             found.file[at] = printed
-    # Draw these values last, so that each seed keeps the programme that it had before.
+    # Draw these values last, so that each seed still makes the same programme as before.
     kind = some.randrange(4)
-    lost = found.lost if kind == 0 else 0  # no loss besides another fault
+    lost = found.lost if kind == 0 else 0  # a programme has a loss or another fault, not both
     return found._replace(
         lost=lost, has_wrong=found.has_wrong and lost > 0,
         early=some.randrange(1, count) if kind == 1 else None,
@@ -241,7 +250,10 @@ def programme_of(seed: int) -> Programme:
 
 
 def with_fault(one: Programme, sent: Sent) -> Sent:
-    """Send a programme's subtitle `early` a frame early, and `missing` without its last row."""
+    """Return the transmission after adding the faults of a programme.
+
+    The subtitle `early` is sent a frame early, and the subtitle `missing` lacks its last row.
+    """
     made = []
     for pts, some in sent:
         place, rest = divmod(pts // TICKS - FIRST, EACH)
@@ -314,7 +326,7 @@ for _seed in GATE:
 
 
 def main(program: str, first: int, end: int) -> None:
-    """Judge the programmes of some seeds, and print the wrong verdicts."""
+    """Judge the random programmes with the seeds `first` to `end - 1`. Print wrong verdicts."""
     BENCH.chosen = program
     case, wrong = RandomProgrammes(f"test_{GATE[0]:03}"), list[int]()
     case.setUp()

@@ -1,4 +1,4 @@
-"""Test that a wrong page within lost packets is not accepted without a note."""
+"""Test that a loss of PES packets that may hide a wrong page is reported."""
 from __future__ import annotations
 
 import unittest
@@ -28,7 +28,7 @@ def large(data: bytes, count: int) -> bytes:
 
 def lost(made: list[Packet], count: int, is_announced: bool = False, frame: int = AT
          ) -> list[Packet]:
-    """Delete `count` TS packets of the Teletext PID, beginning at the wrong page."""
+    """Delete `count` TS packets of the Teletext PID, beginning with those of the frame `frame`."""
     return with_loss(made, frame * TICKS, count, is_announced)
 
 
@@ -36,12 +36,18 @@ class HiddenPages(ProgrammeCase):
     due = TIMES
 
     def with_wrong(self, every: int = 25) -> Sent:
-        """Return a transmission with a PES packet in each frame, one with a wrong page."""
+        """Return a transmission with a PES packet in each frame. The page in frame AT is wrong.
+
+        `every` is the interval between page transmissions in frames.
+        """
         sent = filled(schedule_pages(self, self.stl, every=every))
         return [*sent[:PLACE], (sent[PLACE][0], WRONG), *sent[PLACE + 1:]]
 
     def multiplexed(self, sent: Sent, first: int, count: int, size: int) -> list[Packet]:
-        """Return a multiplex in which `count` PES packets have a size of `size` TS packets."""
+        """Return a multiplex with the PES packets of `sent`.
+
+        `count` of them, from the index `first` on, are extended to `size` TS packets.
+        """
         made = [make_pes_packet(pts, some) for pts, some in sent]
         made[first:first + count] = [large(one, size) for one in made[first:first + count]]
         return make_multiplex(made, Shape(400))

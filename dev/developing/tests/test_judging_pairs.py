@@ -33,7 +33,7 @@ NAMES = {33: "Flags", 34: "NoTime", 35: "HeaderLength", 36: "Time", 37: "DataId"
 
 
 def broken(packet: bytes, number: int) -> bytes:
-    """Damage a PES packet so that `check` reports this fault number."""
+    """Return a PES packet with damage for which `check` reports this fault number."""
     if number == 61:
         return packet[:9] + encode_pts(decode_pts(packet) + 90) + packet[14:]
     at, bits = BITS[number]
@@ -118,7 +118,8 @@ class UnreadablePackets(ProgrammeCase):
 
 class Steps(Case):
     def pair(self, *words: str, count: int = 0) -> PairJudge:
-        """Return the judge of a pair with `count` judged parts."""
+        """Return a `PairJudge` for a pair with `count` judged parts. `words` contains its options.
+        """
         verdict, nothing = verdict_of([make_part(0, 9, 0, number=number)
                                        for number in range(1, count + 1)]), mock.Mock()
         verdict.request = request_for("one.stl", "one.pes", *words)

@@ -201,7 +201,8 @@ class SeveralParts(ProgrammeCase):
 
 
 def in_fields(sent: Sent) -> Sent:
-    """Send the header in the first field of a frame and the rows in the second."""
+    """Return the transmission with headers in the first field of a frame, and rows in the second.
+    """
     return [one for pts, some in sent for one in ((pts, some[:1]), (pts + TICKS // 2, some[1:]))]
 
 
@@ -211,13 +212,13 @@ def in_fields_at_once(sent: Sent) -> Sent:
 
 
 def with_late_rows(sent: Sent, by: int = 1) -> Sent:
-    """Send the rows some frames after their header."""
+    """Return the transmission with rows sent `by` frames after their header."""
     return [one for pts, some in sent for one in (
         [(pts, some)] if len(some) == 2 else [(pts, some[:1]), (pts + TICKS * by, some[1:])])]
 
 
 def in_three_frames(sent: Sent) -> Sent:
-    """Send the header, the first row and the second row in three consecutive frames."""
+    """Return the transmission with the header, the first row and the second row in three frames."""
     return [(pts + TICKS * number, part) for pts, some in sent for number, part in enumerate(
         [some] if len(some) == 2 else [some[:1], some[1:2], some[2:]])]
 

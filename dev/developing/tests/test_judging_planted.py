@@ -1,7 +1,7 @@
-"""Test that the sentence on a refused programme names the fault planted in it.
+"""Test that the sentence about a refused programme reports the fault that was planted in it.
 
 From dev/, `python3 -m developing.tests.test_judging_planted PROGRAM FIRST LAST` tries the seeds
-FIRST to LAST - 1 and prints each fault that is not named.
+FIRST to LAST - 1 and prints each fault that the sentence does not report.
 """
 from __future__ import annotations
 
@@ -137,7 +137,10 @@ class PlantedFaults(Case):
 
 
 def main(program: str, first: int, last: int) -> None:
-    """Plant faults with these seeds; print each fault that is not named, and the counts."""
+    """Plant faults with the seeds `first` to `last - 1`.
+
+    Print each fault that qc does not report, and the numbers of faults.
+    """
     BENCH.chosen = program
     case = PlantedFaults("test_names_at_least_95_of_100_planted_faults")
     counts = collections.Counter[str]()

@@ -37,7 +37,10 @@ OTHER_PAGE = make_packet(0, 0, [0, 0, 0, 8, 0, 0, 0, 0], b" " * 32)  # header of
 
 
 def changed(one: bytes, at: int, off: int, on: int) -> bytes:
-    """Clear and set bits in one number of a header of page 888; return other packets unchanged."""
+    """Clear the bits `off` and set the bits `on` in the header value at index `at`.
+
+    Return other packets than headers of page 888 unchanged.
+    """
     address = decode_address(one)
     numbers = decode_header(one) if address and address[1] == 0 else None
     if numbers is None or numbers[:2] != b"\x08\x08":
@@ -191,7 +194,7 @@ class Reasons(ProgrammeCase):
                          "the PCR; the counter shows 3 of them, 4 TS packets scrambled")
 
 
-NUMBERS = bytes([8, 8, 0, 8, 0, 8, 1, 0])  # header numbers of HEADER
+NUMBERS = bytes([8, 8, 0, 8, 0, 8, 1, 0])  # values in HEADER: page, subcode, control bits
 KEEPS = bytes([8, 8, 0, 0, 0, 8, 1, 0])
 KEEPING_HEADER = make_packet(0, 0, KEEPS, b" " * 32)
 FIRST, SECOND = row_packet(20, b"One"), row_packet(22, b"Two")
@@ -199,12 +202,12 @@ CLEAR = "C4 (erase page) is clear"
 
 
 def of_subcode(header: bytes, digit: int) -> bytes:
-    """Return the header numbers with a new first digit of the subcode."""
+    """Return header values with another first digit of the subcode."""
     return header[:2] + bytes([digit]) + header[3:]
 
 
 def numbers(**places: int) -> bytes:
-    """Return the numbers in a header that keeps the page; `p5=1` changes the number at index 5."""
+    """Return the values of a header that keeps the page. `p5=1` changes the value at index 5."""
     made = bytearray(KEEPS)
     for name, value in places.items():
         made[int(name[1:])] = value
@@ -300,7 +303,7 @@ class HeaderCounts(Case):
 
 
 def packets_at(frames: Sequence[tuple[int, list[bytes]]]) -> bytes:
-    """Return a PES file with the Teletext packets of some frames."""
+    """Return a PES file with the given Teletext packets in the given frames."""
     return b"".join(make_pes_packet(TICKS * frame, some) for frame, some in frames)
 
 
@@ -321,7 +324,7 @@ class MissingRows(Case):
         return found, found.page_at(frames[0][0])
 
     def answer_at(self, frame: int, *before: str) -> CheckOutput:
-        """Return an answer of `check --all` that refuses row 22 at a frame."""
+        """Return output of `check --all` with a fault in row 22 at a frame."""
         lines = [*before, f"refused 72 Content {frame_text(frame)} row 22 column 0"]
         return make_answer([*lines, f"{len(lines)} faults"], path=self.path("told"))
 
@@ -390,8 +393,10 @@ class MissingRows(Case):
 
 
 def with_keeping_repeats(sent: Sent, way: str = "", frames: int = 0) -> Sent:
-    """Send repeated pages with headers that keep the page; `way` removes the rows of the first
-    repetition or changes its subcode, and `frames` delays all repeated rows.
+    """Return the transmission with headers that keep the page in all repeated pages.
+
+    If `way` is `left out`, the first repeated page has no rows. If it is `subcode`, the subcode of
+    this page is different. `frames` delays all repeated rows.
     """
     made: Sent = []
     before: list[bytes] = []

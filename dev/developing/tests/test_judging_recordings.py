@@ -90,7 +90,7 @@ class Recordings(Case):
         pes = example_bytes("story.pes")
         stream = stream_of_pids((TELETEXT_PID, pes))
         later = make_pes_packet(decode_pts(packets(pes)[-1]) + 100 * TICKS,
-                                [HEADER] * 5)  # fills two TS packets
+                                [HEADER] * 5)  # this PES packet fills two TS packets
         for data in (pes + later[:100], stream_of_pids((TELETEXT_PID, pes + later))[:-188], stream):
             found = judge_files(self, STORY, self.write("cut.rec", data), "--origin", "0")
             self.must("cut", found.word == "accepted" and [

@@ -316,8 +316,10 @@ class ExpectedPages(unittest.TestCase):
 
 class RandomFiles(Case):
     def random_file(self, chance: random.Random) -> bytes:
-        """Return a file of up to eight subtitles with random characters and, in part, with
-        overlapping, decreasing or invalid times."""
+        """Return a file of up to eight subtitles with random characters.
+
+        Some subtitles overlap, are out of order, or have invalid times.
+        """
         blocks: list[Shown] = []
         frame = chance.randrange(1, 1000)
         for number in range(chance.randrange(1, 9)):

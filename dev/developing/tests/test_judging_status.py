@@ -25,7 +25,7 @@ from subtitles.judging.status import (
 from .bench import Case
 from .parts import make_answer, make_part
 
-ERROR, WARNING, NUMBER = 72, 67, 38  # fault numbers; `NAMED` makes WARNING a warning
+ERROR, WARNING, NUMBER = 72, 67, 38  # fault numbers; the severity NAMED makes WARNING a warning
 ENDS_READING, LOST_PACKETS, SILENT = (30, 31, 32, 44), 45, 79
 RIGHT = {
     "accepted": CheckSummary(0, is_accepted=True),
@@ -64,7 +64,7 @@ WRONG = {
 LOSSES: Sequence[Sequence[bool]] = (
     (), (False,), (True,), (True, False, False), (False, True), (False, False, True), (True, True))
 OUTPUTS: Sequence[Sequence[str]] = ((), ("one.json: full",), ("one.csv: full", "one.xml: full"))
-# With and without a clock and --relative.
+# Whether a clock is known, and whether --relative is given.
 CLOCKS: Sequence[dict[str, Any]] = (
     {"has_clock": True}, {"has_clock": False},
     {"has_clock": False, "is_relative_allowed": True},
@@ -80,7 +80,7 @@ def severity_of(*lines: str, is_loss_allowed: bool = False) -> Severity:
 
 
 def by_clock(word: str, clock: dict[str, Any]) -> tuple[str, int]:
-    """Return the expected verdict and status, from the verdict expected with a clock."""
+    """Return the expected verdict and exit status. `word` is the verdict if a clock is known."""
     if clock["has_clock"] or word not in (ACCEPTED, WAIVED):
         return word, STATUSES[word]
     return RELATIVE, 0 if "is_relative_allowed" in clock else 3
@@ -113,7 +113,10 @@ class Decisions(unittest.TestCase):
 
     @staticmethod
     def expected_word(names: Sequence[str]) -> str:
-        """Return the expected verdict on parts without losses, from the names of their answers."""
+        """Return the expected verdict on parts without losses.
+
+        `names` contains the name in RIGHT or WRONG of each part's output.
+        """
         if set(names) & WRONG.keys():
             return NOT_JUDGED
         if any(name.startswith("refused") for name in names):
@@ -157,8 +160,11 @@ class Decisions(unittest.TestCase):
 
     def check_decision(self, name: str, seen: Grounds, is_allowed: bool,
                        clock: dict[str, Any]) -> None:
-        """Check a verdict on parts with losses and warnings; `is_allowed` accepts losses by
-        --allow-lost or by a severity file that makes 45 a warning."""
+        """Check a verdict on parts with losses and warnings.
+
+        `is_allowed` means that losses are accepted, by --allow-lost or by a severity file in which
+        fault 45 is a warning.
+        """
         found, losses, warnings = decide(seen), seen.judged_losses, seen.warnings
         if name in ("refused", "silent"):
             wanted = REFUSED if name == "refused" else NOT_JUDGED

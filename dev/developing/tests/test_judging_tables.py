@@ -1,4 +1,4 @@
-"""Test decisions about pairs and their parts with tables."""
+"""Test, with tables, the decisions about pairs and their parts."""
 from __future__ import annotations
 
 import itertools
@@ -75,7 +75,7 @@ class PartClocks(unittest.TestCase):
         with mock.patch.object(timing, "find_range") as cut:
             for packets, inside, begin, is_continued in (
                     (None, (2, 8), 3, False), ((4, 5), (4, 5), 3, False), (None, (2, 8), 3, True),
-                    (None, (2, 8), 5, True)):  # the part begins later than the file
+                    (None, (2, 8), 5, True)):  # the part begins after the recording's first frame
                 part = programme.full_range._replace(packets=packets, begin=begin)
                 cut_packets(programme._replace(is_continued=is_continued), recording, part, 6)
                 self.assertEqual(cut.call_args.args, (
@@ -231,7 +231,7 @@ class FrameGrids(Case):
 
 
 def page_with(*rows: tuple[int, bytes]) -> tuple[bytes, ...]:
-    """Return a blank page in which some rows have been replaced."""
+    """Return a blank page except for these rows."""
     page = list(BLANK_PAGE)
     for number, text in rows:
         page[number - 1] = text.ljust(40)

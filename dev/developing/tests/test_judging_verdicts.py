@@ -45,7 +45,7 @@ def of_pair(*words: str) -> Request:
 
 
 def loss_between(before: int | None, after: int | None, shift: int = 0, **more: Any) -> LossPlace:
-    """Return a loss between two frames, with all PTS shifted by some ticks."""
+    """Return a loss between two frames. `shift` ticks are added to the PTS of the frames."""
     first, last = (None if one is None else (shift + TICKS * one) % CLOCK
                    for one in (before, after))
     return LossPlace(first, last, **more)

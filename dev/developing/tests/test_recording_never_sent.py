@@ -104,7 +104,7 @@ class Announcements(Case):
         for lines, carriers, wanted in rows:
             self.must(f"{lines} {carriers}",
                       find_silent_pids(announcements(*lines), carriers) == wanted)
-            for pes in (None, (0, 9)):  # with a range the programme is unambiguous
+            for pes in (None, (0, 9)):  # if --pes is given, the programme is clear
                 found = self.why_unclear(lines, carriers, pes)
                 pids = [f"--pid 0x{pid:X}" for pid in sorted(carriers | wanted)]
                 self.must(f"{lines} {carriers} {pes}: refused", found == (
@@ -112,7 +112,7 @@ class Announcements(Case):
 
     def why_unclear(self, lines: list[str], carriers: set[int], pes: tuple[int, int] | None) \
             -> list[str] | None:
-        """Return the commands suggested if it is unclear which programme should send the page."""
+        """Return the commands that qc suggests, or `None` if it knows which programme is meant."""
         request = mock.Mock(page=PAGE, pes=pes)
         recording = mock.Mock(survey=read_survey(*lines), request=request, said=str)
         recording.suggest_call = lambda *words: " ".join(words)
@@ -189,7 +189,7 @@ class JudgedStreams(ProgrammeCase):
         return [(OLD, self.pes[at])]
 
     def bare(self, at: int) -> Sequence[tuple[int, bytes]]:
-        """Return a PES packet without Teletext packets, with the new PID."""
+        """Return a PES packet on the PID NEW, without Teletext packets."""
         return [(NEW, make_pes_packet(decode_pts(self.pes[at]), []))]
 
     def check_never_sent(self, name: str, told: JudgedPair, words: str) -> None:
@@ -274,7 +274,7 @@ class DeadSources(ProgrammeCase):
                 for pts, some in self.sent]
 
     def without(self, last: int) -> Sent:
-        """Return the transmission of headers, without Teletext packets up to a frame."""
+        """Return the transmission without rows, and up to frame `last` without Teletext packets."""
         return [(pts, some if pts // TICKS > last else []) for pts, some in self.blank()]
 
     def test_refuses_headers_without_rows_if_a_subtitle_is_expected(self) -> None:

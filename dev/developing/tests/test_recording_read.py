@@ -44,7 +44,7 @@ def pes_line(pid: int, does: str = "heob", number: int = 0, pts: int = SECOND) -
 
 
 def pmt_lines(number: int, pid: int) -> list[str]:
-    """Return lines of `survey` about a PMT that announces page 888, and PCRs of a minute."""
+    """Return lines of `survey` for a recording of a minute with a PMT that announces page 888."""
     return ["pcr 100 0", f"programme {number} 100", f"stream {pid} 6",
             f"announce {pid} 888 656e67 2", f"pcr 100 {60 * SECOND}"]
 
@@ -125,7 +125,7 @@ class ChosenPids(Case):
 
 class Messages(Case):
     def check_lines(self, lines: Sequence[str], wanted: Sequence[str]) -> None:
-        """Check that each line contains the expected text for it."""
+        """Check that each line contains its expected text."""
         self.assertEqual(len(lines), len(wanted), (lines, wanted))
         self.assertTrue(all(map(str.__contains__, lines, wanted)), (lines, wanted))
 

@@ -40,8 +40,10 @@ class CompletePage(Case):
             TICKS * frame, [HEADER, CLOSING]) for frame in (75, 85, 87, 90)))
 
     def verdict(self, kinds: str, is_estimated: bool = False, is_read: bool = True) -> Verdict:
-        """Return a verdict on parts, with losses, notes and warnings; `is_estimated` gives the
-        last part an estimated clock."""
+        """Return a verdict with losses, notes and warnings, and a part for each letter in `kinds`.
+        If `is_estimated` is true, the clock of the last part is estimated. If `is_read` is false,
+        the recordings of the parts are not read.
+        """
         parts = []
         for number, kind in enumerate(kinds, 1):
             given: dict[str, Any] = {

@@ -76,8 +76,8 @@ class CueVerdicts(Case):
         programme = ExpectedPages([subtitle], [page(b"one")])
         waived = severity_of("67 warning"), severity_of("72 warning"), severity_of("others warning")
         rows: list[tuple[str | None, list[int], int, list[str]]] = [
-            # Cause, numbers of other faults, first clean frame, and the verdicts if fault 67, fault
-            # 72 or all faults are warnings.
+            # Cause, numbers of other faults, first clean frame, and three expected verdicts: if
+            # fault 67 is a warning, if fault 72 is a warning, and if all faults are warnings.
             (None, [], 100, ["right", "right", "right"]),
             (None, [], 101, ["not known", "not known", "not known"]),
             (None, [67], 100, ["waived", "wrong", "waived"]),

@@ -72,7 +72,7 @@ class RandomPair:
         return head + b"".join(made)
 
     def wrong_block(self, block: bytes) -> bytes:
-        """Replace up to two bytes of a TTI block by invalid values."""
+        """Return a TTI block in which up to two bytes have invalid values."""
         data = bytearray(block)
         for at in self.chance.choices(list(BYTES), k=self.chance.choice((0, 1, 1, 2))):
             data[at] = self.chance.choice(BYTES[at])
@@ -109,7 +109,7 @@ class RandomPair:
         self.shift(pes, at, self.chance.choice((-90, 5, 1800, TICKS)), 1)
 
     def send_late(self, pes: list[bytes], at: int) -> None:
-        """Shift the PTS of two PES packets, or of all PES packets from one on, by frames."""
+        """Move two PES packets, or all from the index `at` on, by a random number of frames."""
         self.shift(pes, at, TICKS * self.chance.choice((-2, 1, 3, 40)),
                    self.chance.choice((2, len(pes))))
 
@@ -288,7 +288,7 @@ class Reports(unittest.TestCase):
 
 
 def reports_from(first: int) -> Callable[[Reports], None]:
-    """Return a test method for `EACH` reports, beginning with a seed."""
+    """Return a test method for `EACH` reports with consecutive seeds from `first` on."""
 
     def test(self: Reports) -> None:
         for number in range(first, first + EACH):

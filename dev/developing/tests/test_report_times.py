@@ -99,7 +99,7 @@ class ActualTimes(Case):
 
 
 def programmes_from(first: int) -> Callable[[ActualTimes], None]:
-    """Return a test method for `EACH` programmes, beginning with a seed."""
+    """Return a test method for `EACH` programmes with consecutive seeds from `first` on."""
 
     def test(self: ActualTimes) -> None:
         for seed in range(first, first + EACH):

@@ -92,7 +92,7 @@ class Modes(Case):
                 ("--jobs 2 --settled 3", BATCH,
                  "--settled may be given with --watch, not with --batch"),
                 ("--every 25 --breaks 1", COLLECT, "--every may be given with"),
-                # Defaults given by the user are refused, too.
+                # An option is refused even if its value is the default.
                 ("--pes=1-2", ALONE, "--pes may be given with"),
                 ("--breaks 0", ALONE, "--breaks may be given with"),
                 ("--breaks=0", ALONE, "--breaks may be given with"),

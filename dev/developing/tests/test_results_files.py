@@ -70,7 +70,7 @@ def changed(known: Any, chance: random.Random) -> Any:
 
 
 def places_in(value: Any) -> Iterator[tuple[Any, Any]]:
-    """Yield each container within a JSON value with each of its keys or indexes."""
+    """Yield, for each dictionary and list in a JSON value, the container and each key or index."""
     keys: Sequence[Any] = list(value) if isinstance(value, dict) else \
         range(len(value)) if isinstance(value, list) else ()
     for key in keys:

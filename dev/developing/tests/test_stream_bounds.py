@@ -1,4 +1,4 @@
-"""Test time limits at and next to their exact values, with PTS that wrap at any place."""
+"""Test values at and next to time limits. The PTS wrap at any place."""
 from __future__ import annotations
 
 import itertools
@@ -26,12 +26,13 @@ ORIGINS = 0, 7, CLOCK - 100 * SECOND - 5, CLOCK - 20 * SECOND, CLOCK - 5
 
 
 def pts_at(seconds: float | None, origin: int = 0) -> int | None:
-    """Return the PTS some seconds after `origin`, or `None` if `seconds` is `None`."""
+    """Return the PTS at `seconds` after `origin`, or `None` if `seconds` is `None`."""
     return None if seconds is None else round(origin + seconds * SECOND) % CLOCK
 
 
 def packets_at(times: Sequence[float | None], origin: int = 0, does: str = "he") -> Packets:
-    """Return PES packets with PTS at some seconds; `None` stands for a packet without PTS."""
+    """Return PES packets at these seconds after `origin`. `None` stands for a packet without PTS.
+    """
     return Packets(257, [PacketRun(number, 1, pts_at(one, origin), 0, does, "")
                          for number, one in enumerate(times)])
 
@@ -62,7 +63,7 @@ class Silences(unittest.TestCase):
                 lull = Silence(first, last, is_near)
                 self.assertEqual(select_idle_silences([lull], every, pauses),
                                  [lull] * (wanted or is_near), (first, last, pauses))
-        # The silence lies in most pauses of its length; shorter pauses don't count.
+        # A silence is idle if most pauses that are at least as long as its pause contain it.
         silence = Silence(begin + 400, end, False)
         of_others: list[tuple[list[int], bool]] = [
             ([], True), ([500], False), ([499], True), ([499, 499], True), ([500, 499], False),
@@ -149,7 +150,7 @@ class FirstPictures(unittest.TestCase):
             except Unclear:
                 found = True
             self.assertEqual(found, is_refused, (origin, begin, end))
-            with self.assertRaises(Unclear):  # the recording ends with its first frame
+            with self.assertRaises(Unclear):  # the recording ends with the programme's first frame
                 refuse_outside(request, began._replace(frame=0), 0, FRAMES_A_SECOND + 1, origin)
 
 
@@ -201,7 +202,10 @@ class ReceivedFrames(unittest.TestCase):
 
     @staticmethod
     def timeline(sent: str, **more: Any) -> Timeline:
-        """Return a timeline of PES packets, each given as `frame[!] actions text` (! if refused).
+        """Return a timeline of PES packets.
+
+        `sent` contains FRAME:FLAGS or FRAME:FLAGS:TEXT for each PES packet. A `!` after FRAME
+        stands for a faulty PES packet. `more` contains further arguments of `Timeline`.
         """
         packets = Packets(5)
         for number, word in enumerate(filter(None, sent.split(" "))):

@@ -26,8 +26,12 @@ class SentText(NamedTuple):
 
 
 class Row(NamedTuple):
-    """A programme of 100 subtitles, some transmitted differently, with the proposed layout, the
-    omitted layout, and the number of subtitles that the omitted layout would draw."""
+    """A test case: a programme of 100 subtitles, and the layout that qc proposes for it.
+
+    `times` of the subtitles are transmitted as in `one`. `taken` is the proposed layout. `left` is
+    the layout that qc does not propose, and `more` the number of subtitles that this layout would
+    draw.
+    """
 
     name: str
     one: SentText
@@ -42,8 +46,9 @@ COLOUR, FLASH, DOUBLE = SentText(b"\3Hi", b"Hi"), SentText(b"\x08Hi", b"Hi"), Se
 SPACES, EMPTY = SentText(b"  Hi", b"Hi"), SentText(b"Hi\x8a\x8aHo", b"Hi\x8aHo")
 WHITE, STEADY = SentText(b"\7Hi", b"Hi"), SentText(b"\x09Hi", b"Hi")
 NEW_BACKGROUND, BLACK = SentText(b"\x04\x1d\7Hi", b"\4\7Hi"), SentText(b"\x1cHi", b"Hi")
-NO_BOX = SentText(b"\x00Hi", b"Hi")  # 00 is not sent in a page
-# Programmes in which some texts are transmitted without a control code that an item would draw.
+NO_BOX = SentText(b"\x00Hi", b"Hi")  # the code 00 is never sent
+# Programmes in which some texts are transmitted without one of their control codes, spaces or empty
+# lines. A layout item can describe this.
 ROWS = [
     *(Row(f"{name}, {count}", one, count, "", left, count)
       for name, one, left in (("colour", COLOUR, "strip=03"), ("flash", FLASH, "strip=08"),
@@ -110,7 +115,7 @@ def plain(count: int) -> list[SentText]:
 
 
 def moved(one: SentSubtitle, columns: int) -> SentSubtitle:
-    """Return a subtitle that was transmitted some columns farther left."""
+    """Return a subtitle as if it had been transmitted `columns` columns farther left."""
     return one._replace(rows=tuple(row[columns:] + row[:columns] for row in one.rows))
 
 

@@ -72,7 +72,7 @@ HOUSES = [
 
 
 def text_bytes(printed: str) -> bytes:
-    """Convert a text of the table to the bytes of a subtitle."""
+    """Return the bytes of a subtitle text that is written as in DRAWN."""
     return b"".join(one.encode() if one in ("Hi", "Ho") else bytes.fromhex(one)
                     for one in printed.split(" "))
 
@@ -87,7 +87,10 @@ def drawing_of(text: bytes, row: int, justify: int, layout: Layout) -> str:
 
 
 def line(some: random.Random, has_codes: bool) -> bytes:
-    """Return a random line of a subtitle, with a colour or with all control codes."""
+    """Return a random line of a subtitle.
+
+    It has all control codes if `has_codes` is true, otherwise at most a colour.
+    """
     text = " ".join(some.choice(WORDS) for _ in range(some.randrange(1, 5)))[:30].encode()
     colour = some.choice([b"", b"", b"\3", b"\6"])
     return b"\x0d" + colour + b"\x0b\x0b" + text + b"\x0a\x0a" if has_codes else colour + text
@@ -95,7 +98,10 @@ def line(some: random.Random, has_codes: bool) -> bytes:
 
 def programme(some: random.Random, has_codes: bool, leaves_room: bool, layout: Layout,
               count: int = 120) -> list[SentSubtitle]:
-    """Return random subtitles, each with its transmission in a layout."""
+    """Return random subtitles, each with its transmission in a layout.
+
+    `has_codes` adds control codes to the lines. `leaves_room` puts an empty line between two lines.
+    """
     sent: list[SentSubtitle] = []
     while len(sent) < count:
         between = b"\x8a\x8a" if leaves_room else b"\x8a"
@@ -227,7 +233,7 @@ class StoredRows(Case):
 
 
 def sent_in(pes: bytes) -> str:
-    """Return the rows of the first page transmission, in the format of the table."""
+    """Return the rows of the first page transmission, in the format of `format_rows`."""
     page: Page = (0, 0x88)
     sending = read_packet(split_packets(pes)[0][0], 0, 0)
     assert not isinstance(sending, int)
@@ -236,6 +242,6 @@ def sent_in(pes: bytes) -> str:
 
 
 def format_rows(rows: Iterable[tuple[int, bytes]]) -> str:
-    """Format rows with their numbers, columns and cells as in the table."""
+    """Format rows as `ROW COLUMN CODES`, separated by `; `. Return `blank` if there are none."""
     return "; ".join(f"{number} {len(codes) - len(codes.lstrip(b' '))} {codes.strip(b' ').hex()}"
                      for number, codes in rows if codes.strip(b" ")) or "blank"

@@ -18,8 +18,8 @@ from .streams import Packet, Shape, TELETEXT_PID, make_multiplex, stream_bytes, 
 from .transmissions import Sent, write_pipe, write_programme, schedule_pages
 
 BEGIN = 900_000  # frame number of the first TCI
-LONG = range(5000)  # frames; the estimated pace ignores up to five losses in them
-FOUR = range(400)  # frames; the estimated pace ignores up to three losses in them
+LONG = range(5000)  # in these frames, up to five losses are ignored
+FOUR = range(400)  # in these frames, up to three losses are ignored
 
 
 class Row(NamedTuple):
@@ -37,23 +37,26 @@ class Row(NamedTuple):
 
 
 def holed(frames: Sequence[int], *holes: tuple[int, int]) -> list[int]:
-    """Return the frames without `count` frames after each frame of `holes`."""
+    """Return the frames without those in `holes`.
+
+    A hole is a pair: a frame, and the number of missing frames after it.
+    """
     missing = {frame for first, count in holes for frame in range(first + 1, first + 1 + count)}
     return [frame for frame in frames if frame not in missing]
 
 
 def without_frames(count: int) -> list[int]:
-    """Return the frames of PES packets that come in pairs, except in `count` empty frames."""
+    """Return the frames of PES packets, two in each frame except in `count` consecutive frames."""
     return [at // 2 for at in range(800) if not 200 <= at // 2 < 200 + count]
 
 
 def silent_twice(steps: int) -> list[int]:
-    """Return consecutive frames with two pauses that are `steps` PES packets apart."""
+    """Return frames with two pauses. Between the pauses are `steps` frames."""
     return holed(range(800 + steps), (299, 100), (399 + steps, 100))
 
 
 def repeated(steps: Sequence[int], times: int) -> list[int]:
-    """Return frames whose distances repeat these steps."""
+    """Return frames whose intervals are `steps`, repeated `times` times."""
     found = [0]
     for step in [*steps] * times:
         found.append(found[-1] + step)
@@ -62,13 +65,16 @@ def repeated(steps: Sequence[int], times: int) -> list[int]:
 
 def regular(name: str, *rows: Sequence[int], frames: int = 2, each: int = 1, every: int = 250,
             pauses: Pauses = (), closer: int = 0) -> Row:
-    """Return a test case with a regular stream."""
+    """Return a test case in which PES packets of a stream are found to be regular.
+
+    `frames` and `each` are the expected longest interval in frames and size in TS packets.
+    """
     return Row(name, rows, REGULAR, frames, each, every, pauses, closer)
 
 
 def of_pes(name: str, *rows: Sequence[int], frames: int = 1, every: int = 250, pauses: Pauses = (),
            closer: int = 0) -> Row:
-    """Return a test case with a regular file of PES packets."""
+    """Return a test case in which the PES packets of a file are found to be regular."""
     return Row(name, rows, REGULAR, frames, 1, every, pauses, closer, False)
 
 
@@ -108,7 +114,7 @@ TABLE = [
     Row("bursts", [repeated([1] * 20 + [100], 50)], IRREGULAR),
     regular("bursts of two TS packets", repeated([1] * 10 + [60], 50), frames=61, each=2,
             closer=400),
-    # Streams with few bursts, which are treated as exceptions.
+    # Streams with few bursts, which are ignored.
     regular("few bursts", repeated([*[25] * 300, 1, 1, 1], 1), frames=74, each=2, closer=3),
     regular("one burst of two", repeated([*[25] * 300, 1, 1, *[25] * 100], 1), frames=26),
     regular("one of five", repeated([*[25] * 100, *[1] * 5, *[25] * 100], 1), frames=26, closer=3),
@@ -134,7 +140,8 @@ TABLE = [
     regular("before its end", holed(LONG, (999, 100)), pauses=[(0, 500), (1000, None)]),
     Row("before the first", [holed(LONG, (999, 100))], PAUSED, pauses=[(None, 1095), (1500, 1600)]),
     Row("long before it", [holed(LONG, (999, 100))], PAUSED, pauses=[(None, 3000)]),
-    # Streams that are regular only up to or from some frame, and streams with two losses.
+    # Streams whose PES packets are regular only before or after a frame, and streams with two
+    # losses.
     *(Row(f"seldom at {at}", [[*range(at), *range(at, at + 500, 100), *range(at + 400, 5000)]],
           PAUSED) for at in (1, 2500, 4599)),
     Row("three by three", [[*range(2500), *(2600 + 100 * at + one for at in range(3)
@@ -157,7 +164,7 @@ TABLE = [
     regular("one of two", holed(LONG, (999, 100), (2999, 100)), pauses=[(999, 1100)]),
     Row("two of three", [holed(LONG, (999, 100), (1999, 100), (2999, 100))], PAUSED,
         pauses=[(999, 1100), (2999, 3100)]),
-    # Pauses with a longer limit on the interval.
+    # Pauses if the longest allowed interval between PES packets, `every`, is longer.
     regular("300 frames by the usual bound", holed(LONG, (999, 299))),
     *(Row(f"{count + 1} frames of {every}", [holed(LONG, (999, count))], PAUSED, every=every)
       for count, every in ((299, 300), (250, 1500), (1499, 1500), (1999, 9000))),

@@ -1,4 +1,4 @@
-"""Test the search for video timestamps that jump against the Teletext (departures)."""
+"""Test the detection of video timestamps that jump in relation to the Teletext timestamps."""
 from __future__ import annotations
 
 import itertools
@@ -21,7 +21,7 @@ from .streams import Programme, TELETEXT_PID, multiplex_programmes
 from .transmissions import write_programme, schedule_pes, subtitle_times
 
 
-# Test tables of departures with `lead` lines of `survey`.
+# Tables of `lead` lines of `survey`, and the jumps (departures) that are found in them.
 
 PID, VIDEO = 0x101, 0x200
 SECOND = 25  # frames in a second
@@ -31,7 +31,8 @@ def leads_of(leads: Sequence[float], steps: Mapping[int, float] = {}, first: int
              each: int = SECOND) -> list[VideoLead]:
     """Return `lead` lines at regular intervals with these leads in frames.
 
-    `steps` maps the index of a line to the frames by which decoding times jump there.
+    `steps` maps the index of a line to the number of frames by which decoding times jump at this
+    line.
     """
     found, missing = list[VideoLead](), 0.0
     for at, ahead in enumerate(leads):
@@ -44,7 +45,7 @@ def leads_of(leads: Sequence[float], steps: Mapping[int, float] = {}, first: int
 
 class PictureDepartures(Case):
     def ticks_of(self, leads: Sequence[VideoLead]) -> list[int | None] | None:
-        """Return the ticks of each departure, or `None` if intervals are irregular."""
+        """Return the size of each jump in ticks, or `None` if the intervals are irregular."""
         departures = locate_departures(leads)
         return None if departures is None else [one.ticks for one in departures]
 
@@ -110,12 +111,15 @@ class PictureDepartures(Case):
             self.check(f"{each} a second", locate_departures(steady), [])
 
 
-# Test which departures are reported as faults or notes.
+# Tables of jumps that are reported as faults or as notes.
 
 def lines_of(steps: Sequence[tuple[float, int]], origin: int = 0, video: int = VIDEO,
              jitter: int = 0) -> list[str]:
-    """Return the `lead` lines of frames 500 to 2500, with pictures that jump by `steps`; `jitter`
-    shortens every second lead."""
+    """Return `lead` lines for the frames 500 to 2500.
+
+    `steps` contains jumps: the number of frames, and the frame of the jump. `jitter` is subtracted
+    from the lead in odd frames.
+    """
     found = []
     for frame in range(500, 2500, SECOND):
         away = sum(by for by, at in steps if at <= frame)
@@ -125,8 +129,11 @@ def lines_of(steps: Sequence[tuple[float, int]], origin: int = 0, video: int = V
 
 
 def survey_with(lines: Sequence[str] = ()) -> Survey:
-    """Return a survey of two programmes: the first with the video of these lines and a second,
-    steady video, the other with a video that jumps."""
+    """Return a survey of two programmes.
+
+    The first programme has the video that `lines` describes, and a video without jumps. The second
+    has a video that jumps.
+    """
     quiet, others = 0x300, 0x302
     survey = Survey()
     for line in [f"programme 1 {VIDEO}", f"stream {PID} 6", f"programme 2 {others}",

@@ -1,4 +1,4 @@
-"""Test losses in transport streams, the option --pace, and reading lists of specifications."""
+"""Test losses in transport streams, the option --pace, and how lists of specifications are read."""
 from __future__ import annotations
 
 import argparse

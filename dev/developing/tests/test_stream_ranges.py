@@ -23,7 +23,7 @@ BAD = b"no letter: \xe6"
 
 
 def three(first: int) -> list[tuple[int, int]]:
-    """Return the first and end frames of three subtitles after a frame."""
+    """Return the start and end frames of three subtitles that follow frame `first`."""
     return [(first + 50 * at, first + 50 * at + 40) for at in range(1, 4)]
 
 
@@ -35,7 +35,7 @@ class DayFiles(Case):
             [*three(0), *three(MINUTE)], texts)], name)
 
     def transmission(self, *words: str) -> str:
-        """Write the transmission of the second minute, or of the range in `words`."""
+        """Write the transmission of the subtitles in LATER, or in the range that `words` gives."""
         self.schedule(self.day(), "second.pes", *(words or LATER))
         return self.path("second.pes")
 

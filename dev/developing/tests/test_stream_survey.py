@@ -29,7 +29,7 @@ LATER_PID, OTHER_VIDEO = 0x111, 0x300
 
 
 def lines_of_kinds(case: Case, data: bytes, *kinds: str) -> list[str]:
-    """Return the lines of some kinds that `survey` prints for a recording."""
+    """Return the lines of the given kinds that `survey` prints for a recording."""
     status, lines = case.program("survey", case.write("one.ts", data))
     case.must("status", status == 0, status)
     return [line for line in lines if line.split()[0] in kinds]
@@ -191,7 +191,11 @@ class PictureLines(Case):
 
     def split(self, cuts: Sequence[int], pes: bytes, flagged: bool = False, counter: int = 0
               ) -> list[bytes]:
-        """Split a PES packet at some places, and return its TS packets."""
+        """Split a PES packet at the offsets `cuts`, and return its TS packets.
+
+        `flagged` sets the random_access_indicator in the first TS packet, whose counter is
+        `counter`.
+        """
         maker = Maker([])
         maker.counters[VIDEO_PID] = counter + 15
         for begin, end in zip([0, *cuts], [*cuts, len(pes)]):
@@ -257,7 +261,7 @@ class PictureLines(Case):
 
 
 class Named(NamedTuple):
-    """The components of a PMT, or PES packets on their PIDs, with the expected lines."""
+    """A test case: the components of a PMT, and the expected lines."""
 
     components: list[tuple[int, int, bytes]]
     wanted: list[str]
@@ -404,7 +408,8 @@ def with_pcr(intervals: Iterable[tuple[int, int]], behind: int = 1) -> bytes:
 class ClockLines(Case):
     def test_finds_late_pcr(self) -> None:
         usual = [(3600, 5)] * 1000
-        # Intervals between PCRs, and TICKS PACKETS USUAL USUALPACKETS of each `clock` line.
+        # Intervals between PCRs (ticks, TS packets), and the expected end of each `clock` line: the
+        # interval, and then the usual interval.
         rows: list[tuple[str, Sequence[tuple[int, int]], list[str]]] = [
             ("late", [*usual, (10_801, 12)], ["10801 12 3600 5"]),
             ("not late", [*usual, (10_800, 12)], []),
@@ -499,7 +504,7 @@ def pes_packets_with(*several: Sequence[bytes]) -> list[bytes]:
 
 
 def with_third(place: int, *new: int) -> list[bytes]:
-    """Return five PES packets, the third with changed bytes at a place."""
+    """Return five PES packets. In the third, the bytes from offset `place` on are `new`."""
     made = each_frame(5)
     made[2] = made[2][:place] + bytes(new) + made[2][place + len(new):]
     return made
@@ -508,7 +513,7 @@ def with_third(place: int, *new: int) -> list[bytes]:
 class PesLines(Case):
     def test_joins_pes_packets_that_differ_in_nothing_but_pts(self) -> None:
         again = make_packet(0, 0, [8, 8, 0, 8, 0, 8, 3, 0], b" " * 32)  # header with C8
-        # Expected end of `pes` lines: FIRST COUNT PTS STEP DOES/CONTROL UNITS FAULT.
+        # Expected fields of each `pes` line after the PID, named in docs/manual/survey.md.
         begun = f"0 1 {FIRST} 0 heob/88080810 1 0"
         rows: list[tuple[str, list[bytes], list[str]]] = [
             ("alike", each_frame(5), [f"0 5 {FIRST} {TICKS} b/ 1 0"]),
@@ -596,7 +601,8 @@ class PesLines(Case):
             for name, more, skipped in (
                     ("alone", made, 0), ("before", bytes(1000) + made, 1000),
                     ("in it", made[:size * 1000] + bytes(100) + made[size * 1000:], 100),
-                    ("behind", made + made[:100], 96 if size == 192 else 100)):  # less a time stamp
+                    # A time stamp of four bytes is not counted as skipped.
+                    ("behind", made + made[:100], 96 if size == 192 else 100)):
                 lines = lines_of_kinds(self, more, "pes", "end", "over")
                 self.must(f"{size} {name}", lines == [
                     f"pes {TELETEXT_PID} {run}", f"end {TELETEXT_PID} 1500 0 1500 0 0 0 {last}",
@@ -615,7 +621,8 @@ GAP_MARKER = b"\0\0\1\xbd\0\xb2" + b"\xff" * 178
 
 def of_teletext(pes: Iterable[bytes], change: Callable[[list[bytes]], list[bytes]] = list
                 ) -> bytes:
-    """Return a stream with tables and PES packets of Teletext, after `change` of its TS packets."""
+    """Return a stream with tables and PES packets of Teletext, whose TS packets `change` changes.
+    """
     maker = Maker(components())
     maker.put_tables()
     tables = maker.taken()
@@ -629,7 +636,7 @@ def without_second(packets: list[bytes]) -> list[bytes]:
 
 
 def repeat_first_for_second(packets: list[bytes]) -> list[bytes]:
-    """Replace the second TS packet by a repetition of the first."""
+    """Replace the second TS packet with a copy of the first."""
     return [packets[0], packets[0], *packets[2:]]
 
 
@@ -653,7 +660,7 @@ class Listings(Case):
     maxDiff = None
 
     def lines_of(self, data: bytes) -> list[str]:
-        """Return the output for a recording without its first two lines."""
+        """Return the output lines for a recording, except the first two lines."""
         status, lines = self.program("survey", self.write("one.ts", data))
         self.check("status", status, 0)
         self.check("first lines", lines[:2], ["survey 1", f"head {data[:11].hex()}".rstrip()])
@@ -803,7 +810,8 @@ class SurveyAnswers(Case):
                    "PID 0x5: announced 888 eng subtitles in programme 1; subtitle pages sent: 210 "
                    f"211 212 213 214 215 216 217 218 219 220 221{more}"])
               for count, more in ((12, ""), (13, " and 1 more"), (14, " and 2 more"))),
-            # A PMT takes the last PCR of its PCR PID, or else of one of eight earlier PCR PIDs.
+            # A PMT is dated by the last PCR on its PCR PID, or else on one of its eight previous
+            # PCR PIDs.
             *((f"pcr 9 5; programme 1 9; pcr 9 8; {more}",
                lambda it: [one.after for one in it.programmes[1:]], wanted) for more, wanted in (
                    ("pcr 8 20; programme 1 8; programme 1 7; programme 2 7; programme 1 9",

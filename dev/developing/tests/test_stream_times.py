@@ -1,4 +1,4 @@
-"""Test time bases, breaks, PCRs, unusual PTS, losses and ranges of a recording with tables."""
+"""Test, with tables, time bases, breaks, PCRs, unusual PTS, losses, and ranges of a recording."""
 from __future__ import annotations
 
 import itertools
@@ -48,7 +48,7 @@ BEFORE = (CLOCK - DAY) // 2  # maximum number of ticks by which a PTS may preced
 
 
 def all_over_the_clock(chance: random.Random) -> Iterator[tuple[int, int]]:
-    """Yield origins, each with PTS distances from the complete range of the 33-bit clock."""
+    """Yield origins, each with a PTS distance, from the complete range of the 33-bit clock."""
     for origin in (0, 1, TICKS, CLOCK // 2, CLOCK - 1,
                    *(chance.randrange(CLOCK) for _ in range(9))):
         for at in (0, TICKS, CLOCK // 2, DAY, CLOCK - BEFORE, CLOCK, *(
@@ -59,7 +59,10 @@ def all_over_the_clock(chance: random.Random) -> Iterator[tuple[int, int]]:
 
 
 def text_of(number: int, does: str) -> Texts:
-    """Return the rows decoded after a PES packet: none, an unchanged text, or a new text."""
+    """Return the rows decoded after a PES packet: no rows, an unchanged text, or a new text.
+
+    `does` contains the flags of a `pes` line. It ends with `y` if the text is unchanged.
+    """
     return () if "b" in does else ((20, b"same" if does[-1] == "y" else b"%d" % number),)
 
 
@@ -301,7 +304,7 @@ class ClockTables(unittest.TestCase):
              late, (2, 4), True, False, 5),
             ("late: not where the page is blank for longer",
              "75 heb, 76 hey, 97 hebx, 100 hey, 200 heb", late, (2, 4), True, False, 5),
-            # The end of the range.
+            # Test cases for the end of the range.
             ("with what is there", "100 he, 150 -", every, (0, 1), False, False, 2),
             ("back in the time", "100 he, 150 -, 120 -", every, (0, 2), False, False, 3),
             ("with a header at the last TCO", "100 he, 200 heb, 201 -, 202 -", every, (0, 1), True,

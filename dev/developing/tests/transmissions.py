@@ -96,7 +96,7 @@ def packets(data: bytes) -> list[bytes]:
 
 
 def with_new_pts(data: bytes, new_pts: Callable[[int, int], int]) -> bytes:
-    """Replace the PTS of each PES packet by `new_pts(number, old_pts)`."""
+    """Return a PES file in which the PTS of each PES packet is `new_pts(number, old_pts)`."""
     return b"".join(one[:9] + encode_pts(new_pts(number, decode_pts(one)) % CLOCK) + one[14:]
                     for number, one in enumerate(packets(data)))
 

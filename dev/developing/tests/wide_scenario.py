@@ -24,7 +24,7 @@ class Wider(Scenario):
     """A random pair that extends a pair of `Scenario` with more faults and options."""
 
     def transmitted_subtitles(self) -> list[Written]:
-        """Change the transmitted subtitles less often than `Scenario` does."""
+        """Return the transmitted subtitles. They are changed less often than in `Scenario`."""
         return super().transmitted_subtitles() if self.has_chance(30) else self.subtitles
 
     def add_fault(self, sent: Sent) -> Sent:
@@ -59,7 +59,7 @@ class Wider(Scenario):
             data[block + at] = value
 
     def make_stream(self, sent: Sent, second: Sent) -> bytes:
-        """Return the transport stream with up to two more kinds of damage."""
+        """Return the transport stream of `Scenario` with up to two more kinds of damage."""
         data = super().make_stream(sent, second)
         size = PACKET if data[:1] == b"\x47" or len(data) % 192 else 192
         packets = [data[at + size - PACKET:at + size] for at in range(0, len(data), size)]
@@ -112,7 +112,7 @@ class Wider(Scenario):
         return [one for at, one in enumerate(packets) if at not in run or pid_of(one) != pid]
 
     def repeat(self, packets: list[bytes]) -> list[bytes]:
-        """Send the packets of a random PID twice in a random range of the stream."""
+        """Return the stream with each packet of a random PID sent twice in a random part."""
         pid, run = self.chance.choice(PIDS), self.random_run(packets)
         return [one for at, packet in enumerate(packets)
                 for one in [packet] * (1 + (at in run and pid_of(packet) == pid))]
