@@ -9,5 +9,5 @@ state       state file for monitoring
 judge       judging the programmes of a schedule
 main        command line of tools/air
 
-All state is in files. A programme is not judged again when the output folder has its JSON result.
+The only state is the segments and results: a programme with a JSON result is not judged again.
 """

@@ -112,7 +112,7 @@ def exit_status(verdict: Verdict) -> int:
     """Return the exit status of the judging process for a verdict."""
     if not verdict.is_final:
         return FAILED
-    part = verdict.parts[-1] if verdict.parts else None  # PES packets after it show its end
+    part = verdict.parts[-1] if verdict.parts else None  # if PES packets follow, it is finished
     is_finished = part and (part.pes is None or part.packets.count > part.pes[1] + 1)
     return UNFINISHED if verdict.status == 1 and not is_finished else verdict.status
 

@@ -58,7 +58,7 @@ class Recorder:
 
     def current_file(self) -> int:
         """Return the file descriptor of the current segment. Begin a new segment if the current one
-        is long enough or the clock was set."""
+        is long enough or the clock was changed."""
         now = time.time()
         if self.file is None or not 0 <= now - self.begun < self.limits.length:
             self.close()

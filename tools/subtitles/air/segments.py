@@ -111,8 +111,8 @@ class Unbroken(NamedTuple):
 
 
 def read_range(path: str, first: int, end: int) -> Iterator[bytes]:
-    """Yield the bytes of a file from one offset to another. Raise `OSError` if the file ends
-    before."""
+    """Yield the bytes of a file from one offset to another. Raise `OSError` if the file is too
+    short."""
     with open(path, "rb") as file:
         file.seek(first)
         while first < end:

@@ -394,7 +394,7 @@ def judge_next(calls: PairRunner, waiting: collections.deque[BatchItem],
 # A watched folder is judged like a batch that is resumed repeatedly. A pair is judged when both of
 # its files are complete.
 
-SCAN_SECONDS = 1.0  # file notifications would miss files written by other machines
+SCAN_SECONDS = 1.0  # between scans; notifications would miss files written by other machines
 DONE_SUFFIX = ".done"  # suffix of a file that marks both files of a pair as complete
 
 

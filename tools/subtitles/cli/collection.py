@@ -138,8 +138,6 @@ def make_file_links(folder: str, name: str) -> Markup:
     return join_markup(links, " ")
 
 
-# The table, and the JSON, CSV and JUnit files
-
 ResultSource = Union[str, dict[str, Any]]  # the path of a JSON result, or the result itself
 TABLE_HEADS = ("pair", "verdict", "faults", "worst fault")
 
@@ -204,8 +202,8 @@ PAIRS_PER_SECOND = 1000
 
 
 class FolderRows:
-    """The rows of the results in a folder. `identities` has the members of each result that show
-    whether it is up to date."""
+    """The rows of the results in a folder. For each result, `identities` has the members that show
+    whether the result is up to date."""
 
     IDENTITY_KEYS = "request", "files_at_start", "program", "verdict"
 

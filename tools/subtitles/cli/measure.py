@@ -294,8 +294,8 @@ def propose_layout(sendings: Sequence[ReceivedSubtitle], option: NationalOption)
 
 
 def list_omitted_items(choice: LayoutChoice) -> list[str]:
-    """Return a line for each item that was not proposed although more subtitles would be drawn as
-    sent, with the reason."""
+    """Return a line for each item with which more subtitles would be drawn as sent. The line has
+    the reason why the item is not proposed."""
     return [f"{left.text} would draw {left.more} more of {choice.total}: "
             f"{explain_omission(left.whole)}" for left in choice.left]
 
@@ -561,7 +561,7 @@ def find_subtitles(part: Part, subtitles: Iterable[Subtitle]) -> list[Subtitle]:
 
 def find_pid(pair: PairJudge) -> tuple[str | None, list[str]]:
     """Return the PID that carries the page, and lines with the evidence and the entry in the PMT.
-    Return no PID for a file of PES packets."""
+    For a file of PES packets the PID is `None`."""
     recording, name = pair.located_recording.recording, pair.request.page_name
     lines = [one.line for one in pair.listener.selections if one.option == PID_CHOICE]
     if not recording.is_stream:

@@ -36,7 +36,8 @@ from ..stream.gaps import first_lines
 
 
 # Only one run of qc at a time writes the results of a pair into a folder. It removes earlier
-# results, but no other files, since the folder may also contain the inputs.
+# results, but no other files, since the folder may also contain the inputs. `RESULT` recognises a
+# JSON result by its first bytes.
 
 RESULT = re.compile(rb'\{\s*"format": [0-9]+,\s*"(verdict": "|status": )')
 PREFIX_BYTES = 4096  # maximum number of bytes to read to recognise a file

@@ -191,16 +191,15 @@ def format_pid(pid: int) -> str:
 
 
 def stream_options(pid: int | None, packet_size: int = PACKET_SIZE) -> list[str]:
-    """Return the options that select a PID of a transport stream. A PES file has none."""
+    """Return the options that select a PID of a transport stream. Return an empty list for a PES
+    file."""
     if pid is None:
         return []
     size = ["--packet-size", str(packet_size)] if packet_size != PACKET_SIZE else []
     return ["--pid", f"0x{pid:X}", *size]
 
 
-# The usual delays of an inserter
-
-MAX_SHARE = 1_000_000  # a share is a number of cues or a percentage
+MAX_SHARE = 1_000_000  # maximum share, which is a number of cues or a percentage
 SHARE = re.compile(r"([0-9]{1,2}):([0-9]{1,7})", re.ASCII)
 
 
@@ -250,8 +249,6 @@ def format_lateness(late: Lateness) -> str:
     return "/".join(",".join(f"{delay}:{share}" for delay, share in kind.items())
                     for kind in late)
 
-
-# Options of several tools
 
 def add_page(parser: ToolParser) -> None:
     """Add the option --page, 888 by default."""

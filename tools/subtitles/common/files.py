@@ -268,8 +268,8 @@ def open_result(path: str, is_stored: bool = False) -> Iterator[BinaryIO]:
 
 
 def is_replaced(path: str) -> bool:
-    """Return whether `open_output` writes a new file and renames it to `path`. It does not for a
-    pipe, a device or standard output."""
+    """Return whether `open_output` replaces a file at `path`: false for a pipe, a device or
+    standard output."""
     return path not in STANDARD_OUTPUTS and (
         not os.path.exists(path) or stat.S_ISREG(os.stat(path).st_mode))
 
@@ -334,7 +334,8 @@ def make_temporary_folder(begin: str) -> Iterator[str]:
 
 @contextlib.contextmanager
 def close_after_writing(file: BinaryIO, path: str) -> Iterator[None]:
-    """Close a file when the context ends. If an `OSError` has no file name, set it to `path`."""
+    """Close a file when the context ends. If an `OSError` has no file name, set its file name to
+    `path`."""
     try:
         with file:
             yield

@@ -14,8 +14,6 @@ from .command_line import INSTALLED, Stop, version
 from .files import Stamp, sum_file, name_errors, make_stamp
 
 
-# The program that ./subttx runs in this repository
-
 TOP = os.path.realpath(os.path.join(os.path.dirname(__file__), "..", "..", ".."))
 
 
@@ -64,8 +62,6 @@ def read(path: str) -> str | None:
     with open(path, encoding="utf-8", errors="replace") as file:
         return file.read()
 
-
-# The version, the SHA-256 and the proof of the program, for a verdict
 
 PROVED = "PROVED"  # file next to the program, or in the folder above if it is installed
 PROVED_LINE = re.compile(r"crate subttx \S+ (logic=proved .*)")
@@ -136,7 +132,7 @@ def write(path: str, text: str) -> None:
 
 
 def link(words: str, name: str) -> None:
-    """Make a symbolic link, replacing an earlier file."""
+    """Make a symbolic link at `name` with the target `words`, replacing an earlier file."""
     os.makedirs(os.path.dirname(name), exist_ok=True)
     if os.path.lexists(name):
         os.remove(name)

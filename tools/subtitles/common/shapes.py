@@ -1,4 +1,4 @@
-"""Types of JSON values, to write values, to check values that were read, and to make a schema."""
+"""Types of JSON values, used to write and check results and to make their schema."""
 from __future__ import annotations
 
 import itertools

@@ -9,8 +9,6 @@ import re
 from typing import Callable, Iterable, Iterator, NamedTuple, Sequence, TypeVar
 
 
-# Times of day, frames at 25 a second, and PTS
-#
 # By default a PES packet belongs to a frame only if both have exactly the same PTS. With `check
 # --within N` a frame begins a quarter of a frame before its PTS, so that PES packets may be a
 # little early, and those of both fields belong to the same frame.
@@ -157,8 +155,6 @@ def split_rising_rows(frames: Sequence[int]) -> list[tuple[int, Sequence[int]]]:
     return [(begin, frames[begin:end]) for begin, end in zip([0, *breaks], [*breaks, len(frames)])
             if begin < end]
 
-
-# Spans of frames or of PES packets
 
 Item = TypeVar("Item")
 

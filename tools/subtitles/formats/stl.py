@@ -98,7 +98,7 @@ def page_letter_codes(text: bytes, option: str) -> bytes:
                  if code is not None and code > 0x20)
 
 
-# Texts of a GSI block (EBU Tech 3264).
+# Fields of a GSI block (EBU Tech 3264)
 
 CODE_PAGE = slice(0, 3)  # code page number (CPN)
 ORIGINAL, TRANSLATED = slice(16, 48), slice(80, 112)  # programme titles (OPT, TPT)
@@ -120,7 +120,7 @@ def read_titles(path: str) -> list[str]:
     return titles
 
 
-# Subtitles in the output of `subttx show`.
+# Matches a line in the output of `subttx show`.
 
 SHOW_LINE = re.compile(r"(?P<number>\d{5}) (?P<begin>[\d:]+) (?P<end>[\d:]+) vp (?P<row>\d+) "
                    r"jc (?P<justify>\d+) text (?P<text>-|[\da-f]+)")

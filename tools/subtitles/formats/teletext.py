@@ -6,9 +6,8 @@ import unicodedata
 from typing import Iterator, NamedTuple
 
 
-# Bytes of Teletext packets (EN 300 706).
-
-CODE_WORDS = bytes.fromhex("1502495E6473382FD0C78C9BA1B6FDEA")  # Hamming 8/4 codes of 0 to F
+# Hamming 8/4 codes of 0 to F (EN 300 706)
+CODE_WORDS = bytes.fromhex("1502495E6473382FD0C78C9BA1B6FDEA")
 # The four-bit value that each byte encodes (Hamming 8/4). It is `None` if more than one bit is
 # wrong.
 NUMBER: list[int | None] = [None] * 256

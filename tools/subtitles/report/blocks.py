@@ -10,7 +10,7 @@ from ..formats.stl import GSI, NamedSubtitle, SubtitleFile
 
 ORDER_FAULTS = {56, 57}  # fault numbers about the order of TCIs
 BYTE_FAULTS, ROW_FAULTS = (50, 51), range(50, 56)
-# By fault number: the field of the TTI or GSI block, with its name and bytes.
+# Name and bytes of the faulty field in a TTI or GSI block, by fault number
 FIELDS = {11: ("DFC", slice(3, 11)), 12: ("DFC", slice(3, 11)), 13: ("DSC", slice(11, 12)),
           14: ("CCT", slice(12, 14)), 15: ("EBN", slice(3, 4)), 16: ("CS", slice(4, 5)),
           17: ("CF", slice(15, 16)), 18: ("JC", slice(14, 15)), 19: ("VP", slice(13, 14)),

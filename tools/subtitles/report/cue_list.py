@@ -46,7 +46,7 @@ class CueRow(NamedTuple):
     row_class: str
     kinds: Sequence[str]
     cells: Sequence[Value]
-    is_repeated: bool = False  # the previous row has the same fault; print only the previous row
+    is_repeated: bool = False  # same fault as in the previous row; omitted on paper
 
 
 class CueList:

@@ -247,9 +247,6 @@ def format_fault_place(part: Part, fault: FaultLine) -> Value:
     return fault.time or " ".join(fault.line.split(" ")[3:]) or fault.name
 
 
-# Other sections: the judged range, what was not checked, and the files.
-
-
 def make_definition_list(rows: Iterable[tuple[str, Value]]) -> Markup:
     """Return an HTML definition list of the names whose values are not empty."""
     return markup('<dl class="made">{}</dl>', join_markup(

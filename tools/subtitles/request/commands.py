@@ -161,7 +161,7 @@ def lock_path(folder: str, name: str) -> str:
 
 
 def index_path(folder: str) -> str:
-    """Return the path of a folder's page with all pairs."""
+    """Return the path of the page that lists all pairs of a folder."""
     return os.path.join(folder, f"{INDEX}.html")
 
 

@@ -13,7 +13,7 @@ from .survey import Survey
 
 SECOND = 90_000  # ticks
 MAX_LISTED = 20  # maximum number of places to list
-PAUSE = 10  # a PCR step with less than 1/10 of the usual TS packets is a clock jump
+PAUSE = 10  # if a PCR step has less than 1/10 of the usual TS packets, the clock jumped
 
 
 @dataclasses.dataclass
@@ -79,7 +79,8 @@ def find_clock_jumps(packets: Packets) -> Iterator[ClockJump]:
 
 
 def is_within(ticks: int, place: LossPlace) -> bool:
-    """Return whether a loss is no longer than the interval at a place. Otherwise the PCR jumped."""
+    """Return whether a loss of `ticks` fits between the two PTS of a place. A longer loss is a jump
+    of the PCR."""
     return place.before is None or place.after is None or \
         ticks <= ticks_between(place.before, place.after)
 
@@ -119,13 +120,14 @@ def loss_line(place: LossPlace, first: int | None) -> str:
 
 
 def first_lines(lines: Sequence[str]) -> list[str]:
-    """Return the first lines, followed by the number of omitted places."""
+    """Return the first `MAX_LISTED` lines and, if there are more, a line with their number."""
     more = len(lines) - MAX_LISTED
     return [*lines[:MAX_LISTED], *([f"and at {counted(more, 'more place')}"] if more > 0 else [])]
 
 
 def gap_marker_lines(packets: Packets) -> list[str]:
-    """Return a line for each gap marker. If there are too many, the last line counts the rest."""
+    """Return a line for each gap marker. If there are too many, the last line gives the number of
+    the rest."""
     first = next(packets.pts(), None)
     lines = [loss_line(place, first) for place in find_loss_places(packets) if place.gap_marker is
              not None]
@@ -157,7 +159,7 @@ def explain_refusal(packets: Packets) -> str | None:
 
 # Anomalies of the distance between PTS and PCR, sampled once a second
 
-MAX_LATE = 60  # number of samples at either end of the recording for the largest distance
+MAX_LATE = 60  # the largest distance is that of so many samples
 ANOMALY_TEXTS = {"behind": "are behind the PCR", "early": "are more than a second ahead of the PCR",
                  "changed": "moved against the PCR by more than half a second"}
 
@@ -196,8 +198,8 @@ def find_pts_delay(packets: Packets) -> int:
 
 
 def find_recorded_range(survey: Survey, packets: Packets) -> tuple[int, int] | None:
-    """Return the PTS from which and up to which the recording has all packets of the PID, according
-    to the PCR. Return `None` if there is no PCR."""
+    """Return the first and the last PTS between which the recording has all packets of the PID,
+    judging by the PCR. Return `None` if there is no PCR."""
     clock = survey.clock_of(packets.pid)
     if clock is None:
         return None

@@ -98,8 +98,8 @@ def most(counts: Counter[Element], size: int) -> list[Element]:
 
 def find_beginnings(lines: Counter[tuple[bytes, bytes]],
                     trim: bool) -> list[tuple[bool, bytes, bytes]]:
-    """Return the most frequent ways to begin a line: `white`, and the codes to add before and after
-    the line's own leading codes."""
+    """Return the most frequent ways to begin a line: `white` (whether white is added to a line
+    without a colour), and the codes to add before and after the line's own leading codes."""
     line_counts = Counter[tuple[bytes, bytes]]()  # leading codes of lines, and of sent rows
     for (cells, sent), count in lines.items():
         shown = sent.lstrip(b" ")
@@ -160,7 +160,7 @@ def find_line_layouts(pairs: Sequence[SentLine]) -> list[Layout]:
 
 
 def as_bits(places: Iterable[int]) -> int:
-    """Return a bit mask with the bits `places` set."""
+    """Return a bit mask in which the bits `places` are set."""
     bits = 0
     for place in places:
         bits |= 1 << place
@@ -229,7 +229,8 @@ def count_misdrawn(layout: Layout, subtitles: Sequence[SentSubtitle], option: Na
 
 
 def simplify(layout: Layout, subtitles: Sequence[SentSubtitle], option: NationalOption) -> Layout:
-    """Return a layout without the items that can be removed without more wrong subtitles."""
+    """Return a layout without its unnecessary items, whose removal makes no further subtitle
+    wrong."""
     most = count_misdrawn(layout, subtitles, option, len(subtitles))
     for names in (("strip",), ("before", "behind"), ("behind",), ("after",), *(
             (name,) for name in Layout._fields[4:])):
@@ -271,10 +272,10 @@ def find_candidates(subtitles: Sequence[SentSubtitle], option: NationalOption) -
 # two lines, so each group of items needs evidence too. An item that removes something visible needs
 # the operator's decision.
 
-STAR = "*"  # item of the codes after a line's own leading codes
+STAR = "*"  # name of the item for codes after a line's own leading codes
 SINGLE = ("after", "fit", "white", "trim", "text", "up", "left", "right", "free", "double", "pack",
           "last", "row")
-MAX_ITEMS = 12  # maximum number of items of which all groups are tried
+MAX_ITEMS = 12  # maximum number of items for which all groups are tried
 # Visible codes of a text: colours other than white, flash, backgrounds.
 VISIBLE_CODES = (*range(0x01, 0x07), 0x08, 0x1C, 0x1D)
 RESTORED = (DOUBLE, START_BOX)  # codes that `before` may restore
@@ -289,8 +290,9 @@ Page = Optional[Rows]  # the page that a layout draws, if it can
 
 
 class ItemEvidence(NamedTuple):
-    """The evidence for some items of a layout, which are given in `text`. Without them, `redrawn`
-    subtitles are drawn differently; `as_sent` of these are drawn as sent with the items."""
+    """The evidence for some items of a layout, which are given in `text`. `redrawn` is the number
+    of subtitles that are drawn differently without the items. `as_sent` is how many of these are
+    drawn as sent with the items."""
 
     text: str
     redrawn: int
@@ -303,8 +305,8 @@ class ItemEvidence(NamedTuple):
 
 
 class RejectedItems(NamedTuple):
-    """Items that were not accepted, which are given in `text`. `more` further subtitles would be
-    drawn as sent with the layout `whole`, which has these items."""
+    """Items that were not accepted, which are given in `text`. `more` is the number of further
+    subtitles that would be drawn as sent with the layout `whole`, which has these items."""
 
     text: str
     more: int
@@ -327,8 +329,6 @@ class LayoutChoice(NamedTuple):
         """Return whether this is probably the broadcaster's layout."""
         return self.total >= FEWEST and self.as_sent * 10 >= self.total * TENTHS
 
-
-# ---- Items and groups of items
 
 def list_items(layout: Layout) -> list[LayoutItem]:
     """Return the items of a layout. Each stripped code is an item of its own. `STAR` is the item
@@ -382,8 +382,6 @@ def find_questionable_items(layout: Layout) -> Group:
         taken.add(("row", 0))
     return frozenset(taken)
 
-
-# ---- Evidence
 
 class Evidence:
     """The found subtitles, and the pages that layouts draw for them."""
@@ -489,8 +487,6 @@ def choose_layouts(sent: Sequence[SentSubtitle],
     return closest, evidence.make_choice(
         layout, evidence.find_rejected_items(layout, removed_groups, closest.layout))
 
-
-# Subtitles that were sent with their characters
 
 def find_sent_subtitles(subtitles: Iterable[Subtitle], held: Timeline,
                         option: NationalOption) -> list[SentSubtitle]:

@@ -28,8 +28,9 @@ from .repeats import NEAR
 LEAST = 100  # minimum number of PES packets for a measurement
 FEW, PART = 3, 1000  # maximum number of exceptions: three, or one in 1000
 OFTEN, SELDOM = 20, 100  # at least 1/20 of the intervals are usual, at most 1/100 are longer
-HOLE = 17  # distance of the next TS packet after a loss of 16
-TWO_LOST, ONE_LOST = 3, 2  # distance of the next PES packet after a loss of two, or of one
+HOLE = 17  # after a loss of 16 TS packets, the next one is the 17th
+# after a loss of two PES packets the next is the third, after one the second
+TWO_LOST, ONE_LOST = 3, 2
 UNITS = 4  # Teletext units in a TS packet; a PES header takes the place of one
 PAYLOAD = 184  # payload bytes of a TS packet
 USUAL_EVERY = 250  # default of --every, in frames
@@ -55,8 +56,8 @@ class Pace(NamedTuple):
     `interval` is the longest usual interval, or the longest pause if PES packets pause.
     `loss_interval` is the shortest interval after a loss. If PES packets are regular, `--pace` with
     one frame less reveals every loss, except at `hidden_places` of `total` places, where the
-    interval would be shorter. `is_dense` is true if two lost PES packets may not exceed the longest
-    usual interval.
+    interval would be shorter. `is_dense` is true if an interval with two lost PES packets may be no
+    longer than usual.
     """
 
     kind: str
@@ -127,7 +128,7 @@ def find_usual_distance(distances: collections.Counter[int], count: int, few: in
 
 
 def count_loss_steps(packets_per_pes: int) -> int:
-    """Return the distance of the next PES packet after a loss of 16 TS packets."""
+    """Return how many PES packets later the next one is received if 16 TS packets are lost."""
     return max(TWO_LOST, -(-HOLE // packets_per_pes))
 
 
@@ -142,8 +143,8 @@ def select_idle_silences(silences: Sequence[Silence], every: int, pauses: Pauses
 
     These are silences near another silence, since another page of the PID may have ended; silences
     that are longer than usual but allowed by `--every`; and silences outside of the programme.
-    Silences that last until the end of a pause between subtitles count too, if most equally long
-    pauses end with a silence.
+    Silences that last until the end of a pause between subtitles count too, if most pauses of that
+    length end with a silence.
     """
     inside = [(silence, end - begin) for begin, end in pauses if begin is not None
               and end is not None
@@ -177,8 +178,8 @@ def count_distances(rows: Sequence[Sequence[int]], steps: int) -> collections.Co
 
 
 def number_at_rank(counts: collections.Counter[int], rank: int, is_from_above: bool) -> int:
-    """Return the number with a rank in ascending order, or in descending order if `is_from_above`.
-    `counts` has the frequency of each number. Ranks begin at 0."""
+    """Return the number at a rank in ascending order, or in descending order if `is_from_above`.
+    Ranks begin at 0. `counts` has how often each number occurs."""
     numbers = sorted(counts, reverse=is_from_above)
     totals = itertools.accumulate(counts[number] for number in numbers)
     return next(number for number, total in zip(numbers, totals) if total > rank)
@@ -211,8 +212,9 @@ def frame_rows(packets: Packets, inside: Range, origin: int, within: int) -> lis
 
 
 def count_ts_packets(packets: Packets, inside: Range, size: int | None) -> int:
-    """Return the maximum number of TS packets in a PES packet: the mean, or the number for the
-    largest PES packet `inside` if that is greater. `size` is the number of bytes of a PES file."""
+    """Estimate the maximum number of TS packets in a PES packet. It is at least the mean, and at
+    least what the largest PES packet `inside` needs. `size` is the number of bytes of a PES
+    file."""
     total = packets.packets if size is None else size // PAYLOAD
     usual = round(total / packets.count) if packets.count else 0
     units = max((run.units for run in packets.runs_between(*inside)), default=0)

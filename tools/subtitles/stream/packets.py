@@ -121,7 +121,8 @@ class Packets:
     samples: list[tuple[int, int]] = dataclasses.field(default_factory=list)
     character_sets: list[tuple[int, int, int | None,
                                int | None]] = dataclasses.field(default_factory=list)
-    header_counts: dict[str, int] = dataclasses.field(default_factory=dict)  # by subtitle page
+    # headers of each subtitle page
+    header_counts: dict[str, int] = dataclasses.field(default_factory=dict)
     # Numbers of the PES packets at announced jumps of the counter.
     counter_jumps: list[int] = dataclasses.field(default_factory=list)
     damage: str | None = None  # reason why the rest of a PES file can't be read
@@ -173,8 +174,8 @@ class Packets:
         return (run for run in self.runs if run.pts is not None)
 
     def time_bases(self) -> list[range]:
-        """Return the ranges of PES packets with one time base. PTS go back between two ranges: the
-        next two PTS are less than the last two."""
+        """Return the ranges of PES packets with one time base. A new range begins where two PTS in
+        a row are less than the two PTS before them."""
         known = [(number, pts) for run in self.runs_with_pts() for number in end_numbers(run)
                  if (pts := run.pts_of(number)) is not None]
         begins = [0] + [known[at][0] for at in range(2, len(known) - 1) if all(
@@ -192,7 +193,7 @@ def end_numbers(run: PacketRun) -> Iterable[int]:
 
 # Alternating sub-pages, which a receiver shows in turn
 
-FEWEST = 4  # minimum number of changes to an earlier sub-page if sub-pages alternate
+FEWEST = 4  # sub-pages alternate if at least so many changes return to an earlier one
 
 
 def subcode_of(header: bytes) -> str:
@@ -215,7 +216,7 @@ def alternating_subcodes(packets: Packets, inside: Range | None = None) -> list[
 
 
 def subpage_text(subcodes: Sequence[str], page: str) -> str:
-    """Return the text about alternating sub-pages."""
+    """Return a note that sub-pages of a page alternate."""
     return f"sub-pages of {page} alternate, with the sub-codes {', '.join(subcodes[:-1])} and " \
         f"{subcodes[-1]}"
 

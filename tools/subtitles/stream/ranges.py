@@ -12,7 +12,7 @@ from .packets import BLANK, CLOSED, HEADER, OPEN, PacketRun, Packets, PageChange
 
 # A run of more ticks is not skipped, since it may wrap around the clock.
 SKIPPED = 1 << 31
-AFTER = 2  # the search ends after so many consecutive PES packets behind the last frame
+AFTER = 2  # after so many consecutive PES packets behind the last frame the search ends
 
 
 class SentPacket(NamedTuple):
@@ -124,9 +124,9 @@ class PageTexts:
 class RangeStart:
     """Finds the first PES packet of a range.
 
-    It begins the last page transmission before frame `begin` that leaves the page blank. Without
-    such a transmission, it is the first header from `begin` on. If `within` is greater than 0, all
-    PES packets of a frame belong to one transmission.
+    This is the first PES packet of the last page transmission before frame `begin` that leaves the
+    page blank. If there is no such transmission, it is the first header from `begin` on. If
+    `within` is greater than 0, all PES packets of a frame belong to one transmission.
     """
 
     def __init__(self, begin: int, within: int, texts: PageTexts) -> None:
@@ -232,8 +232,8 @@ def packets_from(packets: Packets, low: int, high: int, origin: int, within: int
 
 def is_outside(run: PacketRun, low: int, high: int) -> bool:
     """Return whether a run lies a frame or more before PTS `low` or after `high`. These may be a
-    day apart, but the order of two PTS is certain only up to half of the clock's range, 13
-    hours."""
+    day apart, but the order of two PTS is certain only if they are less than 13 hours apart, half
+    of the clock's range."""
     first, last = run.pts, run.last
     if first is None or last is None or not 0 <= run.step * run.length < SKIPPED:
         return first is None

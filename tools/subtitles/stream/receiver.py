@@ -58,7 +58,7 @@ def clear_unsent_cells(rows: Rows) -> Rows:
 
 
 PAUSE = 2  # a longer interval in frames without a PES packet is a pause
-FEW = 20  # minimum number of PES packets per pause if pauses are rare
+FEW = 20  # pauses are frequent if there are fewer PES packets per pause
 
 
 class SpanIndex:
@@ -101,8 +101,8 @@ class ReceivedPackets:
         self.uncertain_spans, self.pauses = list[Span](), list[Span]()
 
     def add_run(self, run: PacketRun, frames: Sequence[int]) -> bool:
-        """Add PES packets with ascending frames. Return `False` if they, or packets before them, go
-        back to earlier frames; these are ignored."""
+        """Add PES packets with ascending frames. If these or earlier packets go back to an earlier
+        frame, ignore them and return `False`."""
         if self.halt is None and frames[0] < self.last:
             self.halt = run.first
         if self.halt is not None:
@@ -230,8 +230,8 @@ class Timeline(ReceivedPackets):
 
     def receive_run(self, run: PacketRun, texts: Texts | None, stray: Texts = ()) -> None:
         """Receive a run. `texts` are the rows that `survey` printed after the run's first PES
-        packet, if any. If that packet is not received, the page may have other rows. `stray` are
-        rows received while the page was not open."""
+        packet, if any. If that packet is not received, the receiver may not have decoded these
+        rows. `stray` are rows received while the page was not open."""
         is_told = texts is not None
         self.is_erased = self.is_erased or ERASE in run.flags
         if texts is not None:
@@ -372,8 +372,8 @@ def decode_near(packets: Packets, page: Page, origin: int, within: int, span: Sp
 
 
 def full_page(texts: Texts, is_erased: bool) -> Rows:
-    """Return a page with the rows `texts`. If `is_erased`, all other rows are blank, or else not
-    yet received."""
+    """Return a page with the rows `texts`. All other rows are blank if `is_erased`, or else not yet
+    received."""
     blank: Rows = BLANK_PAGE if is_erased else OLD_PAGE
     if not texts:
         return blank

@@ -44,9 +44,8 @@ def count_repeats(frames: Iterable[int], edges: Sequence[int]) -> collections.Co
 
 
 def repeat_distance(frames: Iterable[int], edges: Sequence[int]) -> int | None:
-    """Return the usual interval of repeats in frames, or `None` if there are too few repeats. Half
-    of the time lies in shorter or equal intervals. This suits pages that are always sent twice in a
-    row, too."""
+    """Return the usual interval of repeats in frames, or `None` if there are too few repeats. It is
+    the median weighted by time, which also suits pages that are always sent twice in a row."""
     repeats = count_repeats(frames, edges)
     if sum(repeats.values()) < FEWEST:
         return None

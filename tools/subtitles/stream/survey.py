@@ -99,7 +99,7 @@ class Survey:
         self.by_pid: dict[int, Packets] = {}
         self.videos: dict[int, Video] = {}
         self.leads: dict[tuple[int, int], list[VideoLead]] = {}  # by PIDs of Teletext and video
-        self.clocks: dict[int, tuple[int, int]] = {}  # the first and the last PCR
+        self.clocks: dict[int, tuple[int, int]] = {}  # first and last PCR of each PCR PID
 
     def read_line(self, line: str) -> None:
         """Parse a line of the output of `survey`."""
