@@ -10,12 +10,12 @@ definitions   the definitions of specs/, and the dependencies of names and claus
 sources       the names that a file of specs/, proofs/ or src/ defines
 graph         the uses of these names, and the promises that depend on them
 signs         the symbols of definitions and their meanings
-promises      the index of clauses in CLAUSES
+promises      the index in docs/CLAUSES.md: promises, and the clauses that state them
 cited         names and numbers in the documents
 shown         the command lines of documents, with the output shown there
 edits         mutants of the crates
 bugs          mutants of the tools: small mistakes, made in the syntax tree
-planting      tests of a function into which a mistake was inserted
+planting      runs of tests on mutants of the tools
 looks         checks of reports in a browser
 compiled      the tools, compiled once for many test calls
 pes           Teletext packets and their PES packets

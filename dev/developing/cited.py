@@ -20,7 +20,7 @@ from .proved import parse_proved
 DOCUMENTS = {"docs/HEADLINE.md": "", "docs/ASSURANCE.md": "", "docs/CLAUSES.md": "",
              "docs/DECISIONS.md": "", "docs/GLOSSARY.md": "",
              "docs/ARCHITECTURE.md": "|"}
-# A table row: a law, its name, and the numbers of definitions and lines that a reader must know.
+# A table row: a law, its name, and the numbers of its definitions and of their lines.
 ROW = re.compile(r"^\| (.*) \| `(\S+)` \| (\d+) \| (\d+) \|$", re.M)
 # The maximum number of lines of definitions that each law may need.
 MAX_LINES = {"run_in_memory.headline": 450, "run_in_memory.acceptance": 800}
@@ -122,7 +122,7 @@ def correct_count_rows(top: str) -> Iterator[tuple[str, str]]:
 
 
 def correct_readme_counts(top: str) -> Iterator[tuple[str, str]]:
-    """Yield the line count of each promise in README, and the correct count."""
+    """Yield the line count of each law in README, and the correct count."""
     text, library = read(os.path.join(top, "README.md")) or "", Library(top)
     for name, form in IN_README.items():
         shown = form.search(text)
@@ -140,7 +140,8 @@ def find_long_readings(top: str, most_lines: Mapping[str, int]) -> Iterator[Opti
 
 
 def count_proof_numbers(top: str) -> list[int]:
-    """Return the values for ASSURANCE's table of proof numbers, in the order of its rows."""
+    """Return the values for the table of proof numbers in docs/ASSURANCE.md, in the order of its rows.
+    """
     def files(*names: str) -> list[str]:
         return glob.glob(os.path.join(glob.escape(top), *names), recursive=True)
 
@@ -159,7 +160,7 @@ def count_proof_numbers(top: str) -> list[int]:
 
 
 def correct_number_rows(top: str) -> Iterator[tuple[str, str]]:
-    """Yield each row of ASSURANCE's table of proof numbers, and the corrected row."""
+    """Yield each row of the table of proof numbers in docs/ASSURANCE.md, and the corrected row."""
     found = NUMBERS.search(read(os.path.join(top, "docs", "ASSURANCE.md")) or "")
     rows, numbers = list(NUMBER.finditer(found[0] if found else "")), count_proof_numbers(top)
     assert len(rows) == len(numbers), f"{len(rows)} rows of numbers in docs/ASSURANCE.md"

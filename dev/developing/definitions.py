@@ -170,7 +170,7 @@ class Library:
         return found
 
     def resolve_in(self, file: File, name: str) -> Meaning | None:
-        """Return the meaning of a name in a file, `None` if it is neither defined nor imported."""
+        """Return the definition or external name to which a name in a file refers, or `None`."""
         if name in file.definitions:
             return file.definitions[name]
         if name in file.constructors:
@@ -185,7 +185,7 @@ class Library:
 
     @functools.lru_cache(None)
     def list_meanings_used(self, definition: Definition) -> list[Meaning]:
-        """Return the meanings of the names in a definition."""
+        """Return the definitions and external names to which the names in a definition refer."""
         first, *equations = definition.parts()
         found = self.list_uses(definition.file, first, find_bound_names(first))
         for text in equations:
@@ -203,7 +203,8 @@ class Library:
         return bool(meaning) and not (isinstance(meaning, Definition) and meaning.is_function)
 
     def resolve_clauses(self, name: str) -> list[Meaning]:
-        """Return the meanings of the names in a clause FUNCTION.CLAUSE, or in all of FUNCTION."""
+        """Return what the names in a clause FUNCTION.CLAUSE, or in all clauses of FUNCTION, refer to.
+        """
         return [meaning for file, _, text in self.find_clauses(name)
                 for meaning in self.list_uses(file, text, find_bound_names(text))]
 
@@ -268,9 +269,9 @@ class Library:
         return used
 
     def sort_highest_first(self, name: str) -> list[Definition]:
-        """Return the definitions on which a name depends, each before its own dependencies.
+        """Return the definitions on which a name depends, each before the definitions that it uses.
 
-        The highest crate comes first.
+        Crates that use other crates come first.
         """
         used, seen, last_first = self.find_dependencies(name), set[Meaning](), list[Definition]()
 

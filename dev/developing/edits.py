@@ -40,8 +40,11 @@ class Edit(NamedTuple):
         return os.path.join(CRATES, self.crate, self.folder, self.name + ".edit")
 
     def matches(self, word: str) -> bool:
-        """Return whether a word names this edit: NAME, CRATE or CRATE/NAME, with or without the
-        folder."""
+        """Return whether `word` names this edit.
+
+        An edit is named NAME, CRATE/NAME or CRATE/FOLDER/NAME. The word CRATE names all edits of a
+        crate.
+        """
         word = word.removesuffix(".edit").removeprefix("crates/")
         return word in (self.name, self.crate, f"{self.crate}/{self.name}", str(self))
 
@@ -62,14 +65,16 @@ Lines = list[tuple[str, str]]  # key before the colon and text after the colon
 
 
 def read_edit(path: str) -> Lines:
-    """Return the lines of an edit file, except empty lines."""
+    """the keys before the colons, and the texts after them"""
     with open(path, encoding="utf-8") as file:
         lines = [line.partition(":") for line in file.read().split("\n") if line.strip()]
     return [(kind, rest.removeprefix(" ")) for kind, _, rest in lines]
 
 
 def find_test(name: str, lines: Lines) -> str | None:
-    """Return the test in the `test:` line of an edit, or `None`. `name` is used in error messages.
+    """Return the test in the `test:` line of an edit, or `None`.
+
+    `name` is the name of the edit in error messages.
     """
     names = [rest.strip() for kind, rest in lines if kind == "test"]
     if len(names) > 1:
@@ -78,7 +83,7 @@ def find_test(name: str, lines: Lines) -> str | None:
 
 
 def read_test(edit: Edit) -> str | None:
-    """Return the stored test in an edit's `test:` line, if any."""
+    """Return the stored test in an edit's `test:` line, or `None`."""
     return find_test(str(edit), read_edit(edit.path()))
 
 

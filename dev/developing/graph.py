@@ -117,8 +117,7 @@ class UseGraph:
                     body.add(callee)
 
     def add_lemmas(self, node: Node, text: str) -> None:
-        """Add the lemmas that tactics name, such as crate::proofs::M::law, to the uses of a node.
-        """
+        """Add the lemmas that tactics name, as crate::proofs::M::law, to the uses of a node."""
         for path in filter(None, map(str.strip, ",".join(USING.findall(text)).split(","))):
             crate, *inner = path.split("::")
             if len(inner) > 1:

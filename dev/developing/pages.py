@@ -271,8 +271,7 @@ def find_record(member: Member) -> Record | None:
 
 
 def list_records(shape: Shape, found: tuple[Record, ...] = ()) -> tuple[Record, ...]:
-    """Return the distinct objects in a result. An object follows the first object that contains it.
-    """
+    """Return the distinct objects in a result, each after the first object that contains it."""
     if isinstance(shape, Record):
         if shape in found:
             return found

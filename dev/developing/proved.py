@@ -65,9 +65,9 @@ def read_proved(folder: str) -> Proved:
 
 
 def list_crate_sums(text: str | None = None) -> dict[str, str]:
-    """Return the checksum of each crate's sources by name, lowest crate first.
+    """Return the checksum of each crate's sources by name. A crate comes after those that it uses.
 
-    `text` is the output of `tools/sources --crates`; if it is `None`, run that script.
+    `text` is the output of `tools/sources --crates`. If it is `None`, run that script.
     """
     if text is None:
         command = [os.path.join(TOP, "tools", "sources"), "--crates"]

@@ -109,8 +109,7 @@ class BuildRecord:
         return hashlib.sha256(text.encode()).hexdigest()
 
     def find_line(self, crate: str) -> str | None:
-        """Return the prover's line for a crate if its current sources were proved here, or `None`.
-        """
+        """Return the prover's line if the crate's current sources were proved here, or `None`."""
         digest, _, line = (read(self.get_note_path(crate)) or "").partition("\n")
         is_there = os.path.exists(self.prover.get_output_path(crate))
         return line.strip() if is_there and digest == self.compute_sum(crate) else None
@@ -124,9 +123,10 @@ class BuildRecord:
 
 
 def compute_remaining_work(lines: Lines, sizes: dict[str, int]) -> dict[str, int]:
-    """Return for each crate the greatest sum of `sizes` on a path of users from it to the program.
+    """Return for each crate the work on its longest path to the program.
 
-    `sizes` lists each crate after the crates that it uses. The result has the opposite order.
+    A path leads from a crate to a crate that uses it. `sizes` gives the work of each crate, and
+    lists each after the crates that it uses. The result has the opposite order.
     """
     found: dict[str, int] = {}
     for name in reversed(sizes):

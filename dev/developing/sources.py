@@ -111,8 +111,7 @@ def find_defined_name(bare: str) -> str | None:
 
 
 def find_head_names(text: str) -> set[str]:
-    """Return the quoted names in a file's first comment, and the names that follow `main lemmas:`.
-    """
+    """Return the quoted names in a file's first comment, and the names after `main lemmas:`."""
     lines = itertools.takewhile(lambda line: line.startswith("--"), text.split("\n"))
     head = " ".join(line[2:].strip() for line in lines)
     listed_there = (re.split(r"[`,;\s]+", names) for names in MAIN.findall(head))
@@ -120,8 +119,7 @@ def find_head_names(text: str) -> set[str]:
 
 
 def read_functions(file: Source) -> list[str]:
-    """Add the functions in a source file to `file.functions`. Return the lines outside functions.
-    """
+    """Add the functions in a source file to `file`. Return the lines outside functions."""
     other_lines: list[str] = []
     attributes: list[str] = []  # attributes of the next function
     owner, at = "", 0

@@ -194,8 +194,10 @@ class Setup(NamedTuple):
 
 
 def split_output(printed: bytes, errors: bytes, count: int) -> list[tuple[int, bytes, bytes]]:
-    """Return the status (negative for a signal), the output and the error text of each run in a
-    shell."""
+    """Return the status, the output and the error text of each run in a shell.
+
+    The status is negative if a signal ended the run.
+    """
     end = END_FORMAT.replace("\\0", "\0").encode()
     texts, error_text = printed.split(end), errors.split(end)
     if (len(texts), len(error_text)) != (2 * count + 1, count + 1):
@@ -218,8 +220,7 @@ def collect_run(place: str, command: Command, before: dict[str, bytes | None], s
 
 
 class Trial:
-    """The program under test, its inputs and commands, and the tests that this machine can't run.
-    """
+    """The program, its inputs and commands, and the tests that this machine can't run."""
 
     def __init__(self, program: str, folder: str) -> None:
         self.program, self.folder = program, folder

@@ -40,7 +40,7 @@ class Jump(NamedTuple):
 
 
 class Clock:
-    """The PCRs of a PID."""
+    """Compares the PCRs of a PID."""
 
     def __init__(self, pid: int, say: Say) -> None:
         self.pid, self.say = pid, say

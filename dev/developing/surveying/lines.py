@@ -72,7 +72,11 @@ class Stream:
         self.others: set[int] = set()  # PIDs without Teletext
 
     def lines_of(self, data: bytes, is_short: bool) -> list[str]:
-        """Return the lines of `survey`. In some recordings the last `pes` lines come later."""
+        """Return the lines of `survey`.
+
+        If the recording is short, or its length is a multiple of READ, the last `pes` lines come
+        later.
+        """
         if self.asked is not None:
             self.follow(self.asked)
         skipped = 0

@@ -214,8 +214,7 @@ class Programme:
         self.change_pmt()
 
     def splice(self) -> None:
-        """Change continuity counters, announce some of these changes, and lose TS packets nearby.
-        """
+        """Change continuity counters, announce some of the changes, and lose TS packets nearby."""
         chance, mux = self.chance, self.mux
         for pid in [self.clock, *[pid for _, pid, _ in self.streams]]:
             if chance.random() < 0.3:

@@ -158,6 +158,7 @@ class Case(unittest.TestCase):
 
     def program_but(self, when: str, does: str) -> str:
         """Write a script that runs a shell command, then the program under test. Return its path.
+
         The command `does` runs only if the script's arguments match the shell pattern `when`.
         """
         return self.write_program("program", f"#!/bin/sh\ncase $* in {when}) {does} ;; esac\nexec "

@@ -129,6 +129,7 @@ class EstimatedClocks(unittest.TestCase):
     def clock_delay(self, delays: Sequence[int], within: int, shares: Lateness | None = None
               ) -> tuple[int, EarlyCues | None]:
         """Return the frames from the earliest in-cue to the chosen clock, and the early cues.
+
         The in-cues have the delays `delays`.
         """
         frames = [100 * at + at * at for at in range(1, len(delays) + 1)]

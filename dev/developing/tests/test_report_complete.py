@@ -41,6 +41,7 @@ class CompletePage(Case):
 
     def verdict(self, kinds: str, is_estimated: bool = False, is_read: bool = True) -> Verdict:
         """Return a verdict with losses, notes and warnings, and a part for each letter in `kinds`.
+
         If `is_estimated` is true, the clock of the last part is estimated. If `is_read` is false,
         the recordings of the parts are not read.
         """
