@@ -22,7 +22,7 @@ from ..common.times import EARLY_TICKS, TICKS, wrap_pts
 from ..stream.packets import HEADER, Packets, PageChange, Range, Texts
 
 VOTES = 1_000_000  # maximum number of pairs of a cue and a page change to compare
-REPEATED = 20  # a text is not compared if more cues share it
+REPEATED = 20  # maximum number of cues with the same text; the texts of more cues are not compared
 TRIED = 64  # maximum number of origins to compare with all cues
 MAX_CUE_OFFSET = 50  # maximum difference between the delays of in-cues and out-cues, in frames
 MAX_BASES = 32  # maximum number of time bases to search
@@ -56,10 +56,10 @@ class OriginFit(NamedTuple):
     """An origin and the number of cues that match.
 
     `total` counts the cues during the recording, and `matches` those that match a page change.
-    `content_matches` counts the matches with the expected page, `text_matches` those of them that
-    are no erasures, and `exact_matches` the matches at the start of a frame. `first_text` is the
-    frame of the first text match, and `first_unmatched` the frame of the first cue without a match.
-    `start` is the frame of the first PTS. With --within N, `delays` has the delay of each match.
+    `content_matches` counts the matches with the expected page, `text_matches` those of them with a
+    text, and `exact_matches` the matches at the start of a frame. `first_text` is the frame of the
+    first text match, and `first_unmatched` the frame of the first cue without a match. `start` is
+    the frame of the first PTS. With --within N, `delays` has the delay of each match.
     """
 
     origin: int
@@ -82,9 +82,10 @@ class OriginFit(NamedTuple):
 
 
 class CueOffset(NamedTuple):
-    """A delay of in-cues relative to out-cues if `is_begin` is true; otherwise the reverse.
+    """A constant delay between in-cues and out-cues, in frames.
 
-    `matches` of `total` cues have this delay.
+    If `is_begin` is true, in-cues have this delay relative to out-cues. Otherwise out-cues have it
+    relative to in-cues. `matches` of `total` cues have the delay.
     """
 
     is_begin: bool
@@ -94,7 +95,7 @@ class CueOffset(NamedTuple):
 
 
 class MatchedChange(NamedTuple):
-    """A page change: its delay after the cue in frames, and the characters of the new page.
+    """A page change, with its delay in frames after a cue and the characters of the new page.
 
     `ticks` is the distance of its PTS from the start of its frame.
     """
@@ -120,8 +121,8 @@ def find_expected_cues(subtitles: Sequence[ExpectedSubtitle]) -> list[ExpectedCu
 class TimeBase:
     """A part of a recording in which PTS increase, and its page changes.
 
-    `changes` has the page changes by the number of frames since the first header. `packets` is the
-    range of PES packets, and `within` the allowed delay in frames.
+    The keys of `changes` are numbers of frames since the first header. `packets` is the range of
+    PES packets, and `within` the allowed delay in frames.
     """
 
     def __init__(self, cues: Sequence[ExpectedCue], changes: Sequence[PageChange], first: int,
@@ -160,7 +161,7 @@ class TimeBase:
         return frames, ticks - early
 
     def copy_between(self, cues: Sequence[ExpectedCue], low: int, high: int) -> TimeBase:
-        """Return a copy with the cues `cues`, and only the page changes between two frames."""
+        """Return a copy with the cues `cues`, and without page changes outside `low` to `high`."""
         base = copy.copy(self)
         base.__dict__.pop("fits", None)
         base.cues, base.frames = cues, [cue.frame for cue in cues]
@@ -232,16 +233,17 @@ class TimeBase:
         return change is not None and change.letters == cue.letters
 
     def fit(self, start: int) -> OriginFit:
-        """Compare the cues with the page changes, like `compare`, but with a smallest delay of 0.
+        """Compare the cues with the page changes, like `compare`.
 
-        If all matching cues are late, use a later origin.
+        If all matching cues are late, choose a later origin, so that the smallest delay is 0.
         """
         fit = self.compare(start)
         least = min(fit.delays, default=0)
         return self.fit(start - least) if least else fit
 
     def compare(self, start: int) -> OriginFit:
-        """Compare the cues with the page changes if the first PTS is at frame `start`."""
+        """Compare the cues with the page changes, assuming that the first PTS is at frame `start`.
+        """
         inside = self.cues[bisect.bisect_left(self.frames, start):
                            bisect.bisect_right(self.frames, start + self.length)]
         pairs = [(cue, change) for cue in inside if (change := self.find_match(cue, start))]
@@ -258,10 +260,7 @@ class TimeBase:
                          next(unmatched, None) if len(pairs) < len(inside) else None, start, delays)
 
     def find_cue_offset(self, fit: OriginFit) -> CueOffset | None:
-        """Return the constant delay of in-cues relative to out-cues, or the reverse.
-
-        Return `None` if there is no constant delay.
-        """
+        """Return the constant delay between in-cues and out-cues, or `None` if there is none."""
         for is_begin in (True, False):
             before_offset = self.count_delayed(fit, is_begin, 0)
             if before_offset.total and before_offset.matches * 2 >= before_offset.total:
@@ -277,7 +276,10 @@ class TimeBase:
         return None
 
     def count_delayed(self, fit: OriginFit, is_begin: bool, delay: int) -> CueOffset:
-        """Count the in-cues (or out-cues) whose page is sent `delay` frames after their frame."""
+        """Return the number of in-cues that are `delay` frames late.
+
+        If `is_begin` is false, return the number of such out-cues.
+        """
         expected_texts = [(at, cue.letters) for cue in self.cues if cue.is_begin == is_begin
                           and 0 <= (at := cue.frame - fit.start + delay) <= self.length]
         matches = sum(at in self.changes and self.changes[at].letters == letters
@@ -294,7 +296,7 @@ class TimeBase:
 
 
 def skip_repeats(changes: Sequence[PageChange], most: int) -> Iterator[PageChange]:
-    """Yield the page changes without erasures that are soon followed by the same text.
+    """Yield the page changes without short erasures.
 
     If a text is erased and sent again within `most` frames, skip the erasure and the repeat.
     """
@@ -363,8 +365,8 @@ def select_time_bases(packets: Packets, inside: Range) -> list[tuple[range, Sequ
 # With --within N the estimated clock must not depend on a few early subtitles, nor on an inserter
 # that delays most subtitles. So the clock is set to the shortest usual delay of in-cues or
 # out-cues, unless --late gives the delays. Out-cues are often the earliest, because an erasure
-# takes no time to send. If a few cues are earlier than that clock, the subtitles are early. If
-# there are many, the inserter may delay all other subtitles; then the operator must give the clock.
+# takes no time to send. If a few cues are early on that clock, they are early subtitles. If there
+# are many, the inserter may delay all other subtitles; then the operator must give the clock.
 
 COMMON = 2  # a usual delay has at least 1/2 of the number of cues with the most common delay
 FEW_CUES = 3  # a usual delay has at least 3 cues, unless no delay has 3
@@ -374,7 +376,7 @@ UNSEEN_SHARE = 0.002  # minimum probability of a delay, and probability of a cue
 
 
 class EarlyCues(NamedTuple):
-    """The number of early cues among `total` matching cues.
+    """The number of early cues, and the total number of matching cues.
 
     `frames` is the maximum number of frames by which a cue is early.
     """

@@ -23,7 +23,7 @@ from .stretches import (
     select_other_origins, split_at_breaks)
 
 
-NEAR = 10 * FRAMES_A_SECOND  # maximum distance from origin 0 that is printed
+NEAR = 10 * FRAMES_A_SECOND  # maximum distance from origin 0 that is printed, in frames
 NAMED = 5  # maximum number of origins or pages to list
 LISTED = 20  # maximum number of changes of the delay to list
 
@@ -67,7 +67,7 @@ class PartOrigin(NamedTuple):
 
 @dataclasses.dataclass
 class OriginEstimate:
-    """The result of an estimate.
+    """The result of estimating the origin of a recording.
 
     `status` is 0 if the origin is unambiguous; `parts` then has the origin of each part. `airings`
     has the PES packets of each airing of the programme, if there are several. `breaks` is the
@@ -143,8 +143,8 @@ def estimate_origin(search: OriginSearch, packets: Packets) -> OriginEstimate:
 def report_sent_pages(packets: Packets, search: OriginSearch, lines: list[str]) -> bool:
     """Return whether the page was sent.
 
-    Append messages about skipped PES packets to `lines`; if the page was not sent, also about the
-    pages that were.
+    Append messages about skipped PES packets to `lines`. If the page was not sent, also append a
+    message with the other pages.
     """
     count, marks = packets.count, len(packets.gap_markers)
     timed = sum(run.length for run in packets.runs_with_pts())

@@ -291,7 +291,7 @@ def refuse_outside(request: Request, began: StartClock, begin: int, end: int,
                       f"the recording ends at {time_of(over)}")
 
 
-MILLISECOND = 90  # in ticks
+MILLISECOND = 90  # ticks in a millisecond
 MAX_PTS = 100_000  # maximum number of PTS to compare
 
 

@@ -1,7 +1,8 @@
 """Find the parts of a programme between breaks, and its repeated airings.
 
-A stretch is a sequence of consecutive cues with one origin. A place is a frame in the recording:
-the number of a time base, and the number of frames since its first PTS.
+A track is a possible origin in a time base. A stretch is a sequence of consecutive cues on one
+track. A place is a frame in the recording: the number of a time base, and the number of frames
+since its first PTS.
 """
 from __future__ import annotations
 
@@ -17,10 +18,10 @@ from .alignment import (
     EarlyCues, ExpectedCue, ExpectedSubtitle, OriginFit, TRIED, TimeBase, choose_clock,
     find_expected_cues)
 
-LEADERS = 8  # number of the best sequences of tracks that may change track at a cue
-LEAST_ROW = 5  # number of consecutive cues that must match at another origin
+LEADERS = 8  # number of best sequences of tracks for which a change of track is considered
+LEAST_ROW = 5  # minimum number of consecutive cues that must match on a new track
 NEW_TRACK = LEAST_ROW - 1  # cost of a change of track, in points
-LEAST_BREAK = 5 * FRAMES_A_SECOND  # length of the shortest break; a shorter one is a delay
+LEAST_BREAK = 5 * FRAMES_A_SECOND  # minimum length of a break; a shorter shift is a delay
 LEAST_GAP = 60 * FRAMES_A_SECOND  # minimum jump of the time codes in the file at a break
 TEXT_POINTS = 3  # points of a cue whose expected text is sent
 MAX_COMPARED = 500  # maximum number of cues to compare with each other
@@ -30,10 +31,11 @@ Place = tuple[int, int]
 
 
 class Track:
-    """A possible origin in a time base; `base` is the number of the time base.
+    """A possible origin in a time base, whose number is `base`.
 
-    `places` has the frame of each cue in the time base. `points` has 3 for each cue whose expected
-    text is sent, 2 for an erasure as expected, 1 for another page change, and 0 for no change.
+    `places` has the frame of each cue in the time base. `points` has the points of each cue: 3 if
+    the expected text is sent, 2 if the page is erased as expected, 1 for another page change, and 0
+    for no change.
     """
 
     def __init__(self, number: int, start: int, base: TimeBase) -> None:
@@ -75,7 +77,7 @@ class Stretch(NamedTuple):
     end: int
 
     def matching_places(self) -> list[int]:
-        """Return the frames in the time base of the cues that match."""
+        """Return the frames of the matching cues in the time base."""
         return [self.track.places[at] for at in range(self.first, self.end)
                 if self.track.points[at]]
 
@@ -107,7 +109,7 @@ def find_stretches(bases: Sequence[TimeBase]) -> list[Stretch]:
 
 
 class TrackSequence(NamedTuple):
-    """A sequence of tracks for the cues up to a certain cue.
+    """A sequence of tracks for the first cues of the file.
 
     `turns` has each track with its first cue. `points` is the sum of the points of the cues, less
     the cost of the changes of track. `nearness` is higher if the origins of the tracks are closer.
@@ -136,8 +138,8 @@ def find_best_stretches(cues: Sequence[ExpectedCue], tracks: Sequence[Track]) ->
 
     The best sequence has the highest `rank`. To change track, five consecutive cues must match on
     the new track. At each cue, keep the best sequence for each last track, and consider a change of
-    track only for the `LEADERS` best sequences. Finally move the borders between stretches to the
-    best cues.
+    track only for the `LEADERS` best sequences. Finally, move the borders between stretches to
+    earlier cues if this gives more points.
     """
     best: dict[Track, TrackSequence] = {}  # the best sequence for each last track
     for at, cue in enumerate(cues):
@@ -233,9 +235,9 @@ def select_other_origins(base: TimeBase, *starts: int) -> list[OriginFit]:
 def fit_part(subtitles: Sequence[ExpectedSubtitle], bases: Sequence[TimeBase],
              row: Sequence[Stretch],
              number: int, lateness: Lateness | None) -> EstimatedPart:
-    """Return the part of stretch `number`, if there are several.
+    """Return the part for stretch `number` of the stretches `row`.
 
-    Leave out the page changes that match cues of the neighbouring stretches.
+    Leave out the page changes that match cues of the previous and the next stretch.
     """
     track, first, end = row[number]
     whole = bases[track.base]
@@ -288,9 +290,9 @@ def find_airings(bases: Sequence[TimeBase], has_clock: bool = False) -> list[Air
     """Return the airings of the programme, in order of time.
 
     First find the airing in which most cues match. Then search the recording before and after it
-    for repeats. A repeat has enough texts of the cues. All its texts may be wrong, so enough page
-    changes at the times of cues are also a repeat, but only if the clock is unknown and the cues
-    are irregular. Regular cues match anywhere.
+    for repeats. A repeat contains enough texts of the cues. Its texts may all be wrong; then it is
+    found by the times of its page changes, if the clock is unknown and the cues are irregular.
+    Regular cues match anywhere.
     """
     row = find_stretches(bases)
     uses_times = not has_clock and not have_equal_steps([cue.frame for cue in bases[0].cues])
@@ -322,7 +324,7 @@ def find_airings(bases: Sequence[TimeBase], has_clock: bool = False) -> list[Air
 
 
 def find_text_places(row: Sequence[Stretch]) -> dict[int, Place]:
-    """Return, by cue number, the places at which the expected page is sent."""
+    """Return the places at which expected pages are sent. The keys are the numbers of the cues."""
     return {at: (stretch.track.base, stretch.track.places[at]) for stretch in row
             for at in range(stretch.first, stretch.end) if stretch.track.points[at] > 1}
 
@@ -336,9 +338,9 @@ def is_repeated_airing(bases: Sequence[TimeBase], first: dict[int, Place],
                        again: dict[int, Place]) -> bool:
     """Return whether the cues that match outside the first airing are a repeat of the programme.
 
-    Half of all cues must match, and half of those with a text. Alternatively, a quarter of the cues
-    with a text must match, if they extend over half of the programme. In both cases, half of these
-    texts must also match in the first airing.
+    At least half of all cues and half of the cues with a text must match. Alternatively, a quarter
+    of the cues with a text must match, and extend over half of the programme. In both cases, half
+    of these texts must also match in the first airing.
     """
     cues = bases[0].cues
     texts = [at for at in again if cues[at].letters]
@@ -350,10 +352,10 @@ def is_repeated_airing(bases: Sequence[TimeBase], first: dict[int, Place],
 
 
 def have_equal_steps(frames: Sequence[int]) -> bool:
-    """Return whether the frames are regular.
+    """Return whether many pairs of frames have the same distance, as those of regular cues have.
 
-    They are regular if at least half as many pairs as there are frames have the same distance. Only
-    the first `MAX_COMPARED` frames are compared.
+    The number of these pairs must be at least half the number of frames. Only the first
+    `MAX_COMPARED` frames are compared.
     """
     frames = frames[:MAX_COMPARED]
     counts = collections.Counter(second - first for first, second in itertools.combinations(
@@ -362,10 +364,10 @@ def have_equal_steps(frames: Sequence[int]) -> bool:
 
 
 def find_changes_by_time(bases: Sequence[TimeBase], count: int) -> dict[int, Place]:
-    """Return, by cue number, the places of page changes at the times of cues, whatever their text.
+    """Return the places of page changes at the times of cues, whatever their text.
 
-    The number of page changes must be 90 % of `count` and 75 % of the number of cues. Otherwise
-    return an empty dictionary.
+    The keys are the numbers of the cues. There must be at least 90 % as many page changes as
+    `count`, and 75 % as many as cues. Otherwise return an empty dictionary.
     """
     for number, base in enumerate(bases):
         if not base.changes or count < LEAST_CUES * (2 if base.within else 1):
@@ -378,9 +380,10 @@ def find_changes_by_time(bases: Sequence[TimeBase], count: int) -> dict[int, Pla
 
 
 def find_changes(base: TimeBase, number: int, start: int) -> dict[int, Place]:
-    """Return, by cue number, the places of page changes within the allowed delay after the cues.
+    """Return the places of page changes at most the allowed delay after the cues.
 
-    `number` is the number of the time base, and `start` the assumed frame of its first PTS.
+    The keys are the numbers of the cues. `number` is the number of the time base, and `start` the
+    assumed frame of its first PTS.
     """
     return {at: (number, place) for at, cue in enumerate(base.cues)
             for place in [next((place for place in range(
