@@ -39,9 +39,9 @@ FAILED, UNFINISHED = 101, 102
 
 class Outcome(NamedTuple):
     """The outcome of one attempt to judge a programme. `result` is its JSON result, or `None` after
-    a system error. `reason` is the system error, the reason why it was not judged, or the worst
-    fault. `is_finished` is false if a refusal may only mean that the programme continues after the
-    recorded part."""
+    a system error. `reason` is the system error, the reason why it was not judged, or the line with
+    the verdict. `is_finished` is false if a refusal may only mean that the programme continues
+    after the recorded part."""
 
     result: dict[str, Any] | None
     reason: str

@@ -179,8 +179,9 @@ class PairOptions(NamedTuple):
     """The program and the output files for a pair.
 
     `name` overrides the name from the subtitle file. Files are written into `staging_folder` if the
-    caller moves them later. `is_claimed` is true if the caller has locked them. `examine` is called
-    with the verdict before it is written. If `examine` raises `Unclear`, the pair is not judged.
+    caller moves them later. `is_claimed` is true if the caller has locked the files. `examine` is
+    called with the verdict before it is written. If `examine` raises `Unclear`, the pair is not
+    judged.
     """
 
     program: str | None

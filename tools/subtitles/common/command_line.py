@@ -382,7 +382,7 @@ def locate_error(reason: BaseException) -> str:
 
 
 def discard_output(out: TextIO | None) -> None:
-    """Redirect a stream that failed to /dev/null, because Python writes to it again at exit."""
+    """Redirect a failed stream to /dev/null, because Python writes to it again at exit."""
     with contextlib.suppress(OSError):
         if out is not None:  # standard output was closed when the tool started
             os.dup2(os.open(os.devnull, os.O_WRONLY), out.fileno())

@@ -90,9 +90,9 @@ def ticks_between(first: int, second: int) -> int:
 
 
 def ticks_within(first: int, length: int, pts: int) -> int:
-    """Return the ticks from the PTS `first` to another PTS, which may be up to `length` ticks
-    later. If it is not, the result is negative. `length` may be more than half of the clock's
-    range."""
+    """Return the ticks from the PTS `first` to another PTS, or a negative number if that is
+    earlier. A PTS up to `length` ticks after `first` is later, even if that is more than half of
+    the clock's range."""
     before = (CLOCK - length) // 2
     return wrap_pts(pts - first + before) - before
 
@@ -146,8 +146,8 @@ def frames_at(several: Sequence[int], origin: int, within: int = 0) -> Sequence[
 
 
 def split_rising_rows(frames: Sequence[int]) -> list[tuple[int, Sequence[int]]]:
-    """Split frames into rows in which they never decrease, each with the index of its first frame.
-    Each `NO_FRAME` is a row of its own."""
+    """Split frames into sequences that never decrease, each with the index of its first frame. Each
+    `NO_FRAME` is a sequence of its own."""
     if isinstance(frames, range):
         return [(0, frames)]
     breaks = [at for at, (one, other) in enumerate(zip(frames, frames[1:]), 1)

@@ -21,7 +21,8 @@ EDGE = 8
 
 
 class Lanes:
-    """The lanes of a timeline, from the first frame of a part to its last frame."""
+    """The lanes of a timeline: bars for expected pages, for decoded pages and for each kind of
+    fault."""
 
     def __init__(self, cues: CueList, decoded: Timeline | None, lost_spans: Iterable[Span]) -> None:
         self.cues, self.decoded, self.lost_spans = cues, decoded, list(lost_spans)

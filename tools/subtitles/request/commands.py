@@ -53,7 +53,7 @@ class CommandPaths:
 
 
 def shell_line(*words: str) -> str:
-    """Quote arguments for a shell, except `>` and `|`."""
+    """Return a shell command line. All arguments except `>` and `|` are quoted."""
     line = " ".join(word if word in (">", "|") else quote_argument(word) for word in words)
     return line.replace(" > ", " >")
 

@@ -159,7 +159,7 @@ def explain_refusal(packets: Packets) -> str | None:
 
 # Anomalies of the distance between PTS and PCR, sampled once a second
 
-MAX_LATE = 60  # the largest distance is that of so many samples
+MAX_LATE = 60  # number of samples that determine the largest distance
 ANOMALY_TEXTS = {"behind": "are behind the PCR", "early": "are more than a second ahead of the PCR",
                  "changed": "moved against the PCR by more than half a second"}
 

@@ -92,7 +92,7 @@ def codes_to_strip(pairs: Sequence[SentLine]) -> Iterator[bytes]:
 
 
 def most(counts: Counter[Element], size: int) -> list[Element]:
-    """Return the elements with the highest counts."""
+    """Return the `size` elements with the highest counts."""
     return [one for one, _ in counts.most_common(size)]
 
 
@@ -422,8 +422,8 @@ class Evidence:
 
     def find_unsupported(self, layout: Layout) -> Group | None:
         """Return the group of items without enough evidence that changes the smallest number of
-        subtitles. Return `None` if every group has enough. If there are more than `MAX_ITEMS`
-        items, return the single item that changes the smallest number of subtitles."""
+        subtitles, or `None` if every group has enough. If there are more than `MAX_ITEMS` items,
+        return a single item."""
         items = list_items(layout)
         is_few = len(items) <= MAX_ITEMS
         sizes = range(1, len(items) + 1) if is_few else (1,)

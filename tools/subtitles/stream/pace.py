@@ -186,8 +186,8 @@ def number_at_rank(counts: collections.Counter[int], rank: int, is_from_above: b
 
 
 def find_silences(row: Sequence[int], lost: int, steps: int) -> Iterator[Silence]:
-    """Yield the intervals of at least `lost` frames in a row of frames. A silence is near another
-    if fewer than `steps` PES packets lie between them."""
+    """Yield the intervals of at least `lost` frames in a sequence of frames. A silence is near
+    another if fewer than `steps` PES packets lie between them."""
     places = [] if isinstance(row, range) else [
         at for at, (first, last) in enumerate(zip(row, row[1:])) if last - first >= lost]
     for before, at, after in zip([-steps, *places], places, [*places[1:], len(row) + steps]):
@@ -197,9 +197,9 @@ def find_silences(row: Sequence[int], lost: int, steps: int) -> Iterator[Silence
 # ---- Input from a recording
 
 def frame_rows(packets: Packets, inside: Range, origin: int, within: int) -> list[Sequence[int]]:
-    """Return the frames of the PES packets `inside` that `check` reads, in rows. A row ends at a
-    gap marker, at a refused packet, at a packet without a frame, and where the frame number
-    decreases."""
+    """Return the frames of the PES packets `inside` that `check` reads, in sequences. A sequence
+    ends at a gap marker, at a refused packet, at a packet without a frame, and where the frame
+    number decreases."""
     rows, pts = [], array.array("q")
     for run in itertools.chain(packets.runs_between(*inside), [None]):
         if run is not None and run.pts is not None and not run.fault:
@@ -222,7 +222,7 @@ def count_ts_packets(packets: Packets, inside: Range, size: int | None) -> int:
 
 
 def find_pauses(times: Sequence[tuple[int, int]]) -> Pauses:
-    """Return the spans between subtitles, as pairs of frames. The first span begins with `None`,
-    and the last span ends with `None`."""
+    """Return the spans between subtitles, as pairs of frames. The first begins and the last ends
+    with `None`."""
     begins, ends = [begin for begin, _ in times], [end for _, end in times]
     return [*zip([None, *ends], begins), *((end, None) for end in ends[-1:])]

@@ -185,8 +185,8 @@ class Packets:
 
 
 def end_numbers(run: PacketRun) -> Iterable[int]:
-    """Return the numbers of the first two and the last two PES packets of a run, between which the
-    PTS increase. If they don't, or if the run is short, return all numbers."""
+    """Return the numbers of the first two and the last two PES packets of a run. If the run is
+    short or its PTS decrease, return all numbers."""
     numbers = range(run.first, run.end)
     return numbers if run.length < 5 or run.step < 0 else [*numbers[:2], *numbers[-2:]]
 

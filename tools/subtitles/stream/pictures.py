@@ -93,8 +93,8 @@ def measure_departure(before: Sequence[int], after: Sequence[int], step: int,
     """Return the ticks by which pictures drift at a step of the decoding times.
 
     `before` and `after` are the leads around the step, and `typical` is the typical change of a
-    lead. The result is 0, or the step, or the change of the leads if pictures were lost too. Return
-    `None` if the leads do not show which.
+    lead. The result is 0, the step, or the change of the leads if pictures were lost too. Return
+    `None` if this is unclear.
     """
     limit, half = min(abs(step) or TICKS, TICKS) / 2, TICKS // 2
     for most in SAMPLE_SIZES:

@@ -27,10 +27,9 @@ class PacketRange(NamedTuple):
     """The PES packets of a range of frames.
 
     `range` has the numbers of the first and last PES packet, or is `None` if there are none. `read`
-    is the number of PES packets read. `first` and `last` are frames. `first_packet_frame` is the
-    frame of the first PES packet, even if this packet has nothing of the page. `has_end` is true if
-    the last page transmission was found. `is_over` is true if no later PES packet can be in the
-    range.
+    is the number of PES packets read. `first` and `last` are frames, and `first_packet_frame` is
+    that of the first PES packet, even without the page. `has_end` is true if the last page
+    transmission was found, and `is_over` if no later PES packet can be in the range.
     """
 
     range: Range | None

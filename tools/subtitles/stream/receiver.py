@@ -307,8 +307,8 @@ class Timeline(ReceivedPackets):
 
     @functools.cached_property
     def page_frames(self) -> dict[Rows, array.array[int]]:
-        """Return the frames from which each page was decoded. Call it only after the last PES
-        packet."""
+        """Return, for each page, the frames from which it was decoded. Call it only after the last
+        PES packet."""
         when: dict[Rows, array.array[int]] = {}
         for frame, page in zip(self.frames, self.pages):
             when.setdefault(page, array.array("i")).append(frame)

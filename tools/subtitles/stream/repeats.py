@@ -23,7 +23,7 @@ def longest_gap(frames: Iterable[int]) -> int:
 
 
 def cue_frames(times: Iterable[tuple[int, int]]) -> list[int]:
-    """Return the frames of all cues."""
+    """Return the frames of all cues in ascending order."""
     return sorted({frame for pair in times for frame in pair})
 
 
@@ -72,8 +72,8 @@ class Repeats(NamedTuple):
 
 def measure_repeats(pts: Sequence[int], last: int | None, origin: int,
                     times: Sequence[tuple[int, int]]) -> Repeats | None:
-    """Measure the repeats of headers by their PTS, or return `None` if there are fewer than two.
-    `last` is the PTS of the last PES packet."""
+    """Measure the intervals between page headers with the given PTS, or return `None` if there are
+    fewer than two headers. `last` is the PTS of the last PES packet, and `times` has the cues."""
     frames = [frame for frame in frames_at(pts, origin, 1) if frame != NO_FRAME]
     ends = [] if last is None else [frame + 1 for frame in frames_at([last], origin, 1)
                                     if frame != NO_FRAME and frames and frame >= frames[-1]]

@@ -53,7 +53,7 @@ class ProgramMap:
 class Video:
     """The pictures of a video PID from the first random access point to the next, or to the end of
     the recording if `is_cut`. `pictures` has their PTS. `form` is the form of this group of
-    pictures: closed, open or unknown. It is an empty string if `survey` did not print it."""
+    pictures: closed, open, unknown, or an empty string if it was not printed."""
 
     skipped: int = 0
     pictures: list[int | None] = dataclasses.field(default_factory=list)
@@ -253,7 +253,7 @@ class Survey:
         return [pid_line(self.by_pid[pid], self.programmes_of(pid)) for pid in sorted(self.by_pid)]
 
     def refuse(self, status: int) -> None:
-        """Raise `ProgramInterrupted` if the output is incomplete."""
+        """Raise `ProgramInterrupted` if the output is incomplete or the exit status is not 0."""
         if self.unexpected_line or status or not self.is_complete:
             raise ProgramInterrupted("survey gave no complete result: "
                                      f"{self.unexpected_line or 'it did not end'}, status {status}")
@@ -270,8 +270,8 @@ def survey(program: str, name: str, page: Page, pid: int | None = None,
 
 def read_lines(answer: Survey, program: str, name: str, page: Page, pid: int | None = None) \
         -> Iterator[None]:
-    """Run `survey` on a recording and read its output into `answer`. Yield after each line, so that
-    the caller can use the contents. Raise `ProgramInterrupted` if the output is incomplete."""
+    """Run `survey` on a recording and read its output into `answer`. Yield after each line. Raise
+    `ProgramInterrupted` if the output is incomplete."""
     words = [program, "survey", "--page", page_name(*page), *stream_options(pid), "--", name]
     with subprocess.Popen(words, stdout=subprocess.PIPE, encoding="ascii",
                           errors="replace") as process:
