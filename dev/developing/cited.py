@@ -140,8 +140,7 @@ def find_long_readings(top: str, most_lines: Mapping[str, int]) -> Iterator[Opti
 
 
 def count_proof_numbers(top: str) -> list[int]:
-    """Return the values for the table of proof numbers in docs/ASSURANCE.md, in the order of its rows.
-    """
+    """Return the values for the table of proof numbers in docs/ASSURANCE.md, in order of rows."""
     def files(*names: str) -> list[str]:
         return glob.glob(os.path.join(glob.escape(top), *names), recursive=True)
 

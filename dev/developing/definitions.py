@@ -203,8 +203,7 @@ class Library:
         return bool(meaning) and not (isinstance(meaning, Definition) and meaning.is_function)
 
     def resolve_clauses(self, name: str) -> list[Meaning]:
-        """Return what the names in a clause FUNCTION.CLAUSE, or in all clauses of FUNCTION, refer to.
-        """
+        """Return what the names in a clause refer to. `name` is FUNCTION.CLAUSE or FUNCTION."""
         return [meaning for file, _, text in self.find_clauses(name)
                 for meaning in self.list_uses(file, text, find_bound_names(text))]
 

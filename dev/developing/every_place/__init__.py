@@ -1,6 +1,6 @@
-"""A second implementation of the program's output, from the definitions.
+"""A second implementation of the program, written from the definitions alone.
 
-dev/check-every-place compares the program with it.
+It computes the expected output for dev/check-every-place, which compares the program with it.
 
 For `check --all`:
 
@@ -24,7 +24,7 @@ calls              calls of the program, and their expected output
 
 Examples with a known result:
 
-known              pairs of files that no test of the crates has
+known              pairs of files that the crates' tests do not contain
 within             pairs with late pages, or with headers that do not erase the page
 one_file           pairs at limits of subtitle files that random pairs do not reach
 one_rule           pairs of files that break one rule

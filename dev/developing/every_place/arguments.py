@@ -24,10 +24,10 @@ class Options(NamedTuple):
     """The options of `check`.
 
     `within` is the number of frames by which a page may be late. If `pid` is set, the file is a
-    transport stream with a packet every `size` bytes. `first` and `last` limit the PES packets
-    (`None`: no limit); `from_frame` and `to_frame` limit the TCI of subtitles. `is_open` accepts
-    open subtitles, `may_keep` headers that keep the page. `pace` is the largest number of frames
-    between PES packets.
+    transport stream with a packet every `size` bytes. `first` and `last` limit the PES packets,
+    unless they are `None`. `from_frame` and `to_frame` limit the TCI of subtitles. `is_open`
+    accepts open subtitles, `may_keep` headers that keep the page. `pace` is the maximum number of
+    frames between PES packets.
     """
 
     page: Page

@@ -1,7 +1,7 @@
 """Make random options and transmissions with properties of broadcasters.
 
-They vary the text layout, the time range, headers that keep the page, the largest distance between
-PES packets, and refused subtitles in a transmission.
+They vary the text layout, the time range, headers that keep the page, the longest allowed interval
+between PES packets, and refused subtitles in a transmission.
 """
 from __future__ import annotations
 
@@ -85,7 +85,7 @@ class RepeatSettings(NamedTuple):
 
 
 def change_header(rng: Random, teletext: list[bytes], subcode: int, keeps_page: bool) -> None:
-    """Set the subcode of the first header. If `keeps_page`, clear C4, and rarely C6 too."""
+    """Set the subcode of the first header. If `keeps_page`, clear C4, and occasionally C6 too."""
     head = bytearray(teletext[0])
     head[SUBCODE] = CODE_WORDS[subcode]
     if keeps_page:

@@ -86,7 +86,8 @@ def change_field(rng: Random, packet: bytearray) -> None:
     """Flip a bit in a field of the PES header or of a data unit."""
     unit = rng.choice(find_units(packet))
     at = rng.choice([6, 7, 8, 9, DATA - 1, unit, unit + 1, unit + 2, unit + 3])
-    # Rarely change a high bit of the PTS: the checker then checks each frame of the skipped hours.
+    # Change a high bit of the PTS only occasionally: the checker then checks each of the skipped
+    # frames.
     bits = [0, 4, 5, 6, 7] if at == 9 and rng.random() < 0.9 else range(8)
     packet[at] ^= 1 << rng.choice(bits)
 

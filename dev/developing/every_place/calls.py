@@ -15,7 +15,8 @@ ALL = "--all"
 
 
 class Answer(NamedTuple):
-    """The printed lines, and the written file, if any. The last line determines the exit status."""
+    """The printed lines, and the written file or `None`. The last line determines the exit status.
+    """
 
     lines: list[str]
     written: bytes | None = None

@@ -34,7 +34,8 @@ class Transmission:
         # packets in its PES packets, and whether it is the first frame.
         self.sending: int | None = None
         self.count, self.is_first = 0, True
-        # The last run of unreadable items: their fault, and the first and last index.
+        # The last consecutive unreadable items with the same fault: the fault, and the first and
+        # last index.
         self.skipped: tuple[int, int, int] | None = None
 
     def describe_place(self, pes: int) -> str:
@@ -110,7 +111,7 @@ class Transmission:
         return has_erased
 
     def end_current_frame(self) -> None:
-        """End the frame of the last PES packet unless it has already ended."""
+        """Process the end of the last PES packet's frame, unless it has already been processed."""
         if self.sending is None:
             return
         pes, frame, self.sending = self.sending, self.frames[-1], None
@@ -175,7 +176,7 @@ def select_data(data: bytes, options: Options) -> Range:
 def check_all(stl: bytes, pes: bytes, options: Options, is_failing: bool = False) -> list[str]:
     """Return the lines of `check --all`.
 
-    If `is_failing`, reading the PES file or transport stream fails at its end.
+    If `is_failing` is true, reading the PES file or transport stream fails at its end.
     """
     subtitles = judge_subtitles(stl, options)
     subtitle_lines = subtitles.lines

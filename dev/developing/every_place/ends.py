@@ -20,7 +20,7 @@ class FrameEnds:
         self.due, self.options = due, options
         self.first = self.frame = 0  # first and previous frame
         self.active: dict[int, int] = {}  # number of each active fault: its cell, or NO_CELL
-        # The first frame of the current run of frames with an incomplete page.
+        # The frame from which the page has been incomplete.
         self.incomplete_since: int | None = None
         self.is_late = False  # whether the page is late
 

@@ -73,9 +73,9 @@ ACCIDENTS = ["leave out", "leave out", "empty the last", "empty the last", "open
 
 
 def add_accident(rng: Random, parts: list[Part]) -> None:
-    """Add a fault or another PES packet. The parts stay in order of time."""
+    """Add a fault or another PES packet. The parts stay in ascending order of time."""
     way, count = rng.choice(ACCIDENTS), len(parts)
-    if way == "leave out":  # often the first PES packet, rarely the last
+    if way == "leave out":  # often the first PES packet, occasionally the last
         del parts[rng.choice([0, rng.randrange(max(1, count - 1))])]
     elif way == "empty the last":  # remove packets from the last page
         for at in range(max(0, count - rng.choice([1, 1, 1, 2])), count):

@@ -69,7 +69,7 @@ class ListenOptions(NamedTuple):
 
 
 def parse_listen_options(arguments: list[str]) -> ListenOptions:
-    """Parse the options that only `listen` has."""
+    """Parse the options of `listen` that other commands do not have."""
     given = parse_arguments(arguments)
     last = frame_of(given["--at"])
     assert last is not None

@@ -1,8 +1,8 @@
-"""National option sub-sets (EN 300 706, table 36, region 0000): the header bits that select one,
-and the bytes of a subtitle text for its characters.
+"""National option sub-sets of characters (EN 300 706, table 36, region 0000).
 
-Texts use code table 00 of EBU Tech 3264 (ISO 6937): a letter with a diacritical mark is two bytes,
-the mark first.
+The module gives the header bits that select a sub-set, and the bytes of a subtitle text for its
+characters. Texts use code table 00 of EBU Tech 3264 (ISO 6937): a letter with a diacritical mark is
+two bytes, the mark first.
 """
 from __future__ import annotations
 

@@ -14,7 +14,7 @@ WITHOUT_PARITY = bytes(byte & 0x7F for byte in range(256))
 
 
 class Packet(NamedTuple):
-    """A Teletext packet. `header` is `None` if the packet is no header or cannot be decoded."""
+    """A Teletext packet. `header` is `None` if the packet is not a header or cannot be decoded."""
 
     data: bytes
     address: tuple[int, int] | None

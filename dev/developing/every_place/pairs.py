@@ -77,7 +77,7 @@ def make_random_text(rng: Random, row: int, option: str) -> bytes:
 
 
 def make_random_subtitles(rng: Random, option: str) -> list[Subtitle]:
-    """Return subtitles in order of time. Some of them are adjacent."""
+    """Return subtitles in ascending order of time. Some of them are adjacent."""
     frame = rng.choice([0, 25, 900_000, rng.randrange(FRAMES_OF_A_DAY - 2000)])
     made = []
     for _ in range(rng.choice([1, 1, 2, 3, 4, 6])):

@@ -53,7 +53,7 @@ class OutsideSubtitle(NamedTuple):
 
 
 def find_gsi_fault(data: bytes, accepts_open: bool) -> int | None:
-    """Return the fault number for the GSI block, if any."""
+    """Return the fault number for the GSI block, or `None`."""
     if len(data) < GSI:
         return 10
     format_code, display, table = data[3:11], data[11:12], data[12:14]
@@ -67,7 +67,7 @@ def find_gsi_fault(data: bytes, accepts_open: bool) -> int | None:
 
 
 def find_first_block_fault(block: bytes) -> int | None:
-    """Return the fault number for the first block of a subtitle, if any."""
+    """Return the fault number for the first block of a subtitle, or `None`."""
     tci, tco = frame_of_code(block[5:9]), frame_of_code(block[9:13])
     for number, is_broken in ((16, block[4] != 0), (18, block[14] > 3),
                               (19, not 1 <= block[13] <= 23)):
@@ -111,7 +111,7 @@ def read_subtitles(data: bytes, accepts_open: bool = False, begin: int = 0,
                    end: int = FRAMES_OF_A_DAY ) -> Iterator[Record | StlFault | OutsideSubtitle]:
     """Yield the subtitles and the faults in a file, in order of blocks.
 
-    After a fault in FIRST_BLOCK_FAULTS, reading continues with the next subtitle; after any other
+    After a fault in FIRST_BLOCK_FAULTS, reading continues with the next subtitle. After any other
     fault, it ends. A subtitle belongs to the requested part if `begin` <= TCI < `end`, or if its
     TCI is not a valid time.
     """
@@ -185,7 +185,7 @@ def get_line(unit: bytes) -> tuple[int, int]:
 
 
 def read_units(packet: bytes) -> tuple[list[bytes], int | None]:
-    """Return the Teletext packets in the data units, and the first fault number, if any."""
+    """Return the Teletext packets in the data units, and the first fault number or `None`."""
     packets: list[bytes] = []
     last_line = 0, 0
     for at in range(46, len(packet), 46):

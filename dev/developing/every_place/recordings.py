@@ -1,8 +1,8 @@
-"""Read the PES packets in a transport stream, simply and slowly.
+"""Read the PES packets in a transport stream with a simple, slow algorithm.
 
 A recording is a transport stream (ISO/IEC 13818-1): packets of 188 bytes, every 188, 192 or 204
 bytes. The payloads of a PID are split into parts. Each part is a PES packet or a fragment. A gap
-marker, an invalid PES packet, replaces missing PES packets.
+marker, which is an invalid PES packet, replaces missing PES packets.
 """
 from __future__ import annotations
 
@@ -140,7 +140,8 @@ class Part:
         payloads = [one.packet.payload for one in packets]
         self.payload = b"".join(payloads)
         found = read_length(self.payload) if packets[0].packet.begins else None
-        # The length of the PES packet, or the fault in its first six bytes; `None` if unknown.
+        # The length of the PES packet, or the fault in its first six bytes. `None` if they are
+        # unknown.
         self.wrong_head = found if found in (START, LENGTH) else None
         self.length = None if self.wrong_head else found
         self.is_whole = self.length is not None and len(self.payload) >= self.length

@@ -18,10 +18,11 @@ SKIPPED = {*range(33, 41), 45, 61}  # fault numbers of unreadable items
 
 
 class Event(NamedTuple):
-    """A printed line, with its fault number and its frame, if any.
+    """A printed line, with its fault number.
 
-    `pes` is the PES packet at which the line is printed, even if it concerns an earlier frame;
-    `None` after the last frame. `is_frame_end` is true for a line at the end of its frame.
+    `pes` is the PES packet at which the line is printed, even if the line concerns an earlier
+    frame. It is `None` after the last frame. `frame` is the frame that the line concerns, or
+    `None`. `is_frame_end` is true for a line at the end of this frame.
     """
 
     line: str
@@ -164,7 +165,7 @@ class TrustedFrames:
 def list_lines(event_log: EventLog, has_failed: bool, is_refused: bool) -> Iterator[str]:
     """Yield the printed lines. If there are faults, include the lines about trusted frames.
 
-    After a read failure the end of the last run is unknown.
+    After a read failure it is unknown where the last group of trusted frames ends.
     """
     before: dict[int, list[str]] = {}
     if (event_log.events or is_refused) and event_log.sent:

@@ -44,7 +44,7 @@ DAY = [
         (ONE, "refused 61 OffFrame pes 0"), stl=HELLO[:GSI])],
 ]
 
-# The largest allowed values of --within.
+# Pairs with the largest allowed values of --within.
 MOST = [
     *expect_lines("a frame that does not rise before an end is late",
                   make_pes_file("0 h r c, 10 h c, 12 h c, 5 h r c, 50 h c"),

@@ -29,8 +29,7 @@ def has_times(header: bytes) -> bool:
 
 
 def form_of(kind: int, data: bytes) -> str | None:
-    """Return whether a group is open or closed, from its first picture, or `None` if that is unknown.
-    """
+    """Return whether a group is open or closed, from its first picture, or `None` if unknown."""
     if kind == H264:
         return "open"
     if kind not in (*MPEG, HEVC):

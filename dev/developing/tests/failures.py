@@ -77,8 +77,10 @@ def facts_in(condition: ast.expr) -> Iterator[ast.expr]:
 
 
 def explained(frame: FrameType, helper: str = "must") -> str:
-    """Evaluate a failed condition again, and return the text of its first false operand, with both
-    sides of a comparison. Evaluation may have side effects."""
+    """Return the text of the first false operand in a failed condition.
+
+    Add both sides of a comparison. The condition is evaluated again, which may have side effects.
+    """
     condition = condition_in(frame, helper)
     names = {**frame.f_globals, **frame.f_locals}
 

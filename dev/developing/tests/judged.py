@@ -23,7 +23,7 @@ from .bench import Case
 from .streams import Packet, stream_bytes
 from .transmissions import Sent, pes_file, packets, write_programme, schedule_pages, subtitle_times
 
-FEW = "are too few to measure their interval"  # end of a note about the pace
+FEW = "are too few to measure their interval"  # end of a note about too few PES packets
 
 
 class LineRecorder(SilentPrinter):
@@ -34,8 +34,9 @@ class LineRecorder(SilentPrinter):
 
 
 class JudgedPair(NamedTuple):
-    """A judged pair, with its verdict, printed lines, JSON result, and the fault lines of its
-    parts. Printed commands may name only `files`.
+    """A judged pair: its verdict, printed lines, JSON result, and the fault lines of its parts.
+
+    Printed commands may name only `files`.
     """
 
     verdict: Verdict
@@ -114,8 +115,11 @@ def judge_files_with(program: str, *words: str, recorder: LineRecorder | None = 
 
 
 class ProgrammeCase(Case):
-    """A test case with a subtitle file `stl`, whose subtitles have the first and end frames `due`,
-    and its transmission (`sent`, `pes`). Each run of qc has the arguments `words`."""
+    """A test case with a subtitle file `stl` and its transmission (`sent`, `pes`).
+
+    `due` contains the start and end frames of the subtitles. `words` are arguments for each run of
+    qc.
+    """
 
     due: Sequence[tuple[int, int]] = subtitle_times(10)
     words: Sequence[str] = ("--origin", "0")

@@ -1,5 +1,7 @@
-"""Random programmes sent by simulated inserters, with at most one planted fault, and the sentence
-expected for this fault."""
+"""Make random programmes as simulated inserters send them, with at most one planted fault.
+
+The expected sentence about this fault is also given.
+"""
 from __future__ import annotations
 
 import random
@@ -33,9 +35,11 @@ SENTENCES = {
 
 
 class Inserter(NamedTuple):
-    """A simulated inserter: possible delays of in-cues and out-cues in frames, frames between
-    repeats, whether repeats keep the page, PES packets per frame, and a function that selects
-    frames without a PES packet.
+    """A simulated inserter.
+
+    `begins` and `ends` contain possible delays of in-cues and out-cues in frames. A page is
+    repeated after `every` frames, with headers that keep the page if `keeps` is true. `each` PES
+    packets are sent per frame, except in frames that `is_left_out` selects.
     """
 
     name: str
@@ -97,7 +101,7 @@ class Programme:
         self.fault: Fault | None = None
 
     def random_times(self, count: int) -> list[tuple[int, int]]:
-        """Return random first and end frames for `count` subtitles, some of them adjoining."""
+        """Return random start and end frames for `count` subtitles, some of them adjoining."""
         frame, times = FIRST + self.chance.randrange(5000), list[tuple[int, int]]()
         for _ in range(count):
             end = frame + self.chance.randrange(30, 90)
@@ -113,8 +117,10 @@ class Programme:
         return (NEW_LINE * 2).join(line.encode() for line in lines)
 
     def plant(self, kind: str) -> bool:
-        """Plant a fault of this kind in a random subtitle; return whether any subtitle is long
-        enough for it."""
+        """Plant a fault of this kind in a random subtitle.
+
+        Return whether any subtitle is long enough for the fault.
+        """
         places = [*range(len(self.times))]
         self.chance.shuffle(places)
         self.fault = next(filter(None, (self.fault_at(kind, place) for place in places)), None)

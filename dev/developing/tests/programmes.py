@@ -13,7 +13,7 @@ from .transmissions import packets
 SECOND = TICKS * FRAMES_A_SECOND
 BEGIN = CLOCK - 30 * SECOND  # first PTS of a feed, 30 seconds before the PTS wrap
 LASTS = 12  # duration of a programme with four subtitles, in seconds
-SHOWN, EACH = 50, 75  # duration of a subtitle, and distance between TCIs, in frames
+SHOWN, EACH = 50, 75  # duration of a subtitle, and interval between TCIs, in frames
 
 
 def make_subtitles(case: Case, name: str, first: int, texts: Sequence[str]) -> str:

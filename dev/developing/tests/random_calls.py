@@ -75,7 +75,7 @@ def without_volatile(text: str, program: str) -> str:
 
 
 def run_random_call(number: int, program: str) -> CallOutput:
-    """Run qc on the random pair of a seed in a temporary folder; return its output."""
+    """Run qc on the random pair with the seed `number` in a temporary folder. Return its output."""
     with in_folder():
         scenario = (Scenario if number < WIDER else Wider)(number, program)
         words = scenario.call()

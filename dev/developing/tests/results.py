@@ -1,5 +1,7 @@
-"""JSON results for tests, and a validator for docs/verdict.schema.json that is independent of the
-tools."""
+"""JSON results for tests, and a validator for docs/verdict.schema.json.
+
+The validator is independent of the tools.
+"""
 from __future__ import annotations
 
 import functools
@@ -153,8 +155,11 @@ def second_validator() -> Any:
 
 
 def all_violations(value: Any) -> list[str]:
-    """Return the schema violations in a result, found by `violations` and by python3-jsonschema,
-    which is slow and reads only a sample of long lists."""
+    """Return the schema violations that two validators find in a result.
+
+    They are `violations` and python3-jsonschema, which is slow and reads only a sample of long
+    lists.
+    """
     reader = second_validator()
     others = [error.message for error in reader.iter_errors(sample_of(value))] if reader else []
     return [*violations(value, schema()), *others]

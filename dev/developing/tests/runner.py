@@ -115,8 +115,7 @@ def group_tests(tests: Several) -> Iterator[Several]:
 
 
 class TestProcess:
-    """A forked process that runs some tests, so that their patches and crashes affect no other
-    tests."""
+    """A forked process that runs tests, whose patches and crashes thus affect no other tests."""
 
     def __init__(self, several: Several, is_verbose: bool) -> None:
         self.name = name_of(several[0])

@@ -61,7 +61,7 @@ class Scenario:
         return self.chance.randrange(100) < percent
 
     def random_times(self) -> list[tuple[int, int]]:
-        """Return random first and end frames of subtitles, some of them adjoining."""
+        """Return random start and end frames of subtitles, some of them adjoining."""
         frame = self.chance.choice((100, 900_000, 900_000, FRAMES_OF_A_DAY - 2500))
         found = []
         for _ in range(24 if self.has_break else self.chance.choice((2, 3, 4, 5, 7, 9, 12))):
@@ -194,8 +194,7 @@ class Scenario:
                 for pts, one in sent]
 
     def make_stream(self, sent: Sent, second: Sent) -> bytes:
-        """Return a transport stream with video, PCR and one or two Teletext PIDs, after random
-        losses."""
+        """Return a transport stream with video, PCR, Teletext on one or two PIDs, and losses."""
         chance = self.chance
         own = teletext_descriptor(chance.choice((b"eng", b"eng", b"ger")), chance.choice((2, 2, 1)),
                                   chance.choice((0x88, 0x88, 0x88, 0x89)))

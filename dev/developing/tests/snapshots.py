@@ -116,8 +116,10 @@ def report_text(number: int) -> list[str]:
 
 
 def text_of(name: str) -> list[str]:
-    """Run qc for a name such as `call 17`, `named a list` or `report 3`, and return the lines to
-    store."""
+    """Return the lines to store for a run of qc.
+
+    The run is named by a text such as `call 17`, `named a list` or `report 3`.
+    """
     kind, _, rest = name.partition(" ")
     if kind == "call":
         return call_text(random_calls.run_random_call(int(rest), BENCH.program))

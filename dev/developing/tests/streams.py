@@ -183,8 +183,9 @@ class Programme(NamedTuple):
 
 
 def multiplex_programmes(programmes: Sequence[Programme], frames: int) -> Maker:
-    """Make a transport stream with several programmes. Each frame has a PCR, a picture, and the PES
-    packets of Teletext up to its time.
+    """Make a transport stream with several programmes.
+
+    Each frame has a PCR, a picture, and the PES packets of Teletext up to its time.
     """
     maker, waiting = Maker([]), [{pid: [*pes] for pid, pes in one.pes.items()}
                                  for one in programmes]
@@ -209,8 +210,10 @@ def multiplex_programmes(programmes: Sequence[Programme], frames: int) -> Maker:
 
 def multiplex_frames(pes: list[bytes], begin: int, count: int, rounds: int = 66,
               page: int = 0x88) -> Iterator[bytes]:
-    """Yield the frames of a transport stream, each with a PCR, PES packets of Teletext, and 16 *
-    `rounds` video packets (66 rounds make 40 Mbit/s).
+    """Yield the frames of a transport stream.
+
+    Each frame has a PCR, PES packets of Teletext, and 16 * `rounds` video packets. 66 rounds make
+    40 Mbit/s.
     """
     maker = Maker(components(descriptor=teletext_descriptor(page=page)))
     filler = b"".join(make_head(VIDEO_PID, 0, PAYLOAD | counter) + b"\x55" * (PACKET - 4)
@@ -325,7 +328,7 @@ def make_multiplex(pes: list[bytes], shape: Shape) -> list[Packet]:
 
 
 def stream_bytes(made: Iterable[Packet]) -> bytes:
-    """Return the bytes of some TS packets."""
+    """Return the bytes of TS packets."""
     return b"".join(one.data for one in made)
 
 
@@ -396,8 +399,10 @@ def stream_with_video(pes: bytes, descriptor: bytes = teletext_descriptor(),
 
 
 def stream_of_pids(*of_pids: tuple[int, bytes]) -> bytes:
-    """Make a transport stream with PES packets on several PIDs, sorted by PTS; the PMT announces
-    page 888 on each PID."""
+    """Make a transport stream with PES packets on several PIDs, in ascending order of PTS.
+
+    The PMT announces page 888 on each PID.
+    """
     maker = Maker([(VIDEO_PID, MPEG_2, b""), *(
         (pid, PRIVATE, teletext_descriptor()) for pid, _ in of_pids)])
     maker.put_tables()

@@ -15,8 +15,11 @@ TIMES = 3  # number of test classes chosen for each function
 
 
 class Called(NamedTuple):
-    """The functions that a test class calls, such as `stream/gaps.py:late_of`, and the run time of
-    the class in seconds."""
+    """What is known about a test class.
+
+    `functions` contains the functions that it calls, such as `stream/gaps.py:late_of`. `seconds` is
+    its run time.
+    """
 
     functions: AbstractSet[str]
     seconds: float

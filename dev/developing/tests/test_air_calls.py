@@ -26,8 +26,12 @@ ALL = LEAD + LASTS + TAIL
 
 
 class Trial(NamedTuple):
-    """A test case: recorded seconds of the feed, whether two PES packets are missing, air time and
-    margin, the expected verdict, whether it is final, and the beginning of its reason."""
+    """A test case: what is recorded of the feed, and the expected verdict.
+
+    `recorded` contains seconds of the feed. If `is_wrong` is true, two PES packets are missing.
+    `air` is the air time. `is_final` means that the verdict is final. `reason` is the beginning of
+    its reason.
+    """
 
     recorded: tuple[int, int]
     is_wrong: bool

@@ -45,7 +45,7 @@ STRETCHES = {
 }
 
 # Two segments of one feed: the end of the first and the start of the second in TS packets; the
-# times of all segments, as above; the expected stretches.
+# times of all segments, as above; and the expected intervals without losses.
 JOINTS = {
     "it goes on, without a PCR": (900.5, 900.5, "0-10 10-20", "0-20"),
     "the recorder stalled": (900.5, 900.5, "0-10 18-20", "0-20"),

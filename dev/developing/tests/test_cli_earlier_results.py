@@ -41,8 +41,10 @@ OTHERS: dict[str, object] = {
 
 class CurrentResults(Case):
     def accepted_pair(self) -> tuple[Any, dict[str, Any]]:
-        """Return the request for a pair with a severity file, and the result of an earlier run that
-        accepted this pair."""
+        """Return the request for a pair with a severity file, and an earlier result of this pair.
+
+        The result is `accepted`.
+        """
         paths = [self.write(name, data) for name, data in (
             ("one.stl", example_bytes("story.stl")), ("one.pes", example_bytes("story.pes")),
             ("severity", b"72 warning\n"))]

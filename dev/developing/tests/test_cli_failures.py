@@ -62,7 +62,7 @@ ENDS = ("exit 0", "exit 1", "exit 2", "kill -9 $$")
 
 
 class Ended(NamedTuple):
-    """The exit status, output and error output of qc, without the note FEW."""
+    """The exit status, output and error output of qc, without the note that ends with FEW."""
 
     status: int
     printed: list[str]
@@ -80,8 +80,10 @@ class CallCase(Case):
 
     def fake_program(self, *lines: str, then: str = "exit 0", alone: Sequence[str] = EMPTY,
                then_alone: str = "exit 1") -> str:
-        """Write a script that replaces subttx and prints `lines` for a recording, and `alone` for a
-        subtitle file alone."""
+        """Write a script that replaces subttx.
+
+        It prints `lines` for a recording, and `alone` for a subtitle file alone.
+        """
         text = PROGRAM.replace("{program}", self.bench.program)
         for place, some, end in (("{said}", lines, then), ("{alone}", alone, then_alone)):
             quoted = " ".join(f"'{line}'" for line in some)

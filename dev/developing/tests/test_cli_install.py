@@ -258,10 +258,10 @@ def fill(case: Case, folder: str, count: int) -> None:
 
 
 def blocking_program(case: Case, count: int) -> str:
-    """Write a script that runs the program under test, but waits until a file exists before it
-    judges more than `count` pairs.
+    """Write a script that runs the program under test. Return its path.
 
-    Runs with `--keeping` are not counted.
+    After `count` pairs, the script waits until a file exists before it judges the next pair. Runs
+    with `--keeping` are not counted.
     """
     case.write("checked", b"")
     script = ("#!/bin/sh\n"
@@ -279,8 +279,10 @@ def count_judged(case: Case) -> int:
 
 
 def reaches_pair(case: Case, folder: str, count: int) -> bool:
-    """Wait until a folder has `count` results and the check of the next pair has begun; return
-    whether this happened in time."""
+    """Wait until a folder has `count` results and the check of the next pair has begun.
+
+    Return whether this happened in time.
+    """
     return wait_until(lambda: os.path.isdir(case.path(folder)) and count_judged(case) == count + 1
                  and len(results_in(case, folder)) == count)
 
@@ -295,8 +297,10 @@ def results_in(case: Case, folder: str) -> dict[str, Any]:
 
 
 def write_slowly(case: Case, name: str) -> float:
-    """Write a recording slowly, for longer than the settle time; return the longest pause between
-    writes in seconds."""
+    """Write a recording slowly, for longer than the settle time.
+
+    Return the longest pause between writes in seconds.
+    """
     data, longest = example_bytes("recording.ts"), 0.0
     case.write(f"{name}.stl", example_bytes("story.stl"))
     last = time.monotonic()

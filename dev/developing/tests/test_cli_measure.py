@@ -221,8 +221,10 @@ class Profiles(Case):
             self.measure(seed)
 
     def measure(self, seed: int) -> bool:
-        """Measure one or two random programmes, judge them with their profile, and return whether
-        all are accepted."""
+        """Measure one or two random programmes, and judge them with their profile.
+
+        Return whether all are accepted.
+        """
         chance = random.Random(seed)
         inserter = chance.choice(INSERTERS)
         made = [Programme(self, 10 * seed + number, inserter)
@@ -277,7 +279,10 @@ class Profiles(Case):
 
 
 def main(program: str, first: int, last: int) -> None:
-    """Measure programmes with these seeds; print how many profiles accept their recordings."""
+    """Measure programmes with the seeds `first` to `last - 1`.
+
+    Print how many profiles accept their recordings.
+    """
     BENCH.chosen = program
     case = Profiles("test_accepts_its_own_recordings_or_says_which_not")
     case.setUp()

@@ -14,7 +14,7 @@ from .transmissions import (
     schedule_pages)
 from .test_cli_pairs import TS, lines_of, qc
 
-# First TCI, distance between TCIs, and subtitle duration, in frames.
+# First TCI, interval between TCIs, and subtitle duration, in frames.
 FIRST, EACH, LASTS = 900_000, 125, 60
 WORDS = ["--every", "25", "--no-complete"]
 STORY, BEGIN = example("story.stl"), 1_822_500  # first TCI: 20:15:00:00
@@ -292,8 +292,10 @@ ENCODERS = {"mpeg2video": ["-bf", "2", "-g", "15"],
 
 
 def compare_with_ffprobe(case: Case, name: str, stl: str, data: bytes, is_closed: bool) -> None:
-    """Compare the PTS of the first picture of a stream with the output of ffprobe: the PTS of the
-    first key frame, or the smallest PTS in its group if the group is closed or unknown.
+    """Compare the PTS of the first picture of a stream with the output of ffprobe.
+
+    The PTS is that of the first key frame, or the smallest in its group if the group is closed or
+    unknown.
     """
     path = case.write("cut.ts", data)
     done = qc(case, stl, path, "--start", "00:00:00:00")

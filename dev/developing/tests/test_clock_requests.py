@@ -1,5 +1,4 @@
-"""Test that the search for a clock respects the requested subtitles, PES packets, origin and
-delays."""
+"""Test that the search for a clock respects requested subtitles, PES packets, origin and delays."""
 from __future__ import annotations
 
 import itertools
@@ -29,7 +28,7 @@ class Requests(Case):
         return estimate_origin(OriginSearch(self.stl, "one.pes", **asked), packets_of(sendings))
 
     def transmissions(self, late: Sequence[int]) -> list[tuple[int, bytes]]:
-        """Return the page transmissions of all cues, each delayed by some frames."""
+        """Return the page transmissions of all cues. `late` contains their delays in frames."""
         return [(TICKS * (cue.frame + by), cue.letters) for cue, by in zip(self.cues, late)]
 
     def test_searches_only_the_requested_subtitles_and_packets(self) -> None:

@@ -1,5 +1,4 @@
-"""Test options and arguments at their limits, and files that are read or written completely or not
-at all."""
+"""Test the limits of options and arguments, and that files are read and written completely."""
 from __future__ import annotations
 
 import argparse

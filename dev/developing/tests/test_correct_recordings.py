@@ -98,8 +98,10 @@ def late_inserter(kind: str, count: int, is_adjoining: bool) -> Callable[[Case],
 
 
 def inserters() -> Iterator[Recording]:
-    """Yield recordings made by each inserter, with 12, 24 and 80 subtitles, adjoining or not, and
-    judged without a clock."""
+    """Yield recordings made by each inserter, with 12, 24 and 80 subtitles, adjoining or not.
+
+    They are judged without a clock.
+    """
     for kind, (begins, ends) in SHARES.items():
         within = max([1, *begins, *ends])
         for count in (12, 24, 80):
@@ -146,8 +148,10 @@ DISTANCES: dict[str, Callable[[random.Random, int], list[int]]] = {
 
 
 def paced_sent(case: Case, name: str, count: int, each: int) -> tuple[str, Sent]:
-    """Return a subtitle file and its transmission, with `each` PES packets in the frames that the
-    kind `name` selects."""
+    """Return a subtitle file and its transmission.
+
+    `each` PES packets are sent in each frame that the kind `name` selects.
+    """
     chance, times = random.Random(f"{name} {count}"), evenly(count)
     stl = write_programme(case, times)
     known = dict(schedule_pages(case, stl))
@@ -184,8 +188,9 @@ def paces() -> Iterator[Recording]:
 
 
 class Service(NamedTuple):
-    """A programme in a transport stream: its number, and the pages that its PMT announces, each
-    with PID, type and page number.
+    """A programme in a transport stream: its number, and the pages that its PMT announces.
+
+    A page is given by PID, type and page number.
     """
 
     number: int
@@ -210,7 +215,7 @@ def in_stream(sent: Sent, plan: Sequence[tuple[int, Sequence[Service]]] = ((0, (
               beside: Sequence[int] = ()) -> bytes:
     """Return a transport stream with PES packets, each after a PCR.
 
-    `plan` lists numbers of PES packets, each with the programmes announced from this packet on.
+    `plan` contains indexes of PES packets, each with the programmes announced from this packet on.
     The PIDs `beside` carry PES packets without Teletext.
     """
     maker = Maker([])
@@ -253,8 +258,10 @@ def services() -> Iterator[Recording]:
 
 
 def broken(*lengths: int) -> Callable[[Case], tuple[str, str]]:
-    """Return a function that writes a programme with breaks of these lengths in frames, each after
-    twenty subtitles."""
+    """Return a function that writes a programme with breaks of these lengths in frames.
+
+    A break follows twenty subtitles.
+    """
     def made(case: Case) -> tuple[str, str]:
         stl = write_programme(case, evenly(20 * (len(lengths) + 1)))
         sent = []
@@ -288,8 +295,10 @@ def with_tail(count: int) -> Callable[[Case], tuple[str, str]]:
 
 
 def near_short_subtitles(count: int, is_before: bool) -> Callable[[Case], tuple[str, str]]:
-    """Return a function that writes a programme before or after six minutes of short subtitles of
-    another programme."""
+    """Return a function that writes a programme next to short subtitles of another programme.
+
+    The short subtitles last six minutes. The programme is before them if `is_before` is true.
+    """
     def made(case: Case) -> tuple[str, str]:
         quick = [(FIRST + 20 * at, FIRST + 20 * at + 15) for at in range(450)]
         others = schedule_pages(case,
@@ -319,8 +328,7 @@ def cut_at(count: int) -> Callable[[Case], tuple[str, str]]:
 
 
 def airings() -> Iterator[Recording]:
-    """Yield recordings with repeated subtitles, with short subtitles of another programme, or with
-    a break between adjoining subtitles."""
+    """Yield recordings of repeated subtitles, next to another programme, or with a break."""
     for count in (0, 3, 6):
         yield Recording(AIRINGS, f"tail {count}", with_tail(count), ["--every", "40"])
     for count in (5, 8, 12):

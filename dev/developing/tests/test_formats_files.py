@@ -23,7 +23,8 @@ GSI = 1024
 
 
 def refusal(call: Callable[[], object], error: type[Exception] = Stop) -> str:
-    """Return the message of the error that a function raises, or "" if it raises none."""
+    """Return the message of the error that a function raises, or an empty string if it raises none.
+    """
     try:
         call()
     except error as reason:

@@ -287,7 +287,7 @@ def recording_of(one: Programme, sent: Sent) -> bytes:
 
 
 def judge(case: Case, seed: int) -> tuple[Programme, JudgedPair]:
-    """Make the programme of a seed, judge it, and return the programme and the judged pair."""
+    """Make the programme with this seed, judge it, and return the programme and the judged pair."""
     one = programme_of(seed)
     stl = file_of(case, one.file, f"{seed}.stl")
     other = file_of(case, one.sent, f"{seed}.sent.stl")
@@ -302,8 +302,11 @@ def judge(case: Case, seed: int) -> tuple[Programme, JudgedPair]:
 
 
 def is_correct(one: Programme, told: JudgedPair) -> bool:
-    """Return whether a correct recording without losses is accepted, and a faulty recording is
-    refused, or accepted with a note."""
+    """Return whether the verdict is correct.
+
+    A correct recording without losses must be accepted. A faulty recording must be refused, or
+    accepted with a note.
+    """
     if told.word not in ("accepted", "waived"):
         return bool(one.lost) or not one.is_right()
     return one.is_right() or any(UNSEEN in note for note in told.result["notes"])

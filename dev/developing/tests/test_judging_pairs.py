@@ -118,8 +118,7 @@ class UnreadablePackets(ProgrammeCase):
 
 class Steps(Case):
     def pair(self, *words: str, count: int = 0) -> PairJudge:
-        """Return a `PairJudge` for a pair with `count` judged parts. `words` contains its options.
-        """
+        """Return a `PairJudge` for a pair with the options `words` and `count` judged parts."""
         verdict, nothing = verdict_of([make_part(0, 9, 0, number=number)
                                        for number in range(1, count + 1)]), mock.Mock()
         verdict.request = request_for("one.stl", "one.pes", *words)

@@ -201,13 +201,12 @@ class SeveralParts(ProgrammeCase):
 
 
 def in_fields(sent: Sent) -> Sent:
-    """Return the transmission with headers in the first field of a frame, and rows in the second.
-    """
+    """Return the transmission with headers in the first field of a frame and rows in the second."""
     return [one for pts, some in sent for one in ((pts, some[:1]), (pts + TICKS // 2, some[1:]))]
 
 
 def in_fields_at_once(sent: Sent) -> Sent:
-    """Send the header and the rows in two PES packets with the same PTS."""
+    """Return the transmission with the header and the rows in two PES packets with the same PTS."""
     return [one for pts, some in sent for one in ((pts, some[:1]), (pts, some[1:]))]
 
 
@@ -224,14 +223,14 @@ def in_three_frames(sent: Sent) -> Sent:
 
 
 def with_jitter(sent: Sent) -> Sent:
-    """Shift each PTS by a few milliseconds."""
+    """Return the transmission with each PTS shifted by a few milliseconds."""
     chance = random.Random(1)
     return [(pts + chance.randrange(-EARLY_TICKS // 2, EARLY_TICKS // 2), some) for pts,
             some in sent]
 
 
 def under_load(sent: Sent) -> Sent:
-    """Delay each page transmission by zero to two frames."""
+    """Return the transmission with each page delayed by zero to two frames."""
     chance = random.Random(2)
     return [(pts + TICKS * chance.randrange(3), some) for pts, some in sent]
 

@@ -21,7 +21,7 @@ ADVICE = ("--within", "--keeping", "--no-complete", "--allow-lost", "--severity"
 
 
 def off_grid(sent: Sent, every: int, first: int, ticks: int) -> Sent:
-    """Shift the PTS of each `every`-th PES packet by ticks, beginning with packet `first`."""
+    """Shift the PTS of each `every`-th PES packet from packet `first` on by `ticks`."""
     return [(pts + ticks * (at >= first and (at - first) % every == 0), some)
             for at, (pts, some) in enumerate(sent)]
 

@@ -318,8 +318,7 @@ def frame_text(frame: int) -> str:
 
 class MissingRows(Case):
     def decode(self, *frames: tuple[int, list[bytes]], within: int = 0) -> tuple[Timeline, Rows]:
-        """Decode the packets of some frames; return the timeline and the page at the first frame.
-        """
+        """Decode the given packets. Return the timeline and the page at the first frame."""
         found = decode_packets(self, packets_at(frames), within=within)
         return found, found.page_at(frames[0][0])
 

@@ -152,7 +152,7 @@ CONTROL, CONTENT = "67 Control frame 10:00:01:00 packet 0", \
 
 
 def with_two_faults(sent: Sent) -> Sent:
-    """Replace a header by a header that keeps the page, and send a wrong text later."""
+    """Replace a header with a header that keeps the page, and send a wrong text later."""
     found = list(sent)
     found[1:2] = [(found[1][0], [KEEPS, *found[1][1][1:]])]
     at = next(number for number, (_, some) in enumerate(sent) if b"3" in joined_rows(some))

@@ -128,7 +128,7 @@ class RandomPair:
             pes[at] = bytes(data)
 
     def send_elsewhere(self, pes: list[bytes], at: int) -> None:
-        """Replace the first row in a PES packet by another row of the page."""
+        """Replace the first row in a PES packet with another row of the page."""
         if pes:
             sent = make_packet(self.page[0], self.chance.choice((1, 2, 24)), (),
                                b"\x0b\x0bElsewhere".ljust(40))
@@ -171,7 +171,10 @@ def text_of(item: tree.Element) -> str:
 
 
 def report_made(number: int, folder: str) -> tuple[JudgedPair, str]:
-    """Judge the random pair of a seed, and return it with its report ("" if there is none)."""
+    """Judge the random pair with the seed `number`. Return the judged pair and its report.
+
+    The report is an empty string if qc writes no report.
+    """
     out = os.path.join(folder, "out")
     found = judge_files_with(BENCH.program, *RandomPair(number, folder).words(), "-o", out)
     path = os.path.join(out, "one.html")
@@ -202,8 +205,10 @@ def cue_rows(page: tree.Element) -> list[CueRow]:
 
 class Reports(unittest.TestCase):
     def check_page(self, page: str) -> None:
-        """Check that a report is well-formed XML without scripts or external resources, and that
-        its anchors are unique, its links valid, and its headers and links accessible."""
+        """Check that a report is well-formed XML without scripts or external resources.
+
+        Its anchors must be unique, its links valid, and its headers and links accessible.
+        """
         items = list(tree.fromstring(page).iter())
         self.assertIsNone(FOREIGN.search(page))
         names = [item.get("id") for item in items if item.get("id")]
@@ -219,8 +224,10 @@ class Reports(unittest.TestCase):
                 self.assertTrue("".join(item.itertext()).strip())
 
     def check_rows(self, found: JudgedPair, told: list[FaultLine], rows: list[CueRow]) -> None:
-        """Check that each judged subtitle has a row, and that no fault was reported while a
-        subtitle with the verdict `right` was expected."""
+        """Check that each judged subtitle has a row, and that verdicts `right` are correct.
+
+        No fault may be reported while a subtitle with this verdict was expected.
+        """
         part = found.verdict.parts[0]
         judged = [one.index for one in part.expected_pages().subtitles]
         self.assertLessEqual(set(judged), {row.position for row in rows})
@@ -242,8 +249,10 @@ class Reports(unittest.TestCase):
                                  found.verdict.parts[0].check_output.counts_by_number.items()})
 
     def check_times(self, found: JudgedPair, rows: list[CueRow]) -> None:
-        """Check that the expected page is displayed at the actual in-cue, and another page in the
-        frame before it and at the actual out-cue."""
+        """Check that the expected page is displayed at the actual in-cue.
+
+        Another page must be displayed in the frame before it and at the actual out-cue.
+        """
         request = found.verdict.request
         receiver = ["--origin", str(request.origin), "--page", page_name(*request.page)]
         due = request.stl + ".due"
@@ -267,7 +276,7 @@ class Reports(unittest.TestCase):
                 self.assertNotEqual(held(request.recording or "", end, *within), page, row)
 
     def check_report(self, number: int, folder: str) -> None:
-        """Judge the random pair of a seed, and check its report."""
+        """Judge the random pair with the seed `number`, and check its report."""
         found, page = report_made(number, folder)
         out = os.path.join(folder, "out")
         if not page:

@@ -51,7 +51,7 @@ def edited(subtitles: list[Timed], chance: random.Random) -> list[Timed]:
 
 class ActualTimes(Case):
     def sent(self, subtitles: list[Timed]) -> list[bytes]:
-        """Return the PES packets in which `schedule` transmits some subtitles."""
+        """Return the PES packets in which `schedule` transmits the subtitles."""
         return schedule_pes(self, write_subtitle_file(self, subtitles, "sent.stl"), "--every", "25",
                          "--origin", str(ORIGIN))
 

@@ -78,7 +78,7 @@ def text_bytes(printed: str) -> bytes:
 
 
 def drawing_of(text: bytes, row: int, justify: int, layout: Layout) -> str:
-    """Return the rows that a layout draws, in the format of the table."""
+    """Return the rows that a layout draws, written as in DRAWN."""
     found = draw_text(text, row, justify, layout, ENGLISH)
     if isinstance(found, TextFault):
         return f"{found.number} at {found.at}"

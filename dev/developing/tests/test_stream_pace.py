@@ -281,7 +281,7 @@ class PaceDecisions(Case):
                   [(None, 5), (9, 20), (30, None)])
 
 
-# First and end frames of the subtitles in a programme of one minute.
+# Start and end frames of the subtitles in a programme of one minute.
 TIMES = [(BEGIN + 250 * at, BEGIN + 250 * at + 200) for at in range(6)]
 
 

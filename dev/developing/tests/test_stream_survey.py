@@ -131,8 +131,10 @@ class LeadLines(Case):
 
 def pictures(flagged: Sequence[int], lost: Sequence[int] = (), scrambled: Sequence[int] = (),
              wrong: Sequence[int] = (), twice: Sequence[int] = ()) -> bytes:
-    """Return a video stream in which the `flagged` pictures have a random_access_indicator, and
-    some TS packets are lost, scrambled, marked as damaged (`wrong`), or repeated."""
+    """Return a video stream in which the `flagged` pictures have a random_access_indicator.
+
+    Some TS packets are lost, scrambled, marked as damaged (`wrong`), or repeated (`twice`).
+    """
     maker = Maker(components())
     maker.put_tables()
     tables = maker.taken()
@@ -621,8 +623,7 @@ GAP_MARKER = b"\0\0\1\xbd\0\xb2" + b"\xff" * 178
 
 def of_teletext(pes: Iterable[bytes], change: Callable[[list[bytes]], list[bytes]] = list
                 ) -> bytes:
-    """Return a stream with tables and PES packets of Teletext, whose TS packets `change` changes.
-    """
+    """Return a stream with tables and PES packets of Teletext. `change` changes its TS packets."""
     maker = Maker(components())
     maker.put_tables()
     tables = maker.taken()
@@ -646,7 +647,7 @@ def scramble_second(packets: list[bytes]) -> list[bytes]:
 
 
 def announce_second(packets: list[bytes]) -> list[bytes]:
-    """Replace the second TS packet by a packet with a discontinuity_indicator."""
+    """Replace the second TS packet with a packet that has a discontinuity_indicator."""
     field = bytes([PACKET - 5, 0x80]).ljust(PACKET - 4, b"\xff")
     return [packets[0], make_head(TELETEXT_PID, 0, ADAPTATION_ALONE) + field, *packets[2:]]
 

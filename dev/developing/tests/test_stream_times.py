@@ -38,7 +38,7 @@ def clocked(before: int, ticks: int, counters: str, packets: int = 100) -> PCRSt
 
 
 def find_airings(numbers: set[int]) -> list[tuple[int, int]]:
-    """Return the first and last number of each run of consecutive numbers."""
+    """Return the first and last number of each group of consecutive numbers."""
     firsts = sorted(one for one in numbers if one - 1 not in numbers)
     return list(zip(firsts, sorted(one for one in numbers if one + 1 not in numbers)))
 
@@ -251,7 +251,7 @@ class ClockTables(unittest.TestCase):
         """
         whole, every, late = (100, 200), (100, 200, 25), (100, 200, 25, 2)
         rows: list[tuple[str, str, tuple[int, ...], tuple[int, int] | None, bool, bool, int]] = [
-            # The start of the range.
+            # Test cases for the start of the range.
             ("with the first header", "100 he, 200 he", whole, (0, 1), True, False, 2),
             ("behind rows", "100 -, 101 -, 120 he, 200 he", whole, (2, 3), True, False, 4),
             ("nowhere: no header", "100 -, 200 -", whole, None, False, False, 2),

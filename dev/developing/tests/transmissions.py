@@ -19,7 +19,7 @@ from .bench import Case
 
 Sent = list[tuple[int, list[bytes]]]  # unwrapped PTS, and the packets with this PTS
 Change = Callable[[Sent], Sent]
-Shown = tuple[int, int, bytes]  # first frame, end frame and text of a subtitle on screen
+Shown = tuple[int, int, bytes]  # start frame, end frame and text of a subtitle on screen
 PAGE = (0, 0x88)
 HEADER = make_packet(0, 0, [8, 8, 0, 8, 0, 8, 1, 0], b" " * 32)  # page 888's header with erase_page
 CLOSING = make_packet(0, 0, [15, 15, 15, 7, 15, 3, 0, 0], b" " * 32)
@@ -101,13 +101,13 @@ def with_new_pts(data: bytes, new_pts: Callable[[int, int], int]) -> bytes:
                     for number, one in enumerate(packets(data)))
 
 
-EACH, LASTS = 100, 60  # distance between TCIs, and subtitle duration, in frames
+EACH, LASTS = 100, 60  # interval between TCIs, and subtitle duration, in frames
 ORIGIN = 20_000 * TICKS + 7
 PAUSES = 880, 1680  # first frames of the second and third part
 
 
 def subtitle_times(count: int) -> list[tuple[int, int]]:
-    """Return the first and end frames of evenly spaced subtitles."""
+    """Return the start and end frames of evenly spaced subtitles."""
     return [(EACH * number, EACH * number + LASTS) for number in range(1, count + 1)]
 
 
