@@ -137,7 +137,7 @@ def frames_at(several: Sequence[int], origin: int, within: int = 0) -> Sequence[
             map(operator.eq, several, range(several[0], several[-1] + 1, TICKS))):
         ticks = wrap_pts(several[0] - origin + early)
         if (within or ticks % TICKS == 0) and ticks // TICKS + count <= FRAMES_OF_A_DAY:
-            # most recordings have one PTS per frame
+            # Most recordings have one PTS per frame.
             return range(ticks // TICKS, ticks // TICKS + count)
     distances = ((pts - origin + early) % CLOCK for pts in several)
     if within:

@@ -1,5 +1,4 @@
-"""Measure the intervals between PES packets, and find the interval above which packets are
-missing."""
+"""Measure the intervals between PES packets, and find the interval that indicates a loss."""
 from __future__ import annotations
 
 import array
@@ -19,8 +18,8 @@ from .repeats import NEAR
 # loss of 16 destroys at least two PES packets. In a PES file, which has no counter, a single PES
 # packet may be lost.
 #
-# This reveals every loss if the first TS packet of each PES packet has the PTS. Otherwise, after a
-# loss of 16 packets, the start of one PES packet may continue with the middle of another.
+# The interval reveals every loss if the first TS packet of each PES packet has the PTS. Otherwise,
+# after a loss of 16 packets, the start of one PES packet may continue with the middle of another.
 #
 # Use the longest interval that reveals every loss. It is worse to refuse an intact recording than
 # to note that a loss may be hidden.
@@ -29,7 +28,7 @@ LEAST = 100  # minimum number of PES packets for a measurement
 FEW, PART = 3, 1000  # maximum number of exceptions: three, or one in 1000
 OFTEN, SELDOM = 20, 100  # at least 1/20 of the intervals are usual, at most 1/100 are longer
 HOLE = 17  # after a loss of 16 TS packets, the next one is the 17th
-# after a loss of two PES packets the next is the third, after one the second
+# After a loss of two PES packets the next is the third; after a loss of one, the second.
 TWO_LOST, ONE_LOST = 3, 2
 UNITS = 4  # Teletext units in a TS packet; a PES header takes the place of one
 PAYLOAD = 184  # payload bytes of a TS packet

@@ -121,7 +121,7 @@ class Packets:
     samples: list[tuple[int, int]] = dataclasses.field(default_factory=list)
     character_sets: list[tuple[int, int, int | None,
                                int | None]] = dataclasses.field(default_factory=list)
-    # headers of each subtitle page
+    # Number of headers of each subtitle page.
     header_counts: dict[str, int] = dataclasses.field(default_factory=dict)
     # Numbers of the PES packets at announced jumps of the counter.
     counter_jumps: list[int] = dataclasses.field(default_factory=list)

@@ -18,7 +18,7 @@ from ..common.times import TICKS, ticks_between, wrap_pts
 # before and after a step are compared, with their standard error. If there are enough leads, their
 # extremes are compared too.
 
-# numbers of leads to compare on either side of a step; 30 only if 10 are unclear
+# Numbers of leads to compare on either side of a step. Use 30 only if 10 are unclear.
 SAMPLE_SIZES = (10, 30)
 FEW = 5  # with fewer leads, include their typical change in the standard error
 MANY = 20  # minimum number of leads on either side to compare their extremes
