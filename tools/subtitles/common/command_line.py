@@ -218,8 +218,8 @@ class Lateness(NamedTuple):
 
 
 def parse_lateness(text: str) -> Lateness:
-    """Parse a value of --late such as `0:31,1:40/0:100`. The delays of in-cues come before the
-    slash, those of out-cues after it."""
+    """Parse a value of --late such as `0:31,1:40/0:100`. In-cues come before the slash, out-cues
+    after it."""
     kinds = text.split("/")
     if len(kinds) != 2:
         raise argparse.ArgumentTypeError(

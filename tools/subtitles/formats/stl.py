@@ -208,13 +208,12 @@ class SubtitleList:
         return self.subtitles[count - 1] if is_due else None
 
     def before(self, place: int) -> int:
-        """Return the TCO of the subtitle before the one at index `place`. Return 0 for the first
-        subtitle."""
+        """Return the TCO of the subtitle before index `place`, or 0 for the first subtitle."""
         return self.subtitles[place - 1].end if place > 0 else 0
 
     def after(self, place: int) -> int:
-        """Return the TCI of the subtitle after the one at index `place`. Return the end of the day
-        for the last subtitle."""
+        """Return the TCI of the subtitle after index `place`, or the end of the day for the last
+        subtitle."""
         is_last = place + 1 == len(self.subtitles)
         return FRAMES_OF_A_DAY if is_last else self.begins[place + 1]
 

@@ -43,7 +43,7 @@ def page_name(magazine: int, page: int) -> str:
 
 # Characters of a subtitle file's text (EBU Tech 3264, code table 00, which is ISO 6937).
 
-# Combining marks of Unicode for the accents C1 to CF. A code that is not used has a space.
+# Combining marks of Unicode for the accents C1 to CF. An unused code has a space.
 ACCENTS = dict(zip(range(0xC1, 0xD0),
                    "\u0300\u0301\u0302\u0303\u0304\u0306\u0307\u0308 "
                    "\u030a\u0327 \u030b\u0328\u030c"))

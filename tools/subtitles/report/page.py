@@ -270,7 +270,7 @@ def scope_section(verdict: Verdict) -> Markup:
 
 
 def list_unchecked(verdict: Verdict) -> Iterator[str]:
-    """Yield descriptions of what was not checked."""
+    """Yield descriptions of everything that was not checked."""
     request = verdict.request
     if request.recording is None:
         yield "the transmission: no recording was given"

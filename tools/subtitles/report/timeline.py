@@ -101,8 +101,8 @@ class Lanes:
 
 
 def find_cue_span(cue: Cue) -> tuple[int, int]:
-    """Return the earlier one of the expected and the actual in-cue, and the later one of the
-    expected and the actual out-cue."""
+    """Return the earlier of the expected and actual in-cue, and the later of the expected and
+    actual out-cue."""
     one = cue.subtitle
     return (min(one.begin, one.begin if cue.begin is None else cue.begin),
             max(one.end, one.end if cue.end is None else cue.end))

@@ -25,7 +25,7 @@ from .receiver import Rows, Timeline
 REFUSED = {code for code in CODES if code not in COMMON}
 BOX_CODES, LINE_CODES = b"\x0a\x0b", b"\x0a\x0b\x0d"
 FEWEST, TENTHS = 10, 9  # at least 10 subtitles, of which 9/10 must be drawn as sent
-MAX_STRIPPED = 5  # maximum number of codes of which all combinations are tried
+MAX_STRIPPED = 5  # maximum number of codes for which all combinations are tried
 MAX_KEPT = 6  # maximum number of candidates to keep
 Element = TypeVar("Element")
 

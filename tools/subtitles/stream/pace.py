@@ -211,9 +211,8 @@ def frame_rows(packets: Packets, inside: Range, origin: int, within: int) -> lis
 
 
 def count_ts_packets(packets: Packets, inside: Range, size: int | None) -> int:
-    """Estimate the maximum number of TS packets in a PES packet. It is at least the mean, and at
-    least what the largest PES packet `inside` needs. `size` is the number of bytes of a PES
-    file."""
+    """Estimate the maximum number of TS packets in a PES packet: the mean, or the number for the
+    largest PES packet `inside` if that is greater. `size` is the number of bytes of a PES file."""
     total = packets.packets if size is None else size // PAYLOAD
     usual = round(total / packets.count) if packets.count else 0
     units = max((run.units for run in packets.runs_between(*inside)), default=0)

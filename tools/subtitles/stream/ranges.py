@@ -164,7 +164,7 @@ class RangeStart:
         blank = None if is_shown and is_replaced and sent.frame == self.begin else self.last_blank()
         if blank is not None or HEADER not in sent.flags:
             return blank
-        # `check` also needs the header before one that repeats the text of an earlier frame.
+        # If this header repeats an earlier text, `check` also needs the previous header.
         is_repeat = is_shown and not is_replaced and sent.frame <= self.begin + self.within
         return self.header if is_repeat and self.header is not None else sent.number
 
