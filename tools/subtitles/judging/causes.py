@@ -40,10 +40,10 @@ EVEN_PARITY = "a byte of its rows has even parity"
 class Cause(NamedTuple):
     """The reason why a subtitle is refused.
 
-    `subtitle_index` is the position of the subtitle in the file. `frames` is the number of frames
-    by which it is late or early. `sent_page` is the page that was sent, and `other_index` the
-    position of the subtitle with the text of this page. No frame after `final_frame` can change the
-    cause.
+    `subtitle_index` is the index of the subtitle among the judged subtitles. `frames` is the number
+    of frames by which it is late or early. `sent_page` is the page that was sent, and `other_index`
+    the index of the subtitle with the text of this page. No frame after `final_frame` can change
+    the cause.
     """
 
     subtitle_index: int
@@ -144,7 +144,10 @@ class CauseFinder(PageTransmissions):
         return Cause(place, name, frames, self.pages[place], None, words, max(came, subtitle.begin))
 
     def is_allowed_delay(self, place: int, came: int) -> bool:
-        """Return whether a page was late, and incomplete, for no longer than the allowed delay."""
+        """Return whether a page was late by at most the allowed delay.
+
+        Also, the page must not have been incomplete for longer than the allowed delay.
+        """
         late = came - self.subtitles[place].begin
         return 0 < late <= self.timeline.within and \
             came - self.find_first_wrong_frame(came - 1) <= self.timeline.within
@@ -365,7 +368,7 @@ SENT_BEFORE_CUT = f"its page was sent before the judged range, so {BEGIN} is rep
 class Causes:
     """The causes of the faults that `check --all` lists.
 
-    `by_index` has the causes by the position of the subtitle. `by_end_fault` has the subtitle that
+    The keys of `by_index` are the indices of the subtitles. `by_end_fault` has the subtitle that
     belongs to the fault at the beginning of the recording (63) or at its end (74), if the recording
     is longer than the judged frames. `recorded_span` has the frames that the recording covers, if
     its PCR shows more frames than its PES packets.
@@ -378,7 +381,7 @@ class Causes:
         self.by_index: dict[int, Cause] = {}
         self.by_end_fault: dict[int, int] = {}
         self.pending: dict[int, FaultyFrames] = {}
-        # First frame with a wrong page, by subtitle
+        # The first frame with a wrong page of each subtitle
         self.first_wrong_frames: dict[int, int] = {}
 
     def classify_all(self, output: CheckOutput) -> None:
@@ -403,13 +406,11 @@ class Causes:
             self.add_span(self.finder.find_owner(span.first), span)
 
     def add_span(self, place: int, span: Span) -> int:
-        """Add frames with a wrong page to the subtitle at position `place`, and return `place`."""
+        """Add frames with a wrong page to the subtitle with index `place`, and return `place`."""
         self.first_wrong_frames.setdefault(place, span.first)
         if place not in self.by_index:
             self.pending.setdefault(place, FaultyFrames()).add(span, self.expected.subtitles[place])
         return place
-
-    # Frames before the first judged frame and after the last judged frame
 
     def find_covered_span(self) -> Span:
         """Return the frames that the recording covers."""

@@ -143,7 +143,7 @@ class CheckOutput:
             f"{NOT_ANSWERED}: {line or 'it printed nothing'}, status {status}")
 
     def close_file(self) -> None:
-        """Close the file if `check` has not ended, so that the list remains incomplete."""
+        """Close the file before `check` has ended. The list remains incomplete."""
         with name_errors(self.path):
             self.file.close()
 
@@ -159,7 +159,10 @@ class CheckOutput:
         return self.content_fault_rows[at][1] if at >= 0 else None
 
     def find_last_time(self) -> str | None:
-        """Return the time on the last line of output, up to which faults have been reported."""
+        """Return the time on the last line of output, or `None` if the line has no time.
+
+        All faults up to this time have been reported.
+        """
         times: list[str] = TIME_CODE.findall(self.last_line)
         return times[-1] if times else None
 

@@ -1,4 +1,5 @@
-"""Return the expected and the decoded times of each subtitle in a part, and the verdict on it."""
+"""Find the times at which each subtitle of a part was expected and decoded, and the verdict on it.
+"""
 from __future__ import annotations
 
 import functools
@@ -24,7 +25,7 @@ from .subtitles import ValidSubtitles
 from .transmissions import ExpectedPages
 
 
-# Names of causes if another page was sent instead of the expected page
+# The causes for which another page was sent instead of the expected page
 REPLACING_CAUSES = {WRONG_TEXT, WRONG_PLACE, WRONG_ATTRIBUTE, OTHER_TEXT}
 
 
@@ -134,8 +135,8 @@ NOT_ALL_RECEIVED = "not received completely"
 class CueVerdict(NamedTuple):
     """The verdict on a subtitle, and its reason.
 
-    The reason is the cause of its fault, the numbers of other faults at its time, or a doubt why
-    the verdict is not known.
+    The reason is the cause of its fault, and the numbers of other faults at its time. If the
+    verdict is not known, the reason is a doubt.
     """
 
     word: str

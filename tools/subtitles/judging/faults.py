@@ -74,16 +74,17 @@ def find_fault_place(fault: FaultLine, packets: Packets, timeline: Timeline | No
 
 
 def find_pes_packet(members: Sequence[PacketRun], packet: int) -> PacketRun:
-    """Return the PES packet, of the PES packets in one frame, that contains a Teletext packet.
+    """Return the PES packet that contains a Teletext packet.
 
-    `packet` is the number of the Teletext packet among all Teletext packets of the frame.
+    `members` has the PES packets of a frame. `packet` is the number of the Teletext packet among
+    all Teletext packets of this frame.
     """
     ends = itertools.accumulate(run.units for run in members)
     return next((run for run, end in zip(members, ends) if packet < end), members[-1])
 
 
 def find_fault_code(fault: FaultLine, page: Rows) -> int | None:
-    """Return the code of the cell that a fault refers to, or `None`."""
+    """Return the code of the cell that a fault refers to, or `None` if it is unknown."""
     return None if fault.row is None or fault.column is None else \
         find_code(page, fault.row, fault.column)
 
@@ -197,7 +198,7 @@ def describe_parity_fault(fault: FaultLine, part: Part) -> str:
 def describe_pid_end(part: Part) -> str:
     """Explain why the PID has no Teletext after the last judged PES packet.
 
-    Return an empty string if it has.
+    Return an empty string if it has some.
     """
     is_last = part.pes is not None and part.pes[1] == part.packets.count - 1
     return (explain_refusal(part.packets) or "") if is_last and part.packets.refusal else ""

@@ -289,7 +289,7 @@ def decode_cells(cells: bytes) -> Iterator[Cell]:
             paper = ink
         if code > SPACE:
             yield Cell(column, code, is_boxed, is_begun, ink == paper)
-        elif code < 8 or 0x10 <= code < 0x18:  # acts on the next cells
+        elif code < 8 or 0x10 <= code < 0x18:  # a colour acts on the cells after it
             ink = code & 7
         last = code
 

@@ -126,7 +126,7 @@ def find_adjoining_end(part: Part) -> int | None:
 
 
 def find_nearest_pauses(subtitles: Sequence[Subtitle], at: int) -> list[int]:
-    """Return the TCOs, nearest before and nearest after frame `at`, at which a pause begins.
+    """Return the last TCO before frame `at` and the first TCO after it at which a pause begins.
 
     The end of the file counts as a pause.
     """
@@ -145,7 +145,7 @@ class PairJudge:
         self.command_paths, self.names, self.listener = command_paths, names, listener
         self.is_result_written = is_result_written
         self.recording: Recording | None = None
-        self.current_part: Part | None = None  # the part that is being judged, or was last
+        self.current_part: Part | None = None  # the part that is being judged or was judged last
 
     def format_call(self, *more: str) -> str:
         """Return the command line of this run, with the additional arguments `more`."""
@@ -172,7 +172,7 @@ class PairJudge:
 
     @contextlib.contextmanager
     def catch_missing_page(self) -> Iterator[None]:
-        """Return a context manager that handles `NeverSent`: add this fault to the verdict."""
+        """Return a context manager that catches `NeverSent` and adds its fault to the verdict."""
         try:
             yield
         except NeverSent as never:
@@ -214,7 +214,8 @@ class PairJudge:
         return answer
 
     def check_hidden_rows(self) -> None:
-        """Add faults for rows that no receiver shows, and warnings for rows that some hide."""
+        """Add a fault for each row that no receiver shows, and a warning for each row that some
+        receivers hide."""
         request, file = self.request, SubtitleFile(self.names.program_stl)
         if not may_hide_rows(decode_subtitles(file.data), bool(request.layout)):
             return
@@ -470,7 +471,8 @@ class PairJudge:
         self.verdict.warn([*warnings, *notices.find_character_set_notices(packets, self.request)])
 
     def add_part_warnings(self, part: Part, subtitles: list[Subtitle]) -> None:
-        """Add warnings about pauses in a part, and about long intervals between page headers."""
+        """Add warnings about intervals without PES packets, and about an --every that is too long.
+        """
         origin = part.judged_recording[1].origin
         times = [(subtitle.begin, subtitle.end) for subtitle in subtitles]
         self.verdict.warn([

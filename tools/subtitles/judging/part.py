@@ -57,9 +57,9 @@ class Part:
     expected_pages: Callable[[], ExpectedPages] = no_expected_pages
     timeline: Callable[[], Timeline | None] = lambda: None
     severity: Severity | None = None
-    causes: Causes | None = None  # why subtitles are refused
+    causes: Causes | None = None  # the causes of the faults
     delays: Sequence[int | None] = ()  # frames from each TCI until the subtitle was complete
-    is_recording_read: bool = False  # also set if there is no recording
+    is_recording_read: bool = False  # also true if there is no recording
     hint: str = ""  # hint on the fault to report first
     block_subtitle: str = ""  # description of the refused block's subtitle
     transmission_hint: str = ""  # hint on the first fault of the transmission
@@ -279,9 +279,10 @@ def find_part_causes(part: Part) -> Causes | None:
 
 
 def find_recorded_span(pts: tuple[int, int] | None, alignment: TimedPart) -> Span | None:
-    """Return the frames between two PTS, from the first to the last recorded frame.
+    """Return the frames that were recorded completely.
 
-    Return `None` if the PTS are unknown, or if PTS go back in the recording.
+    `pts` has the PTS between which all packets were recorded. Return `None` if it is `None`, or if
+    PTS go back somewhere in the recording.
     """
     if pts is None or alignment.packets:
         return None

@@ -24,7 +24,7 @@ from .status import ACCEPTED, LOST, NOT_ANSWERED, NOT_JUDGED, REFUSED, RELATIVE,
 
 
 class Rank(enum.IntEnum):
-    """How severe a fault is for viewers; the worst rank comes first.
+    """The severity of a fault for viewers. The worst rank has the lowest number.
 
     Sentences, reports and batch tables begin with a fault of the worst rank.
     """
@@ -370,9 +370,9 @@ def describe_first_fault(seen: Facts) -> str:
 
 
 def describe_other_faults(seen: Facts) -> str:
-    """Describe the number of faults with other fault numbers than the first fault.
+    """Describe the faults whose number differs from that of the first fault.
 
-    Faults that have a cause are left out.
+    Leave out faults that have a cause.
     """
     first = seen.first.number if seen.first else None
     others = [count for count in seen.counts
@@ -381,7 +381,10 @@ def describe_other_faults(seen: Facts) -> str:
 
 
 def describe_counts(several: Sequence[FaultCount]) -> str:
-    """Return the worst fault numbers with their numbers of faults, and the count of the others."""
+    """Describe how many faults have each fault number, worst first.
+
+    After `MAX_NUMBERS` fault numbers, describe only how many fault numbers are left.
+    """
     rising = sorted(several, key=lambda count: (rank_number(count.number), count.number))
     words = [f"{count.number} {count.name}" +
              (f" ({count.fault_count:,})" if count.fault_count > 1 else "") for count in rising]

@@ -102,11 +102,12 @@ class CheckSummary(NamedTuple):
 class Grounds(NamedTuple):
     """The values that decide a verdict.
 
-    `judged_losses` has an entry for each loss that only the PCR shows, which is true if judged
-    frames are lost. `check` itself reports the other losses. `reasons` says why the pair was not
-    judged. `failed_outputs` names the outputs that could not be written, or that would describe
-    other files. `has_clock` is true if the clock was given, or if there is no recording. Without a
-    clock, a delay that all subtitles share can't be detected, so the best verdict is `relative`.
+    `judged_losses` has an entry for each loss that only the PCR shows. The entry is true if packets
+    of judged frames are lost. (`check` itself reports the other losses.) `reasons` says why the
+    pair was not judged. `failed_outputs` names the outputs that could not be written, or that would
+    describe other files. `has_clock` is true if the clock was given, or if there is no recording.
+    Without a clock, a delay that all subtitles share can't be detected, so the best verdict is
+    `relative`.
     """
 
     parts: Sequence[CheckSummary]
@@ -179,9 +180,9 @@ def decide(grounds: Grounds) -> Decision:
 
 
 def matches_exit_status(word: str, status: int, exit_status: int) -> bool:
-    """Return whether `exit_status`, that of a run of qc, is the `status` in its JSON result.
+    """Return whether a run of qc ended with `status`, the exit status in its JSON result.
 
-    The verdict `word` must also allow this status.
+    `exit_status` is the exit status of the run. The verdict `word` must also allow it.
     """
     return status == exit_status and (word, status) in POSSIBLE_RESULTS
 

@@ -1,4 +1,4 @@
-"""Give advice on refused subtitles of a file, and choose the other subtitles, which are judged."""
+"""Give advice on refused subtitles, and find the other subtitles of the file, which are judged."""
 from __future__ import annotations
 
 import functools
@@ -77,7 +77,7 @@ class OptionAdvice:
                 and all(has_characters(text, option) for text in texts)]
 
     def advise(self, block: int, offset: int) -> str:
-        """Return advice on the byte at offset `offset` in the text that ends in a TTI block."""
+        """Return advice on the byte at `offset` in the text that ends in the TTI block `block`."""
         text = self.subtitles.text(block)
         return "" if offset >= len(text) else advise_on_character(
             character_bytes(text, offset), self.complete_options)
@@ -107,7 +107,7 @@ def format_options(options: list[NationalOption]) -> str:
     return "--option " + ", ".join(option.word for option in options)
 
 
-# Subtitles with these faults are not compared with the next subtitle.
+# A subtitle with one of these faults is not compared with other subtitles.
 NOT_COMPARED = {16, *range(18, 22)}
 ORDER_FAULTS = {56, 57}  # faults found by comparing a subtitle with the previous one
 MAX_NAMED = 3  # maximum number of refused subtitles to name in the sentence about the verdict

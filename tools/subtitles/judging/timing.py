@@ -37,8 +37,8 @@ class PartSearch(NamedTuple):
 
     `full_range` has the first and the last frame of the subtitles, and the clock if one was given.
     `allowed_packets` is the range of PES packets that may be judged. `skipped_positions` has the
-    positions of subtitles to skip. `is_continued` is true if the first judged subtitle continues
-    the text of the subtitle before it, which is not judged, without a pause.
+    positions of subtitles to skip. `is_continued` is true if the first judged subtitle directly
+    follows a subtitle that has the same text and is not judged.
     """
 
     request: Request

@@ -27,7 +27,7 @@ from .pages import is_partial_page, join_page_text
 ERASE_CLEAR = "C4 (erase page) is clear"
 REPEAT_WITHOUT_ERASE = f"{ERASE_CLEAR}: a repeat that does not erase"
 # The control bits of subtitle headers except C4, whether each must be set, and the message if it
-# has the wrong value.
+# has the wrong value
 CONTROL_BIT_FAULTS = (
     (SUBTITLE, True, "C6 (subtitle) is clear"),
     (SUPPRESS, True, "C7 (suppress header) is clear"),
@@ -211,7 +211,7 @@ class ExpectedPages(SubtitleList):
 
     @functools.cached_property
     def by_page(self) -> dict[Rows, list[int]]:
-        """Return the positions of the subtitles with each page."""
+        """Return the indices of the subtitles with each page."""
         by_page: dict[Rows, list[int]] = {}
         for place, page in enumerate(self.pages):
             by_page.setdefault(page, []).append(place)
@@ -219,14 +219,14 @@ class ExpectedPages(SubtitleList):
 
     @functools.cached_property
     def by_text(self) -> dict[str, list[int]]:
-        """Return the positions of the subtitles with each text."""
+        """Return the indices of the subtitles with each text."""
         by_words: dict[str, list[int]] = {}
         for place, page in enumerate(self.pages):
             by_words.setdefault(join_page_text(page), []).append(place)
         return by_words
 
     def find_subtitle(self, page: Rows, frame: int) -> int | None:
-        """Return the position of the subtitle with this page that begins nearest to a frame.
+        """Return the index of the subtitle with this page that begins nearest to a frame.
 
         Return `None` for a blank page, or if no subtitle has the page.
         """
@@ -292,9 +292,10 @@ def schedule_pages(program: str, stl: str, subtitles: list[Subtitle], page: Page
 class PageTransmissions:
     """Finds the page transmissions of subtitles among the decoded pages.
 
-    A page transmission belongs to the nearest subtitle with its page. The search window of a
-    subtitle lasts from the previous TCO to the next TCI, and at least from 250 frames before its
-    TCI to 250 frames after its TCI.
+    `place` is the index of a subtitle, and `number` the index of a decoded page. A page
+    transmission belongs to the nearest subtitle with its page. The search window of a subtitle
+    lasts from the previous TCO to the next TCI, and at least from 250 frames before its TCI to 250
+    frames after its TCI.
     """
 
     def __init__(self, expected: ExpectedPages, timeline: Timeline) -> None:
@@ -316,9 +317,10 @@ class PageTransmissions:
         return [Span(begin, end - 1) for begin, end in zip(rising, [*rising[1:], last + 1])]
 
     def find_owner(self, frame: int) -> int:
-        """Return the position of the subtitle that a wrong page in a frame belongs to.
+        """Return the index of the subtitle that a wrong page in a frame belongs to.
 
-        This is the last expected subtitle, or the subtitle whose page was sent at the wrong time.
+        This is the last subtitle that begins at or before this frame, or the subtitle whose page
+        was sent at the wrong time.
         """
         place = self.expected.find_place(frame)
         number = self.timeline.number_at(frame)
@@ -359,10 +361,10 @@ class PageTransmissions:
             not self.is_expected_page(begin - 1)
 
     def is_sent_for_next(self, number: int, place: int) -> bool:
-        """Return whether an unknown page was sent early for the next subtitle.
+        """Return whether page `number` was sent for the subtitle after `place`.
 
-        It was if it followed the page of the subtitle at `place`, but lasts longer during the next
-        subtitle.
+        It was if it belongs to no subtitle, follows the page of the subtitle at `place`, and lasts
+        longer during the next subtitle.
         """
         if place + 1 >= len(self.subtitles) or not self.is_unknown_page(number, place):
             return False

@@ -294,7 +294,7 @@ def is_page_expected(clock: tuple[int, int] | None, times: Sequence[tuple[int, i
 def has_unreadable(survey: Survey, pids: Collection[int]) -> bool:
     """Return whether any of these PIDs has TS packets but no readable PES packet.
 
-    It may be scrambled, for example.
+    Such a PID may be scrambled.
     """
     packets = [survey.by_pid[pid] for pid in pids if pid in survey.by_pid]
     return any(not one.count and one.packets and explain_refusal(one) for one in packets)
