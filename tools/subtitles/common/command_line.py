@@ -60,7 +60,6 @@ class ToolParser(argparse.ArgumentParser):
                               help="show the version and exit")
 
     def add_argument(self, *names: Any, **known: Any) -> argparse.Action:
-        """Add an option or a positional argument."""
         return self.record(super().add_argument(*names, **known))
 
     def add_to_group(self, title: str, *names: Any, **known: Any) -> argparse.Action:

@@ -29,7 +29,6 @@ class Between(NamedTuple):
     end: int = FRAMES_OF_A_DAY
 
     def has(self, frame: int) -> bool:
-        """Return whether a frame is in this range."""
         return self.begin <= frame < self.end
 
     def words(self) -> list[str]:

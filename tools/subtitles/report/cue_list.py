@@ -144,7 +144,6 @@ class CueList:
         return format_recording_offset(self.part, self.start, frame)
 
     def fault_name(self, number: int) -> str:
-        """Return the name of a fault number."""
         return self.part.check_output.first_faults[number].name
 
     @functools.cached_property

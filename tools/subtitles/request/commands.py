@@ -199,7 +199,6 @@ class OutputNames:
         return part
 
     def set_subtitle_file(self, stl: str) -> None:
-        """Set the path of the subtitle file."""
         self.program_stl = self.make_utf_8_path(stl, "given.stl")
 
     def make_utf_8_path(self, name: str, ending: str) -> str:
@@ -292,7 +291,6 @@ class Printer:
         print_stderr(line)
 
     def show_progress(self, make_line: Callable[[], str]) -> None:
-        """Show a progress line on a terminal."""
         self.progress.show(make_line)
 
     def print_command(self, line: str) -> None:
@@ -332,7 +330,6 @@ class Listener:
         self.notes: list[str] = []
 
     def print_line(self, line: str) -> None:
-        """Print a line."""
         self.printer.print_line(line)
 
     def add_selection(self, selection: Selection, is_printed: bool = True) -> None:
