@@ -84,7 +84,7 @@ class UseGraph:
         return self.resolve(*file.names[name]) if name in file.names else None
 
     def link(self, node: Node, text: str) -> None:
-        """Add everything to which the names in `text` refer to the uses of `node`."""
+        """Add the nodes that `text` names to the uses of `node`."""
         for source, name in list_names(node.file, node.file.own, text):
             node.add(self.resolve(source, name) if source else self.resolve_in(node.file, name))
 

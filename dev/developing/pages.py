@@ -361,7 +361,7 @@ def fill_rows(words: list[str], width: int) -> list[str]:
 
 
 def replace_parts(text: str, parts: dict[str, str]) -> str:
-    """Return a text in which the generated parts that `parts` names are replaced."""
+    """Return `text` with new contents for the generated parts that `parts` contains."""
     missing = set(parts) - {found[2] for found in MADE.finditer(text)}
     if missing:
         raise Stop(f"add a line `made: NAME` for these parts: {', '.join(sorted(missing))}")

@@ -19,7 +19,7 @@ class FrameEnds:
     def __init__(self, due: ExpectedPages, options: Options) -> None:
         self.due, self.options = due, options
         self.first = self.frame = 0  # first and previous frame
-        self.active: dict[int, int] = {}  # number of each active fault: its cell, or NO_CELL
+        self.active: dict[int, int] = {}  # cell, or NO_CELL, of each active fault number
         # The frame from which the page has been incomplete.
         self.incomplete_since: int | None = None
         self.is_late = False  # whether the page is late

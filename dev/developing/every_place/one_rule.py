@@ -57,7 +57,7 @@ PAGE = [HEADER, CLOSING]
 def parse_transmission(packets: str, meaning: dict[str, bytes]) -> list[bytes]:
     """Return the PES packets that a comma-separated list describes.
 
-    An item of the list is a frame, with `+` or `-` for a PTS next to it, and the names of packets.
+    The module's docstring describes the format. `meaning` maps the names in the list to packets.
     """
     made = []
     for frame, *names in map(str.split, packets.split(",")):

@@ -1,4 +1,4 @@
-"""Parse subtitle files, PES packets and page headers as the standards define them; find faults.
+"""Parse subtitle files, PES packets and page headers by the standards, and find their faults.
 
 The standards are EBU Tech 3264 for subtitle files, EN 300 472 for PES packets, and EN 300 706 for
 Teletext packets. Limits and fault numbers are from the manual (docs/manual/reference.md). Nothing

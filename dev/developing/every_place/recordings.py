@@ -163,8 +163,8 @@ def cut_parts(good_packets: list[GoodPacket]) -> list[Part]:
 class StreamContent(NamedTuple):
     """The PES packets and gap markers in a stream.
 
-    `marks` tells which items of `pieces` are gap markers. `rest` contains the bytes from a wrong
-    start or length on, `end_fault` its fault number.
+    `marks` contains, for each item of `pieces`, whether it is a gap marker. `rest` contains the
+    bytes from a wrong start or length on, `end_fault` the fault number.
     """
 
     pieces: list[bytes]

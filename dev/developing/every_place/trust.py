@@ -10,8 +10,7 @@ from typing import Iterator, NamedTuple
 
 from subtitles.common.times import time_of
 
-# Faults after which the frame of a PES packet is not fault-free, because receivers depend on these
-# rules.
+# Faults of a PES packet because of which its frame is not trusted: receivers depend on these rules.
 PACKET_FAULTS = {64, 65, 67, 68, 69}
 ORDER = 62
 SKIPPED = {*range(33, 41), 45, 61}  # fault numbers of unreadable items

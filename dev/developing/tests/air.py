@@ -97,7 +97,7 @@ class Air(Case):
 
     def put_segment(self, begin: float, end: float, data: bytes = b"", is_new: bool = False
                     ) -> str:
-        """Write a segment that lasts from `begin` to `end`; return its path."""
+        """Write a segment that lasts from `begin` to `end`. Return its path."""
         path = self.path(f"segments/{segment_name(DAY + begin, is_new)}")
         with open(path, "wb") as file:
             file.write(data or b"." * max(int(end - begin), 1))

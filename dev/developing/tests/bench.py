@@ -60,7 +60,7 @@ class Bench:
         return self.chosen
 
     def make_top(self) -> str:
-        """Create the folder for all tests, readable by other users, unless it exists; return it."""
+        """Create the folder for all tests, readable by other users, unless it exists. Return it."""
         if not self.folder:
             self.folder = tempfile.mkdtemp()
             os.chmod(self.folder, 0o755)
@@ -87,7 +87,7 @@ class Case(unittest.TestCase):
         self.folder = self.bench.make_folder(self.id().rpartition("tests.")[2])
 
     def must(self, name: str, is_right: object, told: object = "") -> bool:
-        """Check that a condition is true; continue after a failure.
+        """Check that a condition is true. Continue after a failure.
 
         A failure shows the caller's line and the first false part of the condition. Prefer `check`
         if there is an expected value.
@@ -101,7 +101,7 @@ class Case(unittest.TestCase):
         return bool(is_right)
 
     def check(self, name: str, found: object, expected: object) -> bool:
-        """Check that two values are equal; continue after a failure."""
+        """Check that two values are equal. Continue after a failure."""
         with self.subTest(name):
             if found != expected:
                 raise Mismatch(f"{name[:MAX_OF_NAME]}\n  {place_of(calling_frame())}\n"
@@ -119,13 +119,13 @@ class Case(unittest.TestCase):
         return os.path.join(self.folder, name)
 
     def write(self, name: str, data: bytes | bytearray) -> str:
-        """Write a file in the test's folder; return its path."""
+        """Write a file in the test's folder. Return its path."""
         with open(self.path(name), "wb") as file:
             file.write(data)
         return self.path(name)
 
     def write_program(self, name: str, text: str) -> str:
-        """Write an executable file in the test's folder; return its path."""
+        """Write an executable file in the test's folder. Return its path."""
         path = self.write(name, text.encode())
         os.chmod(path, 0o755)
         return path
@@ -152,7 +152,7 @@ class Case(unittest.TestCase):
         return self.call([tool_path(name), *words], data)
 
     def program(self, *words: str) -> tuple[int, list[str]]:
-        """Run the program under test; return its exit status and output lines."""
+        """Run the program under test. Return its exit status and output lines."""
         done = self.call([self.bench.program, *words])
         return done.status, done.out.decode().splitlines()
 
@@ -165,7 +165,7 @@ class Case(unittest.TestCase):
                                              f"'{self.bench.program}' \"$@\"\n")
 
     def schedule(self, stl: str, name: str, *options: str) -> str:
-        """Write the transmission that `schedule` makes from a subtitle file; return its path."""
+        """Write the transmission that `schedule` makes from a subtitle file. Return its path."""
         done = self.call([self.bench.program, "schedule", stl, self.path(name), *options])
         assert done.status == 0, done
         return self.path(name)

@@ -43,13 +43,13 @@ def shortened(lines: list[str]) -> str:
 
 
 def lines_of(value: object) -> list[str]:
-    """Split a multi-line text into lines; format other values with `pprint`."""
+    """Split a multi-line text into lines. Format other values with `pprint`."""
     return value.splitlines() if isinstance(value, str) and "\n" in value else \
         pprint.pformat(value, width=WIDTH, compact=True).splitlines()
 
 
 def comparison(found: object, expected: object) -> str:
-    """Format two different values; use a diff if they take several lines."""
+    """Format two different values. Use a diff if they take several lines."""
     own, wanted = lines_of(found), lines_of(expected)
     if len(own) == 1 and len(wanted) == 1:
         return f"  expected: {wanted[0]}\n  found:    {own[0]}"

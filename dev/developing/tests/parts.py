@@ -98,7 +98,7 @@ def call_arguments(request: Request) -> list[str]:
 
 
 def run_qc(words: Sequence[str]) -> int:
-    """Run tools/qc in this process; return its exit status."""
+    """Run tools/qc in this process. Return its exit status."""
     return run_main(lambda line: main("", os.path.join(TOP, "tools", "qc"), line), words)
 
 

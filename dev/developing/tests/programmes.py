@@ -41,7 +41,7 @@ def repeat_last_page(data: bytes, pts: int, count: int, step: int = SECOND) -> b
 
 
 def wait_until(holds: Callable[[], object]) -> bool:
-    """Wait until a condition is true; return whether this happened before the time limit."""
+    """Wait until a condition is true. Return whether this happened before the time limit."""
     end = time.monotonic() + SECONDS
     while not holds() and time.monotonic() < end:
         time.sleep(0.02)

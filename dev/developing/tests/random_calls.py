@@ -48,7 +48,7 @@ class CallOutput(NamedTuple):
 
 
 def in_process(entry: Any, words: list[str]) -> tuple[int, str, str]:
-    """Run a tool's `main` function; return its exit status, output and error output."""
+    """Run a tool's `main` function. Return its exit status, output and error output."""
     before, sys.argv = sys.argv, words[-len(words) + 1:] if words[0] == sys.executable else words
     with contextlib.redirect_stdout(io.StringIO()) as out, \
             contextlib.redirect_stderr(io.StringIO()) as errors:
@@ -87,7 +87,7 @@ def run_random_call(number: int, program: str) -> CallOutput:
 
 
 def measure_pair(recording: str, program: str) -> str:
-    """Run `qc --measure` on the pair in the current folder; return its status and output."""
+    """Run `qc --measure` on the pair in the current folder. Return its status and output."""
     words = ["tools/qc", "--measure", "one.stl", recording, "-p", program]
     status, out, reported = in_process(lambda line: main("", "tools/qc", line), words)
     return f"measured {status}\n{out}{reported}"

@@ -1,4 +1,4 @@
-"""Run qc repeatedly on a folder with random pairs; change files in the folder between the runs.
+"""Run qc repeatedly on a folder with random pairs, and change files in it between the runs.
 
 The output for some seeds is stored in dev/snapshots/many.txt (see `snapshots`). From dev/, `python3
 -m developing.tests.random_folders ../dist/subttx SEED` prints the output for one seed.
@@ -68,7 +68,7 @@ class Folder:
                 file.write(self.chance.choice(texts))
 
     def write_list(self) -> None:
-        """Write a list of pairs with random options; sometimes add an invalid line."""
+        """Write a list of pairs with random options. Sometimes add an invalid line."""
         there, lines = sorted(os.listdir("in")) or ["none"], list[str]()
         for _ in range(self.chance.choice((1, 2, 3, 4))):
             stl, recording = (self.chance.choice(there) for _ in range(2))
@@ -119,7 +119,7 @@ class Folder:
                 file.write((json.dumps(OLD), "somebody's own", "{}")[kind - 2])
 
     def call(self) -> CallOutput:
-        """Run qc with random arguments; return its output, with new and changed files."""
+        """Run qc with random arguments. Return its output, with new and changed files."""
         chance, out = self.chance, ["-o", "out"] * (self.chance.randrange(5) > 0)
         wanted = [word for option, name in (("--json", "one.json"), ("--csv", "one.csv"),
                                             ("--junit", "one.xml")) if chance.randrange(2)

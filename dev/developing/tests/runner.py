@@ -137,7 +137,7 @@ class TestProcess:
         return self.said
 
     def add_to(self, whole: Counts) -> None:
-        """Add the results of the process to `whole`; count a crash as a failure."""
+        """Add the results of the process to `whole`. Count a crash as a failure."""
         printed = os.read(self.said, 1 << 16)
         os.close(self.said)
         _, status = os.waitpid(self.process, 0)

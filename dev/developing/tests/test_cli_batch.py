@@ -138,7 +138,7 @@ class CompleteBatches(Case):
 
     def batch(self, judged: str, *, is_stopped: bool = False, unwritten: dict[str, Any] = {},
               **more: Any) -> tuple[int, list[str], list[str]]:
-        """Judge a list of pairs with these verdicts; return the status, the table and the messages.
+        """Judge a list of pairs with these verdicts. Return the status, the table and the messages.
 
         `unwritten` has results that could not be written to a file.
         """

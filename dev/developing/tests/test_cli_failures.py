@@ -91,7 +91,7 @@ class CallCase(Case):
         return self.write_program("program", text)
 
     def qc(self, *words: str) -> Ended:
-        """Run qc in the test's folder; return its status and output."""
+        """Run qc in the test's folder. Return its status and output."""
         before = os.getcwd()
         received = [(one, signal.getsignal(one)) for one in SIGNALS]
         os.chdir(self.folder)
@@ -264,7 +264,7 @@ class UsageErrors(CallCase):
 
 class Bugs(CallCase):
     def check_failing(self, place: str, error: Exception) -> None:
-        """Check that qc is not judged, with a message, if the function `place` raises `error`."""
+        """Check that qc gives no verdict and reports `error` if the function `place` raises it."""
         if os.path.exists(self.path("one.json")):
             os.unlink(self.path("one.json"))
         with mock.patch(f"subtitles.{place}", side_effect=error):

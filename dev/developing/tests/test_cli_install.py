@@ -57,7 +57,7 @@ def check_installation(case: Case, prefix: str) -> None:
 
 
 def proof_file(case: Case) -> str:
-    """Return the path of PROVED; skip the test if the program has not been proved here."""
+    """Return the path of PROVED. Skip the test if the program has not been proved here."""
     program, _ = find_program(TOP)
     proved = os.path.join(os.path.dirname(program), "PROVED")
     if not program or find_crates_without_line(parse_proved(read(proved))):

@@ -64,7 +64,7 @@ class Clocks(Feeds):
         self.air(f"{seed}, air", chance) if seed % 3 == 0 else None
 
     def make_pairs(self, chance: random.Random) -> dict[str, int]:
-        """Write random pairs to the folder `in`; return their origins by their names."""
+        """Write random pairs to the folder `in`. Return their origins by their names."""
         shutil.rmtree(self.path("in"), ignore_errors=True)
         os.mkdir(self.path("in"))
         self.write("severity", b"others warning\n")
@@ -96,7 +96,7 @@ class Clocks(Feeds):
                 one: not one.endswith(".stl")) if one.startswith(f"{name}.")]
 
     def qc(self, *words: str) -> tuple[int, list[str]]:
-        """Run qc in this process; return its status and output lines."""
+        """Run qc in this process. Return its status and output lines."""
         status, out, _ = in_process(lambda line: qc("", "tools/qc", line), [
             "tools/qc", *words, "-p", self.bench.program])
         return status, out.splitlines()

@@ -149,7 +149,7 @@ class UntrustedResults(Case):
               "javascript:1", "{}", "\x1b[31m", "\u202e", "</style><b>", "<!--", "]]>", "'", "\n"]
 
     def page(self, number: int) -> str:
-        """Write an index page with random texts; return its path."""
+        """Write an index page with random texts. Return its path."""
         chance = random.Random(number)
 
         def text() -> str:

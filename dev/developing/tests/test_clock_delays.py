@@ -294,8 +294,8 @@ ENCODERS = {"mpeg2video": ["-bf", "2", "-g", "15"],
 def compare_with_ffprobe(case: Case, name: str, stl: str, data: bytes, is_closed: bool) -> None:
     """Compare the PTS of the first picture of a stream with the output of ffprobe.
 
-    The PTS is that of the first key frame, or the smallest in its group if the group is closed or
-    unknown.
+    The expected PTS is that of the first key frame, or the smallest PTS in its group if the group
+    is closed or unknown.
     """
     path = case.write("cut.ts", data)
     done = qc(case, stl, path, "--start", "00:00:00:00")

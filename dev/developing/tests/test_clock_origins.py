@@ -37,7 +37,7 @@ def evenly_spaced(count: int, step: int, lasts: int, text: bytes = b"Number %d",
 
 class Origins(Case):
     def stl(self, times: Sequence[Shown], name: str = "one.stl") -> str:
-        """Write a subtitle file with boxed texts; return its path."""
+        """Write a subtitle file with boxed texts. Return its path."""
         return write_subtitle_file(self, [(begin, end, box_line(text)) for begin, end,
                                           text in times],
                                    name, 0, 20)
@@ -195,7 +195,7 @@ class Origins(Case):
                 for number, by in enumerate(late) for frame in (0, 40)]
 
     def own_stl(self) -> str:
-        """Write the programme's subtitle file; return its path."""
+        """Write the programme's subtitle file. Return its path."""
         return self.stl(evenly_spaced(COUNT, 70, 40, begin=FIRST))
 
     def test_prints_no_part_if_one_is_unclear(self) -> None:

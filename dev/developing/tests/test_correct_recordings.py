@@ -328,7 +328,7 @@ def cut_at(count: int) -> Callable[[Case], tuple[str, str]]:
 
 
 def airings() -> Iterator[Recording]:
-    """Yield recordings of repeated subtitles, next to another programme, or with a break."""
+    """Yield recordings with repeated subtitles, another programme, or a break."""
     for count in (0, 3, 6):
         yield Recording(AIRINGS, f"tail {count}", with_tail(count), ["--every", "40"])
     for count in (5, 8, 12):
@@ -411,7 +411,7 @@ def is_bounded(kind: str, words: Sequence[str]) -> bool:
 
 
 def main(program: str) -> None:
-    """Judge all recordings; print the counts, and each recording that was not accepted."""
+    """Judge all recordings. Print the counts, and each recording that was not accepted."""
     BENCH.chosen = program
     case = CorrectRecordings("test_accepts_correct_recordings_of_each_kind")
     kinds = dict[str, list[str]]()

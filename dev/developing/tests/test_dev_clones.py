@@ -57,7 +57,7 @@ class Clone:
         return os.path.join(self.top, *names)
 
     def tool(self, name: str, *words: str) -> list[str]:
-        """Run a tool of the copy; return its output lines."""
+        """Run a tool of the copy. Return its output lines."""
         return self.case.call([self.path("tools", name), *words]).out.decode().splitlines()
 
     def put(self, folder: str, program: str, line: str = LINE) -> None:
@@ -90,7 +90,7 @@ class Clone:
         self.case.write_program(self.path("bin", name), text)
 
     def give_toolchain(self, text: str = TOOLCHAIN) -> str:
-        """Write the script `rt` to the copy; return a PATH with it."""
+        """Write the script `rt` to the copy. Return a PATH with it."""
         self.give("rt", text)
         return os.pathsep.join([self.path("bin"), path_without_rt()])
 
@@ -338,7 +338,7 @@ class Bare(Clone):
         return self.call([self.path("subttx"), *PACKET], self.environment)
 
     def prove(self, *words: str) -> list[str]:
-        """Run tools/prove; return the crates for which it called the prover, in order."""
+        """Run tools/prove. Return the crates for which it called the prover, in order."""
         self.write(self.called, "")
         self.call([self.path("tools", "prove"), *words], self.environment)
         return (read(self.called) or "").split()

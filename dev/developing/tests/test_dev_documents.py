@@ -36,7 +36,7 @@ def documents() -> Iterator[tuple[str, str]]:
 
 
 def anchors(text: str) -> set[str]:
-    """Return the names that links to the anchors and headings of a document use."""
+    """Return the names of a document's anchors and headings, as used in links."""
     text = BLOCK.sub("", text)
     return {*ANCHOR.findall(text), *(re.sub(r"[^\w\- ]", "", found.lower()).replace(" ", "-")
                                      for found in HEADING.findall(text))}

@@ -216,7 +216,7 @@ class Receiver:
 
 class Transmissions(Case):
     def schedule_of(self, option: NationalOption, several: list[Text]) -> str:
-        """Run `schedule` on adjoining subtitles with these texts; return the last printed line."""
+        """Run `schedule` on adjoining subtitles with these texts. Return the last printed line."""
         blocks = [make_tti_block(number, begin, begin + LENGTH, one.row, one.justify, one.text)
                   for number, one in enumerate(several) for begin in [FIRST + LENGTH * number]]
         self.write("a.stl", make_gsi_block(b"", len(blocks), len(blocks), FIRST) + b"".join(blocks))

@@ -229,7 +229,7 @@ def text_of(number: int, end: str = "") -> bytes:
 
 class Profiles(Case):
     def write_stl(self, name: str, end: str = "", justify: int = 2, count: int = 12) -> str:
-        """Write a subtitle file, with `end` before and after each line; return its path."""
+        """Write a subtitle file, with `end` before and after each line. Return its path."""
         return write_subtitle_file(self, [(begin, begin + LASTS, text_of(number, end))
                                     for number in range(count)
                                     for begin in [FIRST + EACH * number]], name, 0, 20, justify)

@@ -36,7 +36,7 @@ FAULTS = [
     ("up,after=0E", "after=0E is not an item: after takes up to 4 codes 01 to "
                     "0D"), ("fit,up", None)]
 def file_of(case: Case, texts: list[tuple[bytes, int]], name: str, dsc: bytes = b"1") -> str:
-    """Write a subtitle file with these texts and justification codes; return its path."""
+    """Write a subtitle file with these texts and justification codes. Return its path."""
     blocks = b"".join(make_subtitle_blocks(
         at, FIRST + EACH * at, FIRST + EACH * at + LASTS, 18, justify, text)
                       for at, (text, justify) in enumerate(texts))

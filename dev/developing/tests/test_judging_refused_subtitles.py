@@ -1,4 +1,4 @@
-"""Test that correct subtitles are judged if others in their file are refused; test long inputs."""
+"""Test that correct subtitles are judged if others in their file are refused, and long inputs."""
 from __future__ import annotations
 
 import csv

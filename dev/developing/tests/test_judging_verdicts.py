@@ -53,7 +53,7 @@ def loss_between(before: int | None, after: int | None, shift: int = 0, **more: 
 
 class Verdicts(Case):
     def three(self, *refused: int) -> list[Part]:
-        """Return three parts of a hundred frames each; refuse the parts with these numbers."""
+        """Return three parts of a hundred frames each. Those with the given numbers are refused."""
         return [make_part(100 * at, 100 * at + 99, 5, make_answer(REFUSED if at in refused else
                           ("accepted 10 frames 2 transmissions",)), at + 1) for at in range(3)]
 

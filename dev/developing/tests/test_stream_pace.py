@@ -46,7 +46,7 @@ def holed(frames: Sequence[int], *holes: tuple[int, int]) -> list[int]:
 
 
 def without_frames(count: int) -> list[int]:
-    """Return the frames of PES packets, two in each frame except in `count` consecutive frames."""
+    """Return the frames of PES packets: two per frame, none in `count` consecutive frames."""
     return [at // 2 for at in range(800) if not 200 <= at // 2 < 200 + count]
 
 

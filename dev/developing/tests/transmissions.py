@@ -33,7 +33,7 @@ def row_packet(number: int, text: bytes) -> bytes:
 def write_subtitle_file(case: Case, subtitles: Iterable[Shown], name: str = "one.stl",
                         first: int = 1,
                   row: int = 22, justify: int = 2, language: bytes = b"09") -> str:
-    """Write a subtitle file whose subtitle numbers count up from `first`; return its path."""
+    """Write a subtitle file whose subtitle numbers count up from `first`. Return its path."""
     blocks = [make_subtitle_blocks(number, begin, end, row, justify, text)
               for number, (begin, end, text) in enumerate(subtitles, first)]
     return case.write(name, make_gsi_block(b"Judged", len(blocks), len(blocks), language=language)
@@ -42,7 +42,7 @@ def write_subtitle_file(case: Case, subtitles: Iterable[Shown], name: str = "one
 
 def write_programme(case: Case, times: Sequence[tuple[int, int]], lines: int = 1,
               text: bytes = b"Number %d", first: int = 1, name: str = "one.stl") -> str:
-    """Write a subtitle file with one subtitle for each pair of frames; return its path."""
+    """Write a subtitle file with one subtitle for each pair of frames. Return its path."""
     return write_subtitle_file(case, ((begin, end, NEW_LINE.join(
         [text % number if b"%" in text else text] * lines))
         for number, (begin, end) in enumerate(times, first)), name, first)
@@ -142,7 +142,7 @@ def start_feed(path: str, data: bytes) -> None:
 
 
 def feed_pipe(path: str, data: bytes) -> None:
-    """Write bytes to a pipe, slowly enough for `survey`; ignore a closed pipe."""
+    """Write bytes to a pipe, slowly enough for `survey`. Ignore a closed pipe."""
     with contextlib.suppress(OSError), open(os.open(path, os.O_WRONLY), "wb", 0) as file:
         for at in range(0, len(data), 1 << 16):
             file.write(data[at:at + (1 << 16)])

@@ -85,7 +85,7 @@ class Wider(Scenario):
         return range(first, min(len(packets), first + self.chance.choice((1, 30, 400, 9999))))
 
     def announce_jump(self, packets: list[bytes]) -> list[bytes]:
-        """Set discontinuity_indicator in an inserted packet; delete some packets after it."""
+        """Set discontinuity_indicator in an inserted packet. Delete some packets after it."""
         at = self.random_run(packets)[0]
         one = packets[at]
         return [*packets[:at], one[:3] + bytes([0x20 | one[3] & 15, 183, 0x80]) + b"\xff" * 182,
