@@ -36,7 +36,7 @@ HI = b"\x0d\x0b\x0bHi\x0a\x0a"
 
 
 def add_count_line(*lines: str) -> list[str]:
-    """Append a line with the number of faults, if any."""
+    """Append a line with the number of faults if there are faults."""
     count = sum(line.startswith("refused") for line in lines)
     return [*lines, f"{count} faults"] if count else list(lines)
 

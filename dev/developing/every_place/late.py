@@ -156,7 +156,7 @@ def insert_unreadable_packets(rng: Random, packets: list[bytearray], origin: int
 
 
 def delay_transmission(rng: Random, data: bytes, within: int, origin: int) -> bytes:
-    """Return the transmission with pages some frames late, sometimes with faults."""
+    """Return the transmission with pages a few frames late, sometimes with faults."""
     parts = split_parts(data)
     if not parts:
         return data

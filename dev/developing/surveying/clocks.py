@@ -7,7 +7,7 @@ from subtitles.common.times import ticks_between, wrap_pts
 from .packets import Packet
 
 SECOND, TENTH = 90_000, 9_000  # ticks
-# Number of distances for the median, and minimum number of distances to detect a late PCR.
+# Number of intervals for the median, and minimum number of intervals to detect a late PCR.
 MEDIANS, FEWEST = 100, 5
 MOST_BREAKS = 256
 NEAR = 256  # number of TS packets after a PCR that are always near it
@@ -62,7 +62,7 @@ class Clock:
         return jump
 
     def usual(self) -> tuple[int, int]:
-        """Return the median distances between PCRs, in ticks and in TS packets."""
+        """Return the median interval between PCRs, in ticks and in TS packets."""
         ticks, packets = (sorted(some)[len(some) // 2]
                           for some in zip(*self.distances or [(0, 0)]))
         return ticks, packets

@@ -121,7 +121,7 @@ class Air(Case):
         return found
 
     def delete_all(self, *folders: str) -> None:
-        """Delete all files in some folders of the test."""
+        """Delete all files in the given folders of the test."""
         for folder in folders:
             for name in os.listdir(self.path(folder)):
                 os.unlink(self.path(f"{folder}/{name}"))

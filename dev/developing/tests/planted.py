@@ -1,6 +1,6 @@
 """Make random programmes as simulated inserters send them, with at most one planted fault.
 
-The expected sentence about this fault is also given.
+The module also defines the expected sentence about this fault.
 """
 from __future__ import annotations
 

@@ -122,7 +122,7 @@ def share_of(one_in: int) -> Callable[[random.Random, int], list[int]]:
 
 
 def steps(step: Callable[[random.Random], int]) -> Callable[[random.Random, int], list[int]]:
-    """Return a function that selects frames at random distances."""
+    """Return a function that selects frames at intervals that `step` returns."""
     def made(chance: random.Random, frames: int) -> list[int]:
         at, found = 0, list[int]()
         while at < frames:

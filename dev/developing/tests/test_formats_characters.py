@@ -317,7 +317,7 @@ def character_set_packet(number: int, character_set: int, designation: int = 0, 
 
 
 def with_bits(data: bytes, *bits: int) -> bytes:
-    """Return the data with some bits flipped."""
+    """Return the data with the given bits flipped."""
     found = bytearray(data)
     for bit in bits:
         found[bit >> 3] ^= 1 << (bit & 7)

@@ -156,7 +156,7 @@ def steady(decoded: Timeline) -> None:
 
 
 def fake_answer(spans: list[tuple[int, int]], *edges: tuple[int, int]) -> Any:
-    """Return an answer of `check` with refused content in `spans`, and other faults."""
+    """Return output of `check` with refused content in the frames `spans`, and other faults."""
     firsts = {number: parse_fault_line(f"refused {number} Edge frame {time_of(frame)}")
               for number, frame in edges}
     return SimpleNamespace(first_faults=firsts, fault_spans={72: Spans(spans)})

@@ -277,7 +277,7 @@ SECOND = 25
 
 
 def answer_with(*lines: str, path: str) -> CheckOutput:
-    """Return an answer of `check --all` with these fault lines."""
+    """Return output of `check --all` with these fault lines."""
     return make_answer([*lines, f"{len(lines)} faults"], path=path)
 
 

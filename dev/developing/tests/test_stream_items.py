@@ -103,7 +103,7 @@ def rows_of(text: bytes, justify: int, layout: Layout, row: int = 18) -> tuple[b
 
 
 def sent_of(several: Sequence[SentText], layout: Layout = PLAIN) -> list[SentSubtitle]:
-    """Return the subtitles transmitted for some texts in a layout."""
+    """Return the subtitles that are transmitted for these texts in a layout."""
     return [SentSubtitle(one.text, 18, one.justify, rows_of(one.sent, one.justify, layout))
             for one in several]
 
