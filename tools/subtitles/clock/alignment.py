@@ -121,8 +121,7 @@ def find_expected_cues(subtitles: Sequence[ExpectedSubtitle]) -> list[ExpectedCu
 class TimeBase:
     """A part of a recording in which PTS increase, and its page changes.
 
-    The keys of `changes` are numbers of frames since the first header. `packets` is the range of
-    PES packets, and `within` the allowed delay in frames.
+    The keys of `changes` are numbers of frames since the first header.
     """
 
     def __init__(self, cues: Sequence[ExpectedCue], changes: Sequence[PageChange], first: int,
@@ -233,10 +232,7 @@ class TimeBase:
         return change is not None and change.letters == cue.letters
 
     def fit(self, start: int) -> OriginFit:
-        """Compare the cues with the page changes, like `compare`.
-
-        If all matching cues are late, choose a later origin, so that the smallest delay is 0.
-        """
+        """Compare the cues with the page changes, with a later origin if all cues are late."""
         fit = self.compare(start)
         least = min(fit.delays, default=0)
         return self.fit(start - least) if least else fit
@@ -345,8 +341,7 @@ def find_time_bases(subtitles: Sequence[ExpectedSubtitle], packets: Packets, wit
 def select_time_bases(packets: Packets, inside: Range) -> list[tuple[range, Sequence[PageChange]]]:
     """Return the ranges of PES packets between jumps back of the PTS, with their page changes.
 
-    Ranges without a page change are omitted. If there are more than `MAX_BASES` ranges, return
-    those with the most page changes.
+    Return at most `MAX_BASES` ranges, namely those with the most page changes.
     """
     numbers = [change.number for change in packets.changes]
     candidates = []
@@ -395,8 +390,7 @@ def choose_clock(base: TimeBase, fit: OriginFit,
                  lateness: Lateness | None) -> tuple[OriginFit, EarlyCues | None]:
     """Correct the estimated clock `fit` by the usual delay, or by `lateness` (the option --late).
 
-    Return the corrected clock and its early cues. The second value is `None` if no cue is early, or
-    if `lateness` is given.
+    Without `lateness`, also return the number of early cues, if any.
     """
     if not base.within or not fit.matches:
         return fit, None
@@ -424,10 +418,7 @@ def count_delays(base: TimeBase, fit: OriginFit) -> tuple[collections.Counter[in
 
 
 def find_usual_delay(begins: Mapping[int, int], ends: Mapping[int, int]) -> int:
-    """Return the shortest usual delay of in-cues or out-cues, or 0 if there is none.
-
-    `begins` and `ends` have the number of in-cues and of out-cues with each delay.
-    """
+    """Return the shortest usual delay of in-cues or out-cues, or 0 if there is none."""
     count = sum(begins.values()) + sum(ends.values())
     kinds = [kind for kind in (begins, ends) if kind and (
         kind is begins or sum(kind.values()) * FEW_ENDS >= count)]
@@ -481,8 +472,7 @@ class Drift(NamedTuple):
 def find_drift(cues: Sequence[ExpectedCue], changes: Mapping[int, MatchedChange]) -> Drift | None:
     """Return the drift of the delays, or `None` if they do not change steadily.
 
-    Only texts that are expected once and sent once are compared. The keys of `changes` are numbers
-    of frames since the first PTS.
+    Only texts that are expected once and sent once are compared.
     """
     due = find_single_texts((cue.frame, cue.letters) for cue in cues)
     sent = find_single_texts((at, change.letters) for at, change in changes.items())

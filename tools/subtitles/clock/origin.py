@@ -93,10 +93,7 @@ class OriginEstimate:
 
 def subtitles_between(path: str, option: str, between: Between,
                       left_out: Collection[int] = ()) -> list[ExpectedSubtitle]:
-    """Return the subtitles that begin in the range `between` and end on the same day.
-
-    Leave out the subtitles at the positions `left_out`.
-    """
+    """Return the subtitles that begin in the range `between` and end on the same day."""
     shown = []
     for place, stored in enumerate(read_until_damage(path, read_stl(path)), 1):
         begin, end = subtitle_times(stored)
@@ -296,8 +293,8 @@ def offset_text(ticks: int) -> str:
 def find_equal_origins(part: EstimatedPart) -> list[OriginFit]:
     """Return the origins that are as likely as the best origin of a part.
 
-    If its in-cues or out-cues have a constant delay, ignore nearby origins, and origins at which
-    only erasures match.
+    If in-cues and out-cues have different delays, ignore nearby origins and those at which only
+    erasures match.
     """
     best, cue_offset = part.best, part.time_base.find_cue_offset(part.best)
     ways = (True,) if best.matches >= LEAST_ROW else (True, False)

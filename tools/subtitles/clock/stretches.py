@@ -235,9 +235,7 @@ def select_other_origins(base: TimeBase, *starts: int) -> list[OriginFit]:
 def fit_part(subtitles: Sequence[ExpectedSubtitle], bases: Sequence[TimeBase],
              row: Sequence[Stretch],
              number: int, lateness: Lateness | None) -> EstimatedPart:
-    """Return the part for stretch `number` of the stretches `row`.
-
-    Leave out the page changes that match cues of the previous and the next stretch.
+    """Return the part for stretch `number`, without the page changes of the stretches next to it.
     """
     track, first, end = row[number]
     whole = bases[track.base]
@@ -382,8 +380,7 @@ def find_changes_by_time(bases: Sequence[TimeBase], count: int) -> dict[int, Pla
 def find_changes(base: TimeBase, number: int, start: int) -> dict[int, Place]:
     """Return the places of page changes at most the allowed delay after the cues.
 
-    The keys are the numbers of the cues. `number` is the number of the time base, and `start` the
-    assumed frame of its first PTS.
+    The keys are the numbers of the cues.
     """
     return {at: (number, place) for at, cue in enumerate(base.cues)
             for place in [next((place for place in range(

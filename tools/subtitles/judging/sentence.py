@@ -372,7 +372,7 @@ def describe_first_fault(seen: Facts) -> str:
 def describe_other_faults(seen: Facts) -> str:
     """Describe the faults whose number differs from that of the first fault.
 
-    Leave out faults that have a cause.
+    Leave out faults that may have a cause.
     """
     first = seen.first.number if seen.first else None
     others = [count for count in seen.counts

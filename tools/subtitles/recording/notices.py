@@ -91,7 +91,7 @@ def find_pmt_notices(survey: Survey, pid: int, request: Request) -> Iterator[Not
 
 
 def find_page_notices(page_announcements: list[Announced], request: Request) -> Iterator[Notice]:
-    """Yield warnings about a wrong page type or language in the PMT's announcements of the page."""
+    """Yield warnings if the PMT announces the page with another type, language or character set."""
     name = request.page_name
     if not any(announced.kind in SUBTITLE_KINDS for announced in page_announcements):
         kinds = " and ".join(dict.fromkeys(KINDS.get(announced.kind, "of an unknown kind")
