@@ -22,11 +22,11 @@ from ..common.times import EARLY_TICKS, TICKS, wrap_pts
 from ..stream.packets import HEADER, Packets, PageChange, Range, Texts
 
 VOTES = 1_000_000  # maximum number of pairs of a cue and a page change to compare
-REPEATED = 20  # maximum number of cues with the same text; the texts of more cues are not compared
+REPEATED = 20  # maximum number of cues with the same text, for the text to be compared
 TRIED = 64  # maximum number of origins to compare with all cues
 MAX_CUE_OFFSET = 50  # maximum difference between the delays of in-cues and out-cues, in frames
 MAX_BASES = 32  # maximum number of time bases to search
-MAX_ERASED = 5  # a text that is sent again within this number of frames was not erased
+MAX_ERASED = 5  # maximum number of frames without a text that are not treated as an erasure
 
 
 class ExpectedSubtitle(NamedTuple):

@@ -252,7 +252,7 @@ def run_check(command: list[str], output: CheckOutput,
     return output
 
 
-NO_PES = os.devnull  # stands for the PES file if only the subtitle file is checked
+NO_PES = os.devnull  # the PES file if only the subtitle file is checked
 
 
 def check_file_alone(request: Request, program: str, names: OutputNames) -> CheckOutput:

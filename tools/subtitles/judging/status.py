@@ -11,7 +11,7 @@ from ..request.lines import MAX_PROFILE_BYTES, decode_text
 
 
 ERROR, WARNING = "error", "warning"
-OTHERS = "others"  # stands for all numbers and names that the severity file does not list
+OTHERS = "others"  # means all numbers and names that the severity file does not list
 # The fault numbers of all commands
 FAULT_NUMBERS = {3, 4, *range(10, 26), *range(30, 41), 44, LOST_PACKETS, *range(50, 58),
                  *range(60, 75), *range(76, 80), 82}
