@@ -86,7 +86,7 @@ def make_case(name: str, number: int, packets: str, tested_packet: bytes = b"",
 
 
 def make_pair_at_day_bound(name: str, *ticks: int) -> OneRule:
-    """Return PES packets with a page without rows at these times. One time is outside the day."""
+    """Return a pair with a page without rows at these ticks, one of which is outside the day."""
     pes = b"".join(make_pes_packet(one % CLOCK, PAGE) for one in ticks)
     return OneRule(name, 61, NONE, pes, "--every 1")
 

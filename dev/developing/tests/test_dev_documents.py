@@ -333,7 +333,7 @@ def text_of(name: str) -> str:
 
 
 def text_of_sources() -> list[str]:
-    """Return the paths of the sources of all crates."""
+    """Return the paths of the source files of all crates."""
     crates = os.path.join(TOP, "crates")
     return [os.path.relpath(os.path.join(place, name), TOP)
             for crate in sorted(os.listdir(crates))

@@ -32,7 +32,7 @@ from .bench import Case, Done, example, is_python, import_script, tool_path
 from .parts import default_options
 
 
-# Each mode of tools/qc accepts its options and refuses all other options.
+# Test that each mode of tools/qc accepts its options and refuses all other options.
 
 CALLS: dict[Mode, list[str]] = {
     PAIR: ["a.stl", "a.ts"], ALONE: ["a.stl"], BATCH: ["--batch", "in"], WATCH: ["--watch", "in"],
@@ -209,7 +209,7 @@ class PartialCommandLines(unittest.TestCase):
                 self.assertRaises(argparse.ArgumentTypeError, taken, word)
 
 
-# With wrong arguments, tools print one line on standard error, return 2 and write no file.
+# Test that tools with wrong arguments print one line of error output, return 2 and write no file.
 
 STL, PES = example("hello.stl"), example("hello.pes")
 WRONG: dict[str, list[list[str]]] = {

@@ -33,7 +33,7 @@ from .results import (
     violations)
 
 
-# All results match the schema, and a file that does not match it is read as an unjudged pair.
+# Test that all results match the schema, and that other files are read as unjudged pairs.
 
 SEED, CHANGES = 20261128, 900
 STRANGE: list[Any] = [

@@ -245,7 +245,7 @@ class PaceOptions(Case):
             self.must(f"{one.pace}: of an earlier tool", not is_current(known, one, program))
 
 
-# Run tools/reading-list in a repository with two crates.
+# Test tools/reading-list in a repository with two crates.
 
 FILES = {
     "crates.txt": "# name: what it stands on\nlow:\nhigh: low\n",
