@@ -113,7 +113,6 @@ class Command(NamedTuple):
     written: bytes | None
 
     def with_output(self, path: str) -> Command:
-        """Return the same command with another output file."""
         return self._replace(program_args=[*self.program_args[:2], path], out=path)
 
 

@@ -108,7 +108,6 @@ class Multiplexer:
         return False
 
     def send(self, pes: int, data: bytes) -> None:
-        """Send a PES packet."""
         rng = self.rng
         self.send_other_packets(None)
         is_jump = self.announce_jump(pes)

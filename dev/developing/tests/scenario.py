@@ -36,7 +36,6 @@ class Written(NamedTuple):
     lines: Text
 
     def blocks(self) -> bytes:
-        """Return the TTI blocks of the subtitle."""
         return make_subtitle_blocks(self.number, self.begin, self.end, self.row, self.justify,
                                     (NEW_LINE * 2).join(self.lines))
 

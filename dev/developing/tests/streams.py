@@ -86,7 +86,6 @@ class Maker:
 
     @property
     def data(self) -> bytes:
-        """Return the bytes of all packets."""
         return b"".join(self.packets)
 
     def taken(self) -> list[bytes]:
@@ -328,7 +327,6 @@ def make_multiplex(pes: list[bytes], shape: Shape) -> list[Packet]:
 
 
 def stream_bytes(made: Iterable[Packet]) -> bytes:
-    """Return the bytes of TS packets."""
     return b"".join(one.data for one in made)
 
 

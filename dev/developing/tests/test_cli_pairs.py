@@ -25,7 +25,6 @@ TS = 188  # size of a TS packet in bytes
 
 
 def qc(case: Case, *words: str, data: bytes | None = None) -> Done:
-    """Run qc with the program under test."""
     return case.tool("qc", *words, "-p", case.bench.program, data=data)
 
 

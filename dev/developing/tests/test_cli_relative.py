@@ -127,7 +127,6 @@ class Clocks(Feeds):
                           and not some.has_clock], [])
 
     def object(self, path: str) -> dict[str, Any]:
-        """Read a JSON file."""
         known: dict[str, Any] = json.loads(self.read(path))
         return known
 

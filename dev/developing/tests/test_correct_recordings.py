@@ -55,7 +55,6 @@ class Recording(NamedTuple):
     words: Sequence[str]
 
     def judge(self, case: Case) -> JudgedPair:
-        """Write the recording, and judge it."""
         stl, path = self.made(case)
         return judge_files(case, stl, path, *self.words)
 

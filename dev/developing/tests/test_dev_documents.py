@@ -327,7 +327,6 @@ class Examples(Case):
 
 
 def text_of(name: str) -> str:
-    """Return the text of a file in the repository."""
     with open(os.path.join(TOP, name), encoding="utf-8") as file:
         return file.read()
 
@@ -342,7 +341,6 @@ def text_of_sources() -> list[str]:
 
 
 def implements_drop(text: str) -> bool:
-    """Return whether the text of a source implements Drop."""
     return DROP.search(COMMENT.sub(" ", text)) is not None
 
 

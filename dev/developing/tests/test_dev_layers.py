@@ -94,7 +94,6 @@ def newer_lines(text: str) -> list[int]:
 
 
 def long_lines(text: str) -> list[int]:
-    """Return the numbers of lines that are too long."""
     return [number for number, line in enumerate(text.split("\n"), 1) if len(line) > LONGEST_LINE]
 
 

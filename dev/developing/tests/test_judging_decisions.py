@@ -245,7 +245,6 @@ class EstimatedOrigins(Case):
 
 class DecodedPages(Case):
     def decode(self, data: bytes) -> Timeline:
-        """Decode a PES file, and return its timeline."""
         return decode_packets(self, data)
 
     def test_a_page_must_be_closed_before_its_tco(self) -> None:

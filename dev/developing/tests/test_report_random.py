@@ -161,7 +161,6 @@ class RandomPair:
 
 
 def run(*words: str) -> list[str]:
-    """Run the program, and return its output lines."""
     return subprocess.run([BENCH.program, *words], stdin=subprocess.DEVNULL, check=False,
                           stdout=subprocess.PIPE, text=True).stdout.splitlines()
 
