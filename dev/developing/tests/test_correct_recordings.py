@@ -149,7 +149,8 @@ DISTANCES: dict[str, Callable[[random.Random, int], list[int]]] = {
 def paced_sent(case: Case, name: str, count: int, each: int) -> tuple[str, Sent]:
     """Return a subtitle file and its transmission.
 
-    `each` PES packets are sent in each frame that the kind `name` selects.
+    `each` PES packets are sent in each frame with a page, and in each frame that the kind `name`
+    selects.
     """
     chance, times = random.Random(f"{name} {count}"), evenly(count)
     stl = write_programme(case, times)
@@ -173,9 +174,9 @@ def paced(name: str, count: int, each: int) -> Callable[[Case], tuple[str, str]]
 
 
 def paces() -> Iterator[Recording]:
-    """Yield recordings with one or two PES packets in each frame that has PES packets.
+    """Yield recordings with one or two PES packets per frame.
 
-    The kinds in DISTANCES differ in which frames have PES packets.
+    Each kind in DISTANCES selects the frames that have PES packets.
     """
     for kind, each, names in ((ONE_A_FRAME, 1, [*DISTANCES, "alone"]),
                               (TWO_A_FRAME, 2, [*DISTANCES])):

@@ -63,8 +63,8 @@ class Silences(unittest.TestCase):
                 lull = Silence(first, last, is_near)
                 self.assertEqual(select_idle_silences([lull], every, pauses),
                                  [lull] * (wanted or is_near), (first, last, pauses))
-        # An interval without PES packets is idle if it occurs in most of the pauses that are at
-        # least as long as its own pause.
+        # A silence at the end of a pause is idle if most pauses of this length end with a silence.
+        # Shorter pauses don't count.
         silence = Silence(begin + 400, end, False)
         of_others: list[tuple[list[int], bool]] = [
             ([], True), ([500], False), ([499], True), ([499, 499], True), ([500, 499], False),
