@@ -42,7 +42,7 @@ def find_first_difference(printed: list[str], expected: list[str]) -> str:
 
 
 class Trial:
-    """Runs the program, and compares its output. The program's files are in a folder."""
+    """Runs the program on files in `folder`, and compares its output."""
 
     def __init__(self, program: str, folder: str) -> None:
         self.program, self.folder = program, folder

@@ -186,7 +186,7 @@ class Stream:
                 teletext.note_pcr(jump)
 
     def compare(self, teletext: Teletext, pts: int) -> None:
-        """Print the distances from the programme's pictures and PCR to a PTS."""
+        """Print how far a PTS is ahead of the programme's pictures and PCR."""
         pcr, _ = self.pmt_entries[teletext.pid]
         if pcr == NO_PCR:
             return

@@ -53,7 +53,7 @@ class Video:
     def __init__(self, pid: int, say: Say, pmt_entries: dict[int, tuple[int, int]]) -> None:
         self.pid, self.say, self.pmt_entries = pid, say, pmt_entries
         self.stretch = Stretch(None)
-        self.header: bytes | None = None  # header of a picture whose PTS and DTS are unknown
+        self.header: bytes | None = None  # incomplete PES header of a picture
         self.is_flagged = False  # random_access_indicator was set before the next picture
         self.is_next_flagged = False  # random_access_indicator is set for the current picture
         self.count = self.passed = 0
