@@ -146,7 +146,7 @@ def read_pes_packets(file: Source) -> Iterator[bytes]:
         if len(unread) >= HEAD and not unread.startswith(START):
             raise Damaged(f"PES packet {count} does not begin with 00 00 01 BD")
     if unread:
-        raise Damaged(f"PES packet {count} is cut")
+        raise Damaged(f"PES packet {count} is incomplete")
 
 
 def has_pts(data: bytes) -> bool:

@@ -30,8 +30,8 @@ SENTENCES = {
     EARLY: r"appeared \d+ frames? early", LATE: r"appeared \d+ frames? late", MISSING: "was never "
                                                                                        "sent",
     CHARACTER: "has the wrong text", ROW: "is in the wrong place",
-    COLOUR: "has a wrong colour or attribute", STAYS: "is not erased",
-    ERASED: "is erased before its TCO"}
+    COLOUR: "has a wrong colour or attribute", STAYS: "was not erased",
+    ERASED: "was erased before its TCO"}
 
 
 class Inserter(NamedTuple):

@@ -98,7 +98,7 @@ class Lists(Case):
         for wrong in (4, 5, 10, 99):
             self.assertRaisesRegex(Stop, "has no pair", read_line_pair, path, wrong,
                                    default_options())
-        self.assertRaisesRegex(Stop, "is not a list", read_line_pair, self.folder, 1,
+        self.assertRaisesRegex(Stop, "--line needs a list, but ", read_line_pair, self.folder, 1,
                                default_options())
         with mock.patch("subtitles.request.lines.find_path_problem", return_value=None) as looked:
             read_line_pair(path, 8, default_options())
@@ -120,11 +120,11 @@ class Lists(Case):
         at = self.path("folder")
         self.must("items", [(item.name, item.reason) for item in items] == [
             ("B", None),
-            ("F", f"{at}/F.pes: no subtitle file has that name"), ("f", None),
-            ("G", f"{at}/G.stl: no recording has that name"), ("g", None),
-            ("c", f"{at}/c.stl, {at}/c.pes, {at}/c.ts: more than one pair has that name"),
-            ("d", f"{at}/d.m2t: no subtitle file has that name"),
-            ("e", f"{at}/e.stl: no recording has that name"), ("h%1B", None)],
+            ("F", f"{at}/F.pes: no subtitle file has the same name"), ("f", None),
+            ("G", f"{at}/G.stl: no recording has the same name"), ("g", None),
+            ("c", f"{at}/c.stl, {at}/c.pes, {at}/c.ts: more than one pair has this name"),
+            ("d", f"{at}/d.m2t: no subtitle file has the same name"),
+            ("e", f"{at}/e.stl: no recording has the same name"), ("h%1B", None)],
             [(item.name, item.reason) for item in items])
         self.must("files", [(item.request.stl, item.request.recording) for item in items
                             if item.request]

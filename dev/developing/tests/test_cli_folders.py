@@ -118,7 +118,7 @@ class HostileNames(Case):
         data = stream_with_video(example_bytes("story.pes"), teletext_descriptor(b"\x1b[2"))
         done = qc(self, STORY, self.write("one.ts", data), "--page", "801")
         reported = "\n".join(done.told)
-        self.must("not clear", done.status == 2 and "888 \\x1b[2 subtitles" in reported and
+        self.must("not clear", done.status == 2 and "888 (\\x1b[2, subtitles)" in reported and
                   not control_bytes(reported.replace("\n", "").encode()), done)
 
     def test_reports_a_folder_that_is_in_use(self) -> None:

@@ -115,7 +115,7 @@ class Cues(Case):
                 lines = [line for finding in found for line in finding.lines]
                 self.must(f"{begins} {ends}", "|".join(filter(None, (
                     finding.text for finding in found))) == wanted and any(
-                        f"within is {most} frames" in line for line in lines) == (
+                        f"within can be at most {most} frames" in line for line in lines) == (
                             most + 1 in (*begins, *ends)) and sum(
                                 "z" in line for line in lines) == len(some) - 1 and
                     "text never sent: y" in lines, found)
@@ -150,7 +150,7 @@ class Cues(Case):
         late = Delays(Counter({0: 89, 5: 1}), Counter({0: 90}), [], [], [(5, "x begins late")])
         found = [*propose_lateness([late], [])]
         self.check("one of 90", ("".join(one.text for one in found), found[0].lines[1]), (
-            "", "later than usual, which --within then refuses: x begins late"))
+            "", "later than usual, which check refuses with this --within: x begins late"))
         late = late._replace(begins=Counter({0: 19, 5: 1}))
         self.check("one of 20", next(propose_lateness([late], [])).lines[1:], [])
 
@@ -202,7 +202,7 @@ class Parts(Case):
 
 
 SEEDS = 20  # number of seeds in an automatic test run
-ACCEPTED = "# By this profile none of these recordings is refused."
+ACCEPTED = "# With this profile, qc refuses none of these recordings."
 
 
 class Profiles(Case):
@@ -230,7 +230,7 @@ class Profiles(Case):
         made = [Programme(self, 10 * seed + number, inserter)
                 for number in range(chance.choice((1, 2)))]
         lines, paths = self.profile(*made)
-        refused = [line for line in lines if " is not accepted: " in line]
+        refused = [line for line in lines if "# With this profile, qc does not accept " in line]
         name = f"{seed}, {inserter.name}"
         self.check(f"{name}: last line", lines[-1] == ACCEPTED, not refused)
         for one, path in zip(made, paths):
@@ -251,7 +251,7 @@ class Profiles(Case):
                          "--origin", "0", "-p", self.bench.program)
         self.check("one alone", [line.partition(" PTS ")[2] for line in done.out.decode(
             ).splitlines() if line.startswith("# within: 1 of ")],
-            ["are off their frames, which --within 0 refuses (61)"])
+            ["differ from their frames, which check refuses with --within 0 (fault 61)"])
 
     def test_names_an_unusual_delay_and_refuses_it(self) -> None:
         made = Programme(self, 7, Inserter("usual", begins=(0, 0, 1)), 40)
@@ -263,8 +263,7 @@ class Profiles(Case):
                    ["--within 1"])
         self.check("named", [name in line for line in lines if "later than usual" in line],
                    [True])
-        self.check("refused", "is not accepted: Refused: subtitle " in lines[-1] and name[:-4] in
-                   lines[-1], True)
+        self.check("refused", ": Refused: subtitle " in lines[-1] and name[:-4] in lines[-1], True)
 
     def test_decodes_by_the_option_that_it_proposes(self) -> None:
         stl = write_programme(self, subtitle_times(12))

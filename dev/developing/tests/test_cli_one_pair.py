@@ -42,7 +42,7 @@ REFUSED = ["refused 72 Content frame 00:00:01:00 row 1 column 2", "refused 68 Pa
 
 def gap(is_judged: bool, mark: int | None = None) -> Gap:
     """Return a gap in which three TS packets are lost."""
-    return Gap("00:00:01:00", "00:00:02:00", "3 TS packets lost",
+    return Gap("00:00:01:00", "00:00:02:00", "3 TS packets were lost",
                LossPlace(1, 2, 3, gap_marker=mark), is_judged)
 
 
@@ -93,15 +93,15 @@ class LastLines(Case):
         for count, more in ((1, None), (20, None), (21, "! and at 1 more place"),
                             (23, "! and at 3 more places")):
             said = self.said(self.verdict([make_part(0, 99, 0)], gaps=[gap(True)] * count))
-            place = "! between 00:00:01:00 and 00:00:02:00: 3 TS packets lost"
+            place = "! between 00:00:01:00 and 00:00:02:00: 3 TS packets were lost"
             self.must(f"{count}", said.count(place) == min(count, 20) and
                       (more in said if more else not any("more place" in one for one in said[:-2])),
                       said)
             self.must("not recorded", "! record that part again: the missing frames were not "
                                       "checked" in said, said)
         said = self.said(self.verdict([make_part(0, 99, 0)], gaps=[gap(False)]))
-        self.must("outside", said[0].endswith("3 TS packets lost, outside the judged range") and
-                  not any("record that part" in one for one in said), said)
+        self.must("outside", said[0].endswith("3 TS packets were lost, outside the judged range")
+                  and not any("record that part" in one for one in said), said)
         said = self.said(self.verdict([make_part(0, 99, 0)], "--allow-lost", gaps=[gap(True)]))
         self.must("allowed", not any("record that part" in one for one in said) and
                   said[-1].startswith("accepted"), said)
@@ -133,7 +133,7 @@ class LastLines(Case):
     def test_prints_why_a_pair_is_not_judged(self) -> None:
         said = self.said(self.verdict([], unjudged=Unjudged(
             "one\ntwo", ("first", "second", "third"))))
-        self.must("why", said == ["! one", "! two", "! type first", "! or second", "! or third"],
+        self.must("why", said == ["! one", "! two", "! try: first", "! or: second", "! or: third"],
                   said)
         rows: list[tuple[list[Part], str]] = [
             ([], "nothing was judged so far"),
@@ -417,10 +417,10 @@ class Pages(Case):
         verdict.gaps, verdict.warnings = [gap(True), gap(False)], [Notice("kind", "strange")]
         box = markup_text(report_page.make_verdict_box(verdict))
         self.must("box", box.startswith('<div class="verdict refused">') and verdict.sentence in
-                  box and box.count("3 TS packets lost") == 1 and "strange" in box, box)
+                  box and box.count("3 TS packets were lost") == 1 and "strange" in box, box)
         for verdict.gaps, count in ((verdict.gaps, 1), (verdict.gaps[:1], 0)):
             listed = "".join(report_page.list_unchecked(verdict))
-            self.must("outside", listed.count("3 TS packets lost, outside") == count, listed)
+            self.must("outside", listed.count("3 TS packets were lost, outside") == count, listed)
         scope = markup_text(report_page.scope_section(verdict))
         self.must("scope", "00:00:00:00 to 00:00:05:24, " in scope, scope)
         verdict.request = request_for("piped.stl", "one.pes")  # a pipe is judged by its stored copy

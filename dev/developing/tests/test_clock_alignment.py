@@ -301,8 +301,8 @@ class JudgedPairs(Case):
         for frames, words in ((3, ("accepted",)), (4, ("accepted",)),
                               (8, ("refused", "not judged")), (60, ("refused", "not judged"))):
             one = self.judge_drift(frames)
-            lines = [line for line in one.told if line.startswith("from 10:00:00:00 to 10:01:35:00 "
-                                                                  "subtitles come later and later")]
+            lines = [line for line in one.told if line.startswith(
+                "from 10:00:00:00 to 10:01:35:00, subtitles come later and later")]
             self.must(f"{frames}", one.word in words and len(lines) == 1 and
                       "another frame rate?" in lines[0], one.said)
 

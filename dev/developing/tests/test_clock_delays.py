@@ -55,12 +55,12 @@ class Delays(ProgrammeCase):
         self.must("made", done.status == 0, done)
         found = judge_files(self, STORY, self.write("cut.pes", self.read("all.pes")[1288:2024]),
                        "--origin", "0")
-        self.must("not late", "clock: it is --origin 0" in found.said and not any(
+        self.must("not late", "clock: the subtitles match --origin 0" in found.said and not any(
             "late" in line for line in found.said if not line.startswith("refused 74 Late")) and
             found.result["parts"][0]["clock"]["delay_frames"] in (0, None), found.said)
 
     def test_reports_from_which_time_subtitles_are_late(self) -> None:
-        line = f"from {time_of(self.due[10][0])} on subtitles are "
+        line = f"from {time_of(self.due[10][0])} on, subtitles are "
         at = self.due[10][0] * TICKS
         for by, words in ((250, "10.00 s (250 frames) late"), (130, "5.20 s (130 frames) late"),
                           (100, "4.00 s (100 frames) late"), (1, "0.04 s (1 frame) late")):
@@ -82,7 +82,7 @@ class Delays(ProgrammeCase):
         both = delayed(50, at, self.due[15][0] * TICKS - 1)(self.sent)
         self.must("on time again", self.judge(both).told == [
             line + "2.00 s (50 frames) late",
-            f"from {time_of(self.due[15][0])} on subtitles are on time"])
+            f"from {time_of(self.due[15][0])} on, subtitles are on time"])
         found = judge_files(self, self.stl, write_pipe(self, pes_file(self.sent)), *WORDS,
                             "--origin", "7200")
         self.must("a feed that is early", found.told[0] == "all subtitles are 2 frames early")
@@ -119,7 +119,7 @@ class Delays(ProgrammeCase):
                                                         found.result["parts"]] == sources)
             found = judge_files(self, stl, path, *WORDS)
             self.must(f"{second}: none is said", found.word == "refused" and
-                      ("where PTS go back" in found.told[0]) == (second < first), found.told)
+                      ("where the PTS go back" in found.told[0]) == (second < first), found.told)
 
     def test_each_printed_command_prints_the_same_answer(self) -> None:
         sent = [(pts + 3_000_000_000 * (pts < self.due[10][0] * TICKS), some)
@@ -191,8 +191,8 @@ class FirstPictures(Case):
                 data = with_pictures(pes, first, kind, leading=0 if kind == H_264 else 2).data
                 found = self.judge(data, "--start", STARTED)
                 self.must(f"{kind} {shift}", found.word == "accepted" and any(
-                    line.startswith(f"the first picture has PTS {first}, ") and
-                    "3 PES packets of video before it skipped" in line for line in found.said),
+                    line.startswith("the first picture (") and f"has PTS {first}; 3 earlier PES "
+                    "packets of video were skipped" in line for line in found.said),
                     found.said)
                 found = self.judge(data, "--start", time_of(BEGIN - EARLIER - 2))
                 clock = found.result["parts"][0]["clock"]
@@ -211,8 +211,8 @@ class FirstPictures(Case):
                  f"earlier than {ends}"),
                 (("--start", "23:00:00:00"), "--start 23:00:00:00 is 2 h 45 min 1 s later than "
                  f"{ends}"),
-                (("--origin", f"{90_000 * 3600}"), "with --origin 324000000 all subtitles are 1 h "
-                 "early: none is in the recording at its time")):
+                (("--origin", f"{90_000 * 3600}"), "with --origin 324000000, all subtitles would "
+                 "be 1 h early, so the recording contains none of them at its time")):
             found = self.judge(data, *words)
             self.must(f"{words}", found.word == "not judged" and found.told == [reported],
                       found.told)
@@ -242,7 +242,7 @@ class FirstPictures(Case):
             data = with_pictures(with_new_pts(pes, lambda _, pts: pts + ticks), FIRST_PTS).data
             found = self.judge(data, "--start", STARTED)
             self.must(f"{ticks}", found.word == "accepted" and any(line.endswith(
-                f"moved by {abs(ticks)} ticks {way} to the PTS of the Teletext")
+                f"shifted {way} by {abs(ticks)} ticks to fit the Teletext PTS")
                 for line in found.said), found.said)
 
     def test_is_not_judged_if_first_pictures_are_lost(self) -> None:
@@ -308,9 +308,10 @@ def compare_with_ffprobe(case: Case, name: str, stl: str, data: bytes, is_closed
     group = [int(row[0]) for row in packets_of[keys[0]:keys[1]]]
     first = min(group) if has_least else group[0]
     line = next((line for line in lines_of(done) if line.startswith("the first picture")), "")
-    case.must(f"{name}: its PTS", line.startswith(f"the first picture has PTS {first}, "),
+    case.must(f"{name}: its PTS", f" has PTS {first}" in line,
               (line, group, done.told))
-    case.must(f"{name}: passed over", f"; {keys[0]} PES packet" in line, (line, keys))
+    skipped = f"; {keys[0]} earlier PES packet" if keys[0] else ""
+    case.must(f"{name}: skipped", skipped in line, (line, keys))
     if is_closed:
         shown = [int(row[1]) for row in ffprobe_rows(case, path, "frame=key_frame,pts")
                  if row[0] == "1"]

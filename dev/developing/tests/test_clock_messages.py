@@ -53,44 +53,49 @@ class OriginLines(unittest.TestCase):
     def test_describes_a_part_by_its_best_origin(self) -> None:
         rows: list[tuple[Any, int, list[str]]] = [
             (self.part(9, 9, 9, others=[self.other(at, 9) for at in range(7)]), 20,
-             ["9 of 9 cues match, 9 with the expected text; the file has 20; next best: --origin 0 "
-              "with 9", "it is ambiguous: as good as --origin 9 are --origin 0, "
+             ["9 of 9 cues match, 9 with the expected text; the file has 20 cues; the next "
+              "best is --origin 0 with 9 cues", "the clock is ambiguous: --origin 9 is no better "
+              "than --origin 0, "
               "--origin 1, --origin 2, --origin 3, --origin 4 and 2 more"]),
             (self.part(4, 9, 4), 20,
-             ["4 of 9 cues match, 4 with the expected text; the file has 20; next best: "
-              "none", "fewer than half of the cues match with --origin 9: check that this is the "
-              "right subtitle file"]),
+             ["4 of 9 cues match, 4 with the expected text; the file has 20 cues; no other origin "
+              "matches a cue", "fewer than half of the cues match with --origin 9: check that this "
+              "is the right subtitle file"]),
             (self.part(9, 10, 9, within=3, delays=[0], early=EarlyCues(1, 30, 2),
                        first_unmatched=50),
-             20, ["9 of 10 cues match, 9 with the expected text; the file has 20; next best: "
-              "none", "no cue is late", "1 of 30 cues is up to 2 frames early compared with the "
-              "others", "the first cue without a match is at 00:00:02:00"]),
+             20, ["9 of 10 cues match, 9 with the expected text; the file has 20 cues; no other "
+                 "origin matches a cue", "no cue is late", "1 of 30 cues is up to 2 frames early "
+                 "compared with the other cues",
+                 "the first cue without a match is at 00:00:02:00"]),
             (self.part(8, 10, 8, within=3, delays=[0], early=EarlyCues(2, 10, 1)), 20,
-             ["8 of 10 cues match, 8 with the expected text; the file has 20; next best: "
-              "none", "no cue is late", "2 of 10 cues are up to 1 frame early compared with the "
-              "others: are these early, or is the inserter late for the others? Give --origin or "
-              "--start"])]
+             ["8 of 10 cues match, 8 with the expected text; the file has 20 cues; no other origin "
+              "matches a cue", "no cue is late", "2 of 10 cues are up to 1 frame early compared "
+              "with the other cues: either these cues are early, or the other cues are late. Give "
+              "--origin or --start"])]
         for count, words in ((5, ""), (6, " and 1 more")):
             rows.append((self.part(9, 9, 9, first_unmatched=0, others=[
                 self.other(at, 9) for at in range(count)]), 20, [
-                    "9 of 9 cues match, 9 with the expected text; the file has 20; next best: "
-                    "--origin 0 with 9", "it is ambiguous: as good as --origin 9 are "
+                    "9 of 9 cues match, 9 with the expected text; the file has 20 cues; the next "
+                    "best is --origin 0 with 9 cues", "the clock is ambiguous: --origin 9 is no "
+                    "better than "
                     f"--origin 0, --origin 1, --origin 2, --origin 3, --origin 4{words}",
                     "the first cue without a match is at 00:00:00:00"]))
         rows.append((self.part(3, 3, 3, within=3, delays=[2, 1, 3, 2]), 20, [
-            "3 of 3 cues match, 3 with the expected text; the file has 20; next best: none",
+            "3 of 3 cues match, 3 with the expected text; the file has 20 cues; no other origin "
+            "matches a cue",
             "cues are 1 to 3 frames late (median 2)"]))
         rows += [(self.part(9, 9, 9, exact_matches=9 - off), 9, [
-            "9 of 9 cues match, 9 with the expected text; this part has 20; next best: none",
-            f"{off} of them match only to the nearest frame: PTS that are not whole frames apart "
-            "are refused as 61"]) for off in (1, 9)]
+            "9 of 9 cues match, 9 with the expected text; this part has 20 cues; no other origin "
+            "matches a cue",
+            f"{off} of these cues match only to the nearest frame: check refuses PTS that are not "
+            "whole frames apart (fault 61)"]) for off in (1, 9)]
         for is_begin, matches, late, line in (
                 (True, 5, 2, "all in-cues are 2 frames late compared with the out-cues"),
                 (False, 4, -1, "4 of 5 out-cues are 1 frame early compared with the in-cues")):
             apart = SimpleNamespace(is_begin=is_begin, matches=matches, total=5, delay=late)
             rows.append((self.part(4, 9, 4, apart=apart), 20, [
-                "4 of 9 cues match, 4 with the expected text; the file has 20; next best: "
-                "none", line]))
+                "4 of 9 cues match, 4 with the expected text; the file has 20 cues; no other "
+                "origin matches a cue", line]))
         for part, count, lines in rows:
             self.assertEqual([*format_part(part, count, True)], lines, (part, count, lines))
             self.assertEqual([*format_part(part, count)], [
@@ -136,8 +141,8 @@ class OriginLines(unittest.TestCase):
                  cues) for at, cues in enumerate((20, 12, 6))], (origin, count))
             for line, is_there in (("3 parts: 35 of 38 cues match", True),
                                    ("19 of 20 cues match, 19 with the expected text; this part has "
-                                    "20; next best: none", True),
-                                   ("it is --origin 9", origin == 9),
+                                    "20 cues; no other origin matches a cue", True),
+                                   ("the subtitles match --origin 9", origin == 9),
                                    *((f"the subtitle from 00:00:0{at}:00 to 00:00:0{at + 2}:00 "
                                       "reaches into the next part, so it is in no part", True)
                                      for at in range(3))):
@@ -159,14 +164,16 @@ class OriginLines(unittest.TestCase):
     def test_compares_an_origin_with_a_given_one(self) -> None:
         rows: list[tuple[int | None, int, str]] = [
             (None, 0, ""), (None, TICKS - 1, ""), (None, 251 * TICKS, ""),
-            (None, 250 * TICKS, "250 frames late compared with --origin 0"),
-            (0, 0, "--origin 0"), (0, 9, "0 frames and 9 ticks late compared with --origin 0"),
-            (0, 251 * TICKS, "251 frames late compared with --origin 0"), (9, 9, "--origin 9")]
+            (None, 250 * TICKS, "compared with --origin 0, the subtitles are 250 frames late"),
+            (0, 0, "the subtitles match --origin 0"),
+            (0, 9, "compared with --origin 0, the subtitles are 0 frames and 9 ticks late"),
+            (0, 251 * TICKS, "compared with --origin 0, the subtitles are 251 frames late"),
+            (9, 9, "the subtitles match --origin 9")]
         for known, origin, words in rows:
             found, part = OriginEstimate(), self.part(20, 20, 20)
             part.origin = origin
             compare_with_known(found, known, part)
-            self.assertEqual(found.lines, [f"it is {words}"] * bool(words), (known, origin))
+            self.assertEqual(found.lines, [words] * bool(words), (known, origin))
             self.assertEqual(found.ticks_late, None if known is None else origin - known,
                              (known, origin))
 
@@ -176,13 +183,15 @@ class OriginLines(unittest.TestCase):
         marks, change = [GapMarker(2, None, 0, 0)], PageChange(0, b"", 0)
         rows: list[tuple[list[PacketRun], list[GapMarker], str, list[PageChange], list[str]]] = [
                 (runs[:1], [], "", [change], []),
-                (runs[:1], [], "is cut", [change], ["one: is cut; only what is before it is used"]),
-                (runs[:2], marks, "", [change], ["1 gap marker skipped: check refuses them as 45"]),
+                (runs[:1], [], "is cut", [change],
+                 ["one: is cut; only the PES packets before it are used"]),
+                (runs[:2], marks, "", [change],
+                 ["1 gap marker was skipped: check refuses gap markers (fault 45)"]),
                 (runs, marks, "is cut", [change], [
-                    "one: is cut; only what is before it is "
-                    "used", "1 gap marker skipped: check "
-                    "refuses them as 45", "1 of 4 PES packets have no PTS and are skipped "
-                    "here: check refuses them as 34"]),
+                    "one: is cut; only the PES packets before it are used",
+                    "1 gap marker was skipped: check refuses gap markers (fault 45)",
+                    "1 of 4 PES packets have no PTS and were skipped: check refuses them (fault "
+                    "34)"]),
                 (runs[:1], [], "", [], ["one has no header of page 888; other subtitle pages: 777, "
                                         "150"])]
         for several, some, damage, changes, printed in rows:
@@ -198,7 +207,7 @@ class OriginLines(unittest.TestCase):
         self.assertEqual(list(format_breaks(parts)), [
             "part 2 begins at 00:00:04:00, after a break of 00:00:01:00",
             "part 3 begins at 00:00:08:00, where the recording lacks 00:00:03:00",
-            "part 4 begins at 00:00:12:00, where PTS go back",
+            "part 4 begins at 00:00:12:00, where the PTS go back",
             "part 5 begins at 00:00:16:00, after a break of 00:00:00:00 and 7 ticks"])
         self.assertEqual(list(format_breaks(parts[:1])), [])
 
@@ -212,7 +221,7 @@ class OriginLines(unittest.TestCase):
                            ORIGIN)
 
     def test_reports_from_which_time_subtitles_are_late(self) -> None:
-        printed = "on subtitles are"
+        printed = "on, subtitles are"
         self.assertEqual(self.shift_texts(0, 25),
                          [f"from 00:01:00:00 {printed} 1.00 s (25 frames) late"])
         self.assertEqual(self.shift_texts(0, 26, 0), [
@@ -224,7 +233,7 @@ class OriginLines(unittest.TestCase):
             f"from 00:01:00:00 {printed} 60.00 s (1500 frames) early",
             f"from 00:02:00:00 {printed} 120.00 s (3000 frames) early"])
         self.assertEqual(self.shift_texts(0, 5, 1, bases=(0, 1, 1)), [
-            "from 00:01:00:00 on, where PTS go back, subtitles are 0.20 s (5 frames) late",
+            "from 00:01:00:00 on, where the PTS go back, subtitles are 0.20 s (5 frames) late",
             f"from 00:02:00:00 {printed} 0.04 s (1 frame) late"])
         for count, left in ((20, 0), (21, 1), (25, 5)):
             found = self.shift_texts(*((at * 7) % 5 * 30 for at in range(count + 1)))
@@ -276,7 +285,7 @@ class FirstPictures(unittest.TestCase):
         for kind in (0x01, H_264, HEVC):
             lines = [*programme_with((VIDEO, kind)), f"video {VIDEO} 0", f"picture {VIDEO} 9"]
             self.assertEqual(self.said(lines), FirstPicture(VIDEO, kind, 9, 0), kind)
-        self.assertIn("PTS 9, HEVC of PID 0x200; 1 PES packet of video before it skipped",
+        self.assertIn("(HEVC, PID 0x200) has PTS 9; 1 earlier PES packet of video was skipped",
                       FirstPicture(VIDEO, HEVC, 9, 1).line())
 
     def test_takes_all_pmts_into_account(self) -> None:
@@ -292,10 +301,10 @@ class FirstPictures(unittest.TestCase):
 
     def test_takes_the_clock_of_the_first_picture(self) -> None:
         rows: list[tuple[list[int], int, int | None, str]] = [
-            ([0], 0, 0, "matches"), ([1], 0, 1, "moved by 1 tick forward"),
+            ([0], 0, 0, "fits"), ([1], 0, 1, "shifted forward by 1 tick "),
             ([1799], 0, 1799, "forward"), ([1800], 0, None, ""), ([1801], 0, -1799, "back"),
-            ([3599], 0, -1, "moved by 1 tick back"), ([1800, 1800, 5], 0, None, ""),
-            ([1800, 1800, 5], 1, 5, "moved by 5 ticks forward")]
+            ([3599], 0, -1, "shifted back by 1 tick "), ([1800, 1800, 5], 0, None, ""),
+            ([1800, 1800, 5], 1, 5, "shifted forward by 5 ticks")]
         for shift, (several, within, moved, words) in itertools.product((0, CLOCK - 3), rows):
             lines = [*programme_with((VIDEO, MPEG_2)), f"video {VIDEO} 0",
                      f"picture {VIDEO} {shift}"]
@@ -318,7 +327,7 @@ class FirstPictures(unittest.TestCase):
         self.assertEqual(compute_start_clock(request, surveyed(lines),
                                              packets).clock.picture_offset, -1)
         self.assertEqual(largest_offset_text(180),
-                         "PTS are up to 180 ticks (2.00 ms) off their frames")
+                         "PTS differ from their frames by up to 180 ticks (2.00 ms)")
         for source, evidence in itertools.product((RECORDING, GIVEN, START, TCP), (
                 None, Selection(ORIGIN_CHOICE, "8", "words"))):
             chosen = (evidence or Selection(ORIGIN_CHOICE, "7", ESTIMATED_NOTE))._replace(part=2)
@@ -331,13 +340,13 @@ class FirstPictures(unittest.TestCase):
 
     def test_takes_the_first_picture_of_a_closed_or_open_group(self) -> None:
         flagged, least = (CLOCK - 5 + TICKS * 2) % CLOCK, CLOCK - 5
-        begin = ", MPEG-2 of PID 0x200; 3 PES packets of video before it skipped"
+        skipped = "; 3 earlier PES packets of video were skipped"
         for frames, form, first, other, away, more in (
-                (GROUP, "closed", least, flagged, 2, "; the one with the random_access_indicator "
-                 f"has PTS {flagged}, 2 frames later"),
-                (GROUP, "open", flagged, least, -2, "; pictures of its group before it, from PTS "
+                (GROUP, "closed", least, flagged, 2, "; the picture with the "
+                 f"random_access_indicator has PTS {flagged}, 2 frames later"),
+                (GROUP, "open", flagged, least, -2, "; earlier pictures of its group, from PTS "
                  f"{least} on (2 frames), can't be decoded"),
-                (GROUP, "unknown", flagged, least, -2, "; pictures of its group before it, from "
+                (GROUP, "unknown", flagged, least, -2, "; earlier pictures of its group, from "
                  f"PTS {least} on (2 frames), can't be decoded"),
                 ([0, 1, 2], "open", least, None, 0, ""), ([0, 2, 1], "closed", least, None, 0, "")):
             lines = picture_lines(frames)
@@ -345,7 +354,8 @@ class FirstPictures(unittest.TestCase):
             self.assertEqual(found, FirstPicture(VIDEO, MPEG_2, first, 3, other), (frames, form))
             assert isinstance(found, FirstPicture)
             self.assertEqual((found.picture_offset, found.line()), (
-                away, f"the first picture has PTS {first}{begin}{more}"), (frames, form, first))
+                away, f"the first picture (MPEG-2, PID 0x200) has PTS {first}{skipped}{more}"),
+                (frames, form, first))
 
     def test_asks_about_a_delay_as_long_as_to_another_picture(self) -> None:
         for away, delay, words in (

@@ -78,13 +78,13 @@ class Origins(Case):
         rows: list[tuple[list[bytes], list[str], str]] = [
             (pes, ["--pes", f"{last}-{last}"], "no cue matches at any origin"),
             ([b"\0\0\1\xbd\0\5abcde"], [], "none of 1 PES packet in one.pes has a PTS: check "
-             "refuses them as 34"),
-            ([], [], "none of 0 PES packets in one.pes has a PTS: check refuses them as 34")]
+             "refuses them (fault 34)"),
+            ([], [], "none of 0 PES packets in one.pes has a PTS: check refuses them (fault 34)")]
         for some, words, line in rows:
             found = self.find(self.own_stl(), some, *words)
             self.must(line, (found.status, found.lines) == (1, [line]), found)
         for data in (pes[0][:-1], b"\0\0\1\xbd"):
-            with self.assertRaisesRegex(Stop, "^one.pes: PES packet 0 is cut$"):
+            with self.assertRaisesRegex(Stop, "^one.pes: PES packet 0 is incomplete$"):
                 self.find(self.own_stl(), [data])
         with self.assertRaisesRegex(Stop, "has no subtitle that begins and ends within a day$"):
             subtitles_between(self.own_stl(), "english", ALL_DAY, range(COUNT + 1))
@@ -160,8 +160,8 @@ class Origins(Case):
         own = [(100 * at, 100 * at + 20 + 5 * at, b"Text %c" % (65 + at)) for at in range(12)]
         rows: list[tuple[list[Shown], int, list[Shown], int, list[str],
                          str]] = [
-            ([one], 0, [other], 100, [], "as good as --origin 0 are --origin 360000"),
-            (own[6:], 0, own[:6], 2000, [], "as good as --origin 7200000 are --origin 0"),
+            ([one], 0, [other], 100, [], "--origin 0 is no better than --origin 360000"),
+            (own[6:], 0, own[:6], 2000, [], "--origin 7200000 is no better than --origin 0"),
             (own[6:], 1000, own[:6], 950, ["--pes 12-23 --origin 3420000"], "12 of 12 cues")]
         for some, by, later, by_too, printed, line in rows:
             pes = [pes for times, frames in ((some, by), (later, by_too)) for pes in schedule_pes(
@@ -238,8 +238,8 @@ class Origins(Case):
                                  (12, 12, True))
         whole = self.find(self.own_stl(), self.transmission(5000))
         self.assertTrue(whole.has_all_cues and not whole.shift_texts and whole.first_shift is None)
-        self.assertIn("subtitles expected from 11:06:40:00 to 11:07:12:10, page received from "
-                      "11:06:40:00 to 11:07:12:10", whole.lines)
+        self.assertIn("subtitles are expected from 11:06:40:00 to 11:07:12:10; the page was "
+                      "received from 11:06:40:00 to 11:07:12:10", whole.lines)
 
     def test_accepts_ends_with_the_same_delay(self) -> None:
         for late, has_all_cues in (([3] * COUNT, True), ([3] * 6 + [9] * 6, False),
@@ -277,9 +277,9 @@ class Origins(Case):
         rows: list[tuple[str, list[bytes], bool, list[str]]] = [
                 ("good", good, True, []),
                 ("bare", [bare, bare], False, ["none of 2 PES packets in a.pes has a PTS: "]),
-                ("marks", [*good, GAP_MARKER], True, ["1 gap marker skipped"]),
+                ("marks", [*good, GAP_MARKER], True, ["1 gap marker was skipped"]),
                 ("some", [*good, GAP_MARKER, bare, GAP_MARKER], True, [
-                    "2 gap markers skipped", "1 of 6 PES packets have no PTS "]),
+                    "2 gap markers were skipped", "1 of 6 PES packets have no PTS "]),
                 ("another page", other, False, ["a.pes has no header of page 888; other subtitle "
                                                 "pages: 887"]),
                 ("other pages", [make_pes_packet(number, [make_packet(0, 0, [

@@ -142,7 +142,7 @@ class OriginProperties(unittest.TestCase):
             one = find_origin(shown, packets_of(sendings), within)
             origins = [part.origin for part in one.parts]
             self.assertTrue(origins == [least] or any(
-                "early compared with the others" in line for line in one.lines), one.lines)
+                "early compared with the other cues" in line for line in one.lines), one.lines)
 
     def test_accepts_the_second_field_as_in_time(self) -> None:
         for chance, shown, cues, origin in self.each():

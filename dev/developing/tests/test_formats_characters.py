@@ -112,13 +112,13 @@ class NationalOptions(unittest.TestCase):
 class Advice(unittest.TestCase):
     def test_names_the_options_that_have_a_character(self) -> None:
         for text, words in (
-                ("C265", "é is in --option swedish, italian, french, spanish, czech"),
-                ("24", "$ is in --option english, german, italian, spanish"),
-                ("C24F", "Ó is in no option"), ("F9", "ø is in no option"),
+                ("C265", "--option swedish, italian, french, spanish and czech have é, but not"),
+                ("24", "--option english, german, italian and spanish have $, but not"),
+                ("C24F", "no option has Ó: "), ("F9", "no option has ø: "),
                 ("C2", "byte C2 is not a character"), ("FF", "byte FF is not a character")):
             self.assertTrue(advise_on_character(bytes.fromhex(text), []).startswith(words), text)
         self.assertEqual(advise_on_character(b"\xc2e", [FRENCH, SPANISH]),
-                         "--option french, spanish have all characters of the file")
+                         "use --option french or spanish, which have all characters of the file")
 
     def test_a_diacritical_mark_includes_the_next_letter(self) -> None:
         for text, at, letter in ((b"a\xc2eb", 1, b"\xc2e"), (b"a\xc2", 1, b"\xc2"),
@@ -379,7 +379,8 @@ class Warnings(Case):
         check_warnings(self, "a file", done, ["character_set"])
         done = qc(self, STORY, "-", "--origin", "0", "--strict", data=data)
         self.must("strict, a feed", done.status == 1 and lines_of(done)[-1].startswith(
-            "not accepted, since --strict counts warnings (character_set): accepted"), done)
+            "not accepted, since --strict treats warnings as faults (character_set): accepted"),
+            done)
 
 
 class Languages(unittest.TestCase):

@@ -53,9 +53,9 @@ class SenderFaults(ProgrammeCase):
             reported = self.with_pages((frame, wrong))
             words = f"another text was sent in a pause, at {time}"
             self.must(f"{frame}", self.causes(reported) == [
-                ("another text in a pause", number, f'{words}, received: "Others"')] and
+                ("another text in a pause", number, f'{words}; received "Others"')] and
                 reported.verdict.sentence == f'Refused: {words}: "Others".' and
-                reported.lines("cause: ") == [f'{words}, received: "Others"'], reported.said)
+                reported.lines("cause: ") == [f'{words}; received "Others"'], reported.said)
         reported = self.with_pages((60, wrong), (270, wrong))
         self.must("two",
                   reported.verdict.sentence == "Refused: another text was sent in 2 pauses, the "
@@ -94,8 +94,8 @@ class SenderFaults(ProgrammeCase):
             judged = self.with_pages((frame, ()))
             self.must(f"{frame}", self.causes(judged) == [(
                 "erased", frame // 100 + 1, f"erased: by a header without rows, at {time}")] and
-                "is erased before its TCO (by a header without rows, at" in judged.verdict.sentence,
-                judged.said)
+                "was erased before its TCO (by a header without rows, at" in
+                judged.verdict.sentence, judged.said)
         sent = self.sent
         at = next(number for number, (pts, _) in enumerate(sent) if pts == (BEGIN + 25) * TICKS)
         pts, packets = sent[at]
@@ -426,10 +426,10 @@ class WorkedRows(unittest.TestCase):
                 (LATE, 3, "a", None, "", "late by 3 frames"),
                 (EARLY, 1, None, None, "why", "early by 1 frame: why"),
                 (NOT_ERASED, None, "a", None, "", "not erased at 00:00:06:00"),
-                (WRONG_TEXT, None, "z", None, "why", f'wrong text: why, received: "{strange}"'),
+                (WRONG_TEXT, None, "z", None, "why", f'wrong text: why; received "{strange}"'),
                 (NEVER, None, None, None, "", "never sent"),
                 (OTHER_TEXT, None, "c", 2, "",
-                 f"another subtitle's text at its time, received: \"{other}\" of subtitle 3 (SN "
+                 f"another subtitle's text at its time; received \"{other}\" of subtitle 3 (SN "
                  "8)")):
             one = Cause(0, name, frames, None if sent is None else page_of(sent), of, words, 0)
             known = wording.make_json(one)

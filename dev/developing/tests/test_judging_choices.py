@@ -30,13 +30,15 @@ from .test_judging_reasons import KEEPING_HEADER
 
 TS = example("story.stl"), example("recording.ts")
 PES = example("story.stl"), example("story.pes")
-RECORDING_PID = "PID 0x101: page 888 has a header in 7 of 7 PES packets, and on no other PID"
-AGREE = "clock: 5 of 5 cues match, 5 with the expected text; the file has 5; next best: "
-ORIGIN_OF_TS = "origin", "5000000000", 5, 5, 1, f"{AGREE}--origin 1678370000 with 2"
+RECORDING_PID = "PID 0x101: 7 of 7 PES packets have a header of page 888; no other PID sends the " \
+    "page"
+AGREE = "clock: 5 of 5 cues match, 5 with the expected text; the file has 5 cues; "
+ORIGIN_OF_TS = "origin", "5000000000", 5, 5, 1, \
+    f"{AGREE}the next best is --origin 1678370000 with 2 cues"
 CUT = "pes", "2-6", 5, 7, 1, "range: 5 of 7 PES packets, from 20:15:00:00 to 20:15:09:00"
 PID = "pid", "0x101", 7, 7, None, RECORDING_PID
-PACE = "pace", None, None, None, 1, "not checked for losses on this PID alone: its PES packets " \
-    "are too few to measure their interval"
+PACE = "pace", None, None, None, 1, "not checked for losses that only this PID would show: " \
+    "there are too few PES packets to measure their interval"
 # Arguments, and the expected choices: option, value, matches, total, part, printed line.
 ROWS: list[tuple[Sequence[str], list[tuple[Any, ...]]]] = [
     (TS, [PID, ORIGIN_OF_TS, CUT, PACE]),
@@ -94,8 +96,8 @@ class Choices(Case):
         found = judge_files(self, stl, path, "--origin", "0")
         pace = [one for one in choices_of(found) if one[0] == "pace"]
         self.must("asked", pace == [
-            ("pace", "1", pace[0][3], pace[0][3], 1, "pace: at most 1 frame from one PES packet to "
-             "the next: --pace 1")] and pace[0][3] > 5_000, found.said)
+            ("pace", "1", pace[0][3], pace[0][3], 1, "pace: PES packets are at most 1 frame "
+             "apart: --pace 1")] and pace[0][3] > 5_000, found.said)
         made = make_multiplex([make_pes_packet(pts + TICKS * 250, some) for pts, some in every
                                if some or pts // TICKS % 60 < 25], Shape(100))
         path = self.write("one.ts", stream_bytes(made))
@@ -258,8 +260,8 @@ class Profiles(Case):
         for some in itertools.permutations(several):
             found = propose_every(some)
             self.must(f"{some}", (found.text, *found.lines) == (
-                "--every 50", "every: at most 50 frames from one header of the page to the next, "
-                "first from 00:00:00:07 on, in 20 headers; 26 are usual"), found)
+                "--every 50", "every: 20 headers of the page, at most 50 frames apart (26 are "
+                "usual), first from 00:00:00:07 on"), found)
 
     def test_a_measured_profile_accepts_its_recording(self) -> None:
         stl = self.write_stl("one.stl")
@@ -298,7 +300,7 @@ class Profiles(Case):
             pes = self.write(f"{name}.pes", pes_file(sorted(moved, key=lambda one: one[0])))
             lines = self.profile(stl, pes, "--origin", "0")
             counts = f"# within, late: in-cues {wanted[0]}; out-cues {wanted[1]} (frames " \
-                     "late:how many)"
+                     "late:number of cues)"
             self.must(name, counts in lines, lines)
             bound = [line for line in lines if line.startswith(("--within", "--late"))]
             self.must(f"{name}: proposed", bound == wanted[2], bound)

@@ -56,17 +56,17 @@ class Descriptions(Case):
                 ([cause(0, NEVER, None, "why")],
                  'subtitle 1 at 00:00:00:00, \"text\", was never sent (why)'),
                 ([cause(0, WRONG_TEXT), cause(1, NEVER)],
-                 'subtitle 2 at 00:00:01:00, \"text\", was never sent; other causes: 1 wrong text'),
+                 'subtitle 2 at 00:00:01:00, \"text\", was never sent; other causes: wrong text'),
                 ([cause(0, WRONG_TEXT), cause(1, NEVER), cause(3, NEVER)],
                  "2 of 9 subtitles were never sent (first at 00:00:01:00, last at 00:00:03:00); "
-                 "other causes: 1 wrong text"),
+                 "other causes: wrong text"),
                 ([cause(0, LATE, 2), cause(1, LATE, 1), cause(3, WRONG_TEXT), cause(5, WRONG_PLACE),
                   cause(6, WRONG_TEXT), cause(8, WRONG_ATTRIBUTE)],
                  "2 of 9 subtitles have the wrong text (first at 00:00:03:00, last at "
-                 "00:00:06:00); other causes: 1 wrong place, 2 late, 1 wrong colour or attribute"),
+                 "00:00:06:00); other causes: wrong place, late (2), wrong colour or attribute"),
                 ([cause(0, OTHER_TEXT), cause(1, OTHER_TEXT), cause(2, NEVER)],
-                 'subtitle 3 at 00:00:02:00, \"text\", was never sent; other causes: 2 another '
-                 'subtitle\'s text'),
+                 'subtitle 3 at 00:00:02:00, \"text\", was never sent; other causes: another '
+                 'subtitle\'s text (2)'),
                 ([cause(0,
                         WRONG_TEXT)._replace(sent_page=(b" " * 40,) * 23 + (b"texts".ljust(40),))],
                  'subtitle 1 at 00:00:00:00 has the wrong text: expected "text", received "texts"'),
@@ -77,7 +77,8 @@ class Descriptions(Case):
                  "2 of 9 subtitles appeared 7 frames late (first at 00:00:04:00, last at "
                  "00:00:08:00)"),
                 ([cause(0, NOT_ERASED, None, "a"), cause(1, NOT_ERASED, None, "a")],
-                 "2 of 9 subtitles are not erased (a) (first at 00:00:00:00, last at 00:00:01:00)"),
+                 "2 of 9 subtitles were not erased (a) (first at 00:00:00:00, last at "
+                 "00:00:01:00)"),
                 ([cause(0, UNKNOWN_CAUSE, None, "a"), cause(1, UNKNOWN_CAUSE, None, "b")],
                  "2 of 9 subtitles are not as expected (first at 00:00:00:00, last at "
                  "00:00:01:00)"),

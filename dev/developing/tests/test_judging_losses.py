@@ -71,15 +71,15 @@ class HiddenPages(ProgrammeCase):
                       judged.result["line"] == "refused 79 Silent frame 10:00:12:00"
                       and "--pace none" not in judged.verdict.sentence, judged.said)
             self.must(f"{count}: said", judged.lines("pace: ") == [
-                "at most 1 frame from one PES packet to the next: --pace 1"])
+                "PES packets are at most 1 frame apart: --pace 1"])
 
     def test_notes_an_undetectable_loss_in_a_file(self) -> None:
         sent = self.with_wrong(50)
         each_other = [one for at, one in enumerate(sent) if at % 2 == 0 or at == PLACE + 1]
         judged = self.judge(each_other)
         self.must("closer",
-                  judged.parts("pace") == [(2,)] and "not checked for a missing PES packet "
-                  "at 1 place where PES packets are closer together" in
+                  judged.parts("pace") == [(2,)] and "not checked for a missing PES "
+                  "packet, at 1 place where PES packets are closer together" in
                   judged.result["notes"], judged.said)
 
     def test_notes_an_undetectable_loss_between_repeat_and_cue(self) -> None:
@@ -103,8 +103,8 @@ class HiddenPages(ProgrammeCase):
         whole = self.judge_stream(made)
         self.must("it is wrong", whole.word == "refused" and whole.result["losses"] == [],
                   whole.said)
-        line = "between 10:00:11:24 and 10:00:12:01: an unusually long interval with an " \
-            "announced jump of the counter"
+        line = "between 10:00:11:24 and 10:00:12:01: the interval between PES packets is " \
+            "unusually long, and the stream announces a jump of the counter"
         for words, word in (((), "lost"), (("--pace", "none"), "lost"),
                             (("--allow-lost",), "accepted")):
             judged = self.judge_stream(lost(made, 3, True), *words)
@@ -130,7 +130,7 @@ class HiddenPages(ProgrammeCase):
         sent = [one for at, one in enumerate(self.with_wrong()) if at % 12 == 0 or one[1]]
         sent = [one for one in sent if one[0] // TICKS < BEGIN + 600]
         place = [pts // TICKS for pts, _ in sent].index(AT)
-        note = "not checked for missing PES packets: those of this file are too few to measure " \
+        note = "not checked for missing PES packets: there are too few PES packets to measure " \
             "their interval"
         for some, word in ((sent, "refused"), (sent[:place] + sent[place + 1:], "accepted")):
             judged = self.judge(some, "--to", "10:00:18:00")
@@ -139,8 +139,8 @@ class HiddenPages(ProgrammeCase):
                       and judged.parts("pace") == [(None,)], judged.said)
         made = make_multiplex([large(make_pes_packet(pts, some), 4) for pts, some in sent],
                               Shape(100))
-        note = "not checked for losses of 1.4 s or more on this PID alone: its PES packets are " \
-            "too few to measure their interval"
+        note = "not checked for losses of 1.4 s or more that only this PID would show: there are " \
+            "too few PES packets to measure their interval"
         for count, is_announced, word in ((0, False, "refused"), (16, False, "accepted"),
                                           (4, True, "lost")):
             judged = self.judge_stream(lost(made, count, is_announced) if count else made, "--to",
@@ -154,8 +154,8 @@ class HiddenPages(ProgrammeCase):
         frame = sent[wrong - 1][0] // TICKS + 1  # between two PES packets
         sent[wrong:wrong + 1] = [(frame * TICKS, WRONG), (AT * TICKS, [])]
         made = self.multiplexed(sent, 0, 1 << 20, 3)
-        note = "not checked for losses on PID 0x101 at 1 place where a jump of its counter is " \
-            "announced"
+        note = "not checked for losses on PID 0x101 at 1 place where the stream announces a " \
+            "jump of the counter"
         for words in ((), ("--pace", "3"), ("--pace", "none")):
             whole = self.judge_stream(made, *words)
             judged = self.judge_stream(lost(made, 3, True, frame), *words)
@@ -178,5 +178,5 @@ class Taken(unittest.TestCase):
         for frames, words in ((None, "losses"), (0, "losses"), (2, "losses"),
                               (3, "losses of 0.1 s or more"),
                               (25, "losses of 1.0 s or more")):
-            self.assertIn(f"{UNCHECKED} {words} on this PID", describe_unchecked_losses(
+            self.assertIn(f"{UNCHECKED} {words} that only this PID", describe_unchecked_losses(
                 Pace(IRREGULAR), frames, recording), frames)

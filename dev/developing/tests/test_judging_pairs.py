@@ -24,7 +24,7 @@ from .transmissions import (
 from .test_judging_verdicts import verdict_of
 
 STORY, HELLO, ACCENT = example("story.stl"), example("hello.stl"), example("accent.stl")
-UNREAD = "nothing of the recording was read, and --severity makes all faults warnings"
+UNREAD = "none of the recording was read, and --severity makes all faults warnings"
 EVERY = ["--every", "40"]  # frames; allows the loss of two page transmissions
 BITS = {33: (6, 0xC0), 34: (7, 0x80), 35: (8, 1), 36: (13, 1), 37: (DATA - 1, 0x30),
         38: (DATA + UNIT + 1, 1), 39: (DATA + UNIT + 3, 1), 40: (DATA + UNIT + 2, 0x0F)}
@@ -190,8 +190,8 @@ class Sentences(ProgrammeCase):
              "frame to the last."),
             (self.sent, ["--within", "2"], "Accepted: all 20 subtitles have the right text "
              "within 2 frames."),
-            (self.sent, ["--strict"], "Not accepted: --strict counts warnings (repeat); everything "
-             "that was received is right."),
+            (self.sent, ["--strict"], "Not accepted: --strict treats warnings as faults "
+             "(repeat); everything that was received is right."),
             (missing, ["--every", "49"],
              "Refused: from 00:00:13:24 on the page had no header for up "
              "to 50 frames (25 are usual)."),
@@ -228,7 +228,7 @@ class Sentences(ProgrammeCase):
                 (one["name"], one["expected_text"], one["decoded_text"], one["other_number"],
                  one["other_position"], one["line"]) for one in causes] == [
                 ("another subtitle's text", "Number 52", text, number + 49, number,
-                 f"another subtitle's text at its time, received: \"{text}\" of subtitle {number} "
+                 f"another subtitle's text at its time; received \"{text}\" of subtitle {number} "
                  f"(SN {number + 49})")] and
                 found.result["cause_counts"]["another subtitle's text"] == 1 and
                 "1 subtitle: 1 another subtitle's text" in found.lines("causes of faults in "),
@@ -242,8 +242,8 @@ class Sentences(ProgrammeCase):
         pes[broken_at] = broken(pes[broken_at], 37)
         found = judge_files(self, self.stl, self.write("one.pes", b"".join(pes)), "--origin", "0")
         self.must("can't be read", [one["name"] for one in found.result["causes"]] == ["unknown"]
-                  and "not everything that was sent then can be "
-                      "read" in "".join(found.said), found.said)
+                  and "some of the PES packets at that time cannot "
+                      "be read" in "".join(found.said), found.said)
         back = [((1 << 33) - at * TICKS, early[0][1]) for at in (200, 150, 100, 50)]
         found = self.judge([*back, *delay_subtitle(3, 4)(self.sent)])
         self.must("of another clock", found.lines("cause: ") == [
@@ -268,7 +268,7 @@ class Sentences(ProgrammeCase):
             found = judge_files(self, self.stl, path, *words.split())
             self.must(f"{words}", found.word == word and found.parts("origin", "pes") ==
                       [(origin, pes)] * (origin is not None), found.said)
-            typed = [line for line in found.told if line.startswith(("type ", "or "))]
+            typed = [line for line in found.told if line.startswith(("try: ", "or: "))]
             self.must(f"{words}: as before", words[:5] == "--pes" or
                       all(words in line for line in typed), found.said)
             self.must(f"{words}: to type", words[:5] == "--pes" or [
@@ -287,8 +287,8 @@ class Sentences(ProgrammeCase):
                       and found.result["notes"][-1].endswith(FEW), found.result["notes"])
 
     def test_gives_hints_for_the_first_faults(self) -> None:
-        whole = "--option swedish, italian, french, spanish, czech have all characters of the " \
-                "file"
+        whole = "use --option swedish, italian, french, spanish or czech, which have all " \
+            "characters of the file"
         found = judge_files(self, ACCENT)
         self.must("list", "1 faults" in found.said, found.said)
         self.must("letter", found.result["hints"] == [f"50: {whole}"] and found.said[-3::2] == [
@@ -300,7 +300,7 @@ class Sentences(ProgrammeCase):
         found = judge_files(self, write_programme(self, subtitle_times(1), text=b"\xa35"),
                             "--option", "german")
         self.must("by the option", found.result["hints"][0].startswith(
-            "50: --option english, ") and [
+            "50: use --option english or ") and [
                 (one["text_offset"], one["byte"]) for one in found.result["faults"]] == [(0, "A3")],
                   found.result)
         data = bytearray(example_bytes("hello.pes"))

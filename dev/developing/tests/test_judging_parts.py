@@ -133,7 +133,7 @@ class SeveralParts(ProgrammeCase):
 
     def test_sums_up_the_delays_of_all_parts(self) -> None:
         found = self.judge_parts((1000, 3000), {10: 2, 19: 4}, "--within", "1")
-        self.must("refused", "subtitles are complete after 0 to 4 frames (median 0)" in
+        self.must("refused", "subtitles were complete 0 to 4 frames after their TCI (median 0)" in
                   found.said[-5:], found.said)
         found = self.judge_parts((1000, 3000), {10: 2, 19: 4}, "--within", "4")
         self.must("accepted", found.word == "accepted")
@@ -194,7 +194,7 @@ class SeveralParts(ProgrammeCase):
         data = self.write("one.pes", pes_file(with_pauses(self.sent, 1000, 3000)))
         found = judge_files(self, self.stl, data, "--breaks", "1")
         self.must("one of two", found.word == "not judged" and not any(
-            one.startswith("type ") for one in found.told), found.said)
+            one.startswith("try: ") for one in found.told), found.said)
         whole = self.write("one.pes", pes_file(self.sent))
         for count, word in (("1", "not judged"), ("0", "accepted")):
             self.must(count, judge_files(self, self.stl, whole, "--breaks", count).word == word)
@@ -248,7 +248,7 @@ class Tolerances(ProgrammeCase):
             found = self.judge(some, "--origin", str(ORIGIN))
             self.must(f"{name}: refused", found.word == "refused", found.said)
             self.must(f"{name}: hint", name != "jitter" or found.result["hints"] == [
-                "61: PTS are up to 448 ticks (4.98 ms) off their frames"], found.said)
+                "61: PTS differ from their frames by up to 448 ticks (4.98 ms)"], found.said)
             for words in (["--page", "888"], ["--origin", str(ORIGIN)]):
                 found = self.judge(some, "--within", str(least), *words)
                 spread = found.result["complete_after"]

@@ -41,7 +41,7 @@ class OffFramePts(ProgrammeCase):
             found = self.judge(sent, "--every", "25")
             sentence = found.verdict.sentence
             self.check(f"{name}: leads", sentence.startswith("Refused: from PES packet ") and
-                       f" on PTS are up to {words} off their frames" in sentence, True)
+                       f" on PTS differ from their frames by up to {words}" in sentence, True)
             self.check(f"{name}: advice", [word for word in ADVICE if word in "".join(
                 [sentence, *found.result["hints"]])], [])
             self.check(f"{name}: within 1", self.judge(

@@ -88,7 +88,7 @@ class Reasons(ProgrammeCase):
             found = judge_files(self, self.stl, recording)
             self.must(recording, found.word == "not judged" and found.verdict.sentence ==
                       f"Not judged: {recording} has no header of page 888; {words}." and
-                      not any("type " in line for line in found.told), found.told)
+                      not any("try: " in line for line in found.told), found.told)
 
     def test_reports_the_length_of_pes_headers(self) -> None:
         for length in (0, 5, 14, 0x23, 0x25, 36 + 184):
@@ -125,8 +125,8 @@ class Reasons(ProgrammeCase):
                           "open" in found.verdict.sentence, found.said)
             reason = judge_files(self, self.stl, path, *WORDS).verdict.sentence
             self.must(f"{name}: first", reason.startswith(
-                "Not judged: the clock is not clear: rows came while page 888 was not open, in "),
-                reason)
+                "Not judged: the clock cannot be estimated: rows came while page 888 was not open, "
+                "in "), reason)
 
     def test_reports_alternating_sub_pages(self) -> None:
         alternate = [one for pts, some in all_changed(self.sent, 2, 15, 1) for one in (
@@ -165,10 +165,11 @@ class Reasons(ProgrammeCase):
                         name="long.stl")
         made = make_multiplex(schedule_pes(self, stl, "--every", "1"), Shape(4000, 1800))
         for count, lost, words in (
-                (2, 2, "2 TS packets lost"), (16, 0, "TS packets of 0.64 s are missing by the PCR "
-                                              "and the counters of other PIDs"),
-                (50, 2, "TS packets of 2.00 s are missing by the PCR; the counter shows 2 of "
-                 "them")):
+                (2, 2, "2 TS packets were lost"),
+                (16, 0, "0.64 s of TS packets are missing according to the PCR and the counters of "
+                 "other PIDs"),
+                (50, 2, "2.00 s of TS packets are missing according to the PCR (the counter shows "
+                 "2 TS packets)")):
             path = self.write("one.ts", stream_bytes(delete_between(made, 200, count)))
             found = judge_files(self, stl, path, "--origin", "0")
             self.must(f"{count}", [one["lost_ts_packets"] for one in
@@ -190,8 +191,8 @@ class Reasons(ProgrammeCase):
             one.pcr_steps = clocked
             self.assertEqual(find_loss_places(one), [wanted], clocked)
         self.assertEqual(describe_loss(LossPlace(1, 2, 3, 4, 9000)),
-                         "TS packets of 0.10 s are missing by "
-                         "the PCR; the counter shows 3 of them, 4 TS packets scrambled")
+                         "0.10 s of TS packets are missing according to the PCR (the counter shows "
+                         "3 TS packets), 4 TS packets were scrambled")
 
 
 NUMBERS = bytes([8, 8, 0, 8, 0, 8, 1, 0])  # values in HEADER: page, subcode, control bits

@@ -83,7 +83,7 @@ class Recordings(Case):
             strict = judge_files(self, stl, path, "--origin", "0", "--strict")
             self.must(f"{descriptor!r} {ahead}: strict", strict.word == (
                 "warned" if kinds else "accepted") and (not kinds or strict.said[-1].startswith(
-                    "not accepted, since --strict counts warnings "
+                    "not accepted, since --strict treats warnings as faults "
                     f"({', '.join(kinds)}): ")), strict.said)
 
     def test_handles_truncated_files(self) -> None:
@@ -98,7 +98,7 @@ class Recordings(Case):
                 found.said)
         cut = self.write("cut.stl", example_bytes("story.stl")[:-128])
         self.must("counts", judge_files(self, cut, "--strict").said[-1].startswith(
-            "not accepted, since --strict counts warnings (blocks, subtitles): "))
+            "not accepted, since --strict treats warnings as faults (blocks, subtitles): "))
 
     def test_judges_a_pipe_in_parts(self) -> None:
         stl = write_programme(self, subtitle_times(24))
@@ -135,7 +135,7 @@ class Recordings(Case):
         pes = example_bytes("story.pes")
         whole = stream_of_pids((TELETEXT_PID, pes))
         junk = whole[:188 * 20] + b"x" * 40 + whole[188 * 20:]
-        skipped, cut = " outside of TS packets skipped", "the recording was read up to this point"
+        skipped, cut = " outside TS packets were skipped", "the recording was read up to this point"
         for data, size, count in ((whole, 188, ""), (with_packet_size(whole, 192), 192, ""),
                                   (with_packet_size(whole, 204), 204, ""), (junk, 188, "40 bytes")):
             for recording in (self.write("one.ts", data), write_pipe(self, data)):
@@ -166,7 +166,8 @@ class Recordings(Case):
              ["--pid 0x101"]),
             ([STORY, one, "--pid", "0x300"], "PID 0x300 has no packets", ["--pid 0x101"]),
             ([other, self.path("own.pes")], "fewer than half", ["--origin T"]),
-            ([STORY, one, "--origin", "900000000"], "none is in the recording at its time", []),
+            ([STORY, one, "--origin", "900000000"],
+             "so the recording contains none of them at its time", []),
             ([STORY, STORY], "is a subtitle file", []), ([STORY, "none.ts"], "No such file", []),
             (["none.stl", one], "none.stl does not exist or is not a file", []),
             (["--", "-none.stl", one], "-none.stl does not exist or is not a file", []),
@@ -180,7 +181,7 @@ class Recordings(Case):
         for words, why, to_type in rows:
             found = judge_files(self, *words)
             typed = [one.split(" ", 4)[-1] for one in found.told
-                     if one.startswith(("type ", "or "))]
+                     if one.startswith(("try: ", "or: "))]
             self.must(f"{words}", found.word == "not judged" and why in "".join(found.told) and
                       not found.told[0].startswith("./") and
                       typed == to_type, found.told)

@@ -40,7 +40,8 @@ from .test_judging_reasons import KEEPING_HEADER
 from .test_judging_verdicts import verdict_of
 
 BAD = b"\xe6: no letter"
-CURE = "replace it (at level 1 it needs another region, or packets X/26, which are refused as 70)"
+CURE = "replace it (at level 1 it needs another region, or packets X/26, which check refuses " \
+    "with fault 70)"
 WORDS = "--origin", "0", "--every", "100"
 PAGE = 0, 0x88
 
@@ -75,8 +76,8 @@ class RefusedSubtitles(Case):
         return judge_files(self, stl, *words, *WORDS)
 
     def test_counts_judged_and_names_refused_subtitles(self) -> None:
-        first = "subtitle 3 at 00:00:12:00 is refused by 50 Character (\u0132): \u0132 is in no " \
-            f"option: {CURE}"
+        first = "subtitle 3 at 00:00:12:00 has fault 50 Character (\u0132): no option has " \
+            f"\u0132: {CURE}"
         slow = self.write("slow.pes", pes_file(delayed(5, 3600 * 600, 3600 * 650)(self.sent)))
         for pes, end in ((self.pes, "all have the right text from the first frame to the last"),
                          (slow, 'subtitle 6 at 00:00:24:00, "Number 6", appeared 5 frames late')):
@@ -86,12 +87,12 @@ class RefusedSubtitles(Case):
                       found.verdict.sentence)
             self.must(f"{pes}: line", found.said[-1] == "refused 50 Character block 3 at 0" and
                       found.verdict.status == 1 and found.lines("undecided: ") == [
-                          first.replace(" is refused", ", up to 00:00:14:10, is refused", 1)],
+                          first.replace(" has fault", ", until 00:00:14:10, has fault", 1)],
                       found.said)
             self.must(f"{pes}: list", found.listed[0] == found.said[-1] and
                       "refused 78 Undecided frame 00:00:10:10" in found.listed, found.listed)
-        for bad, words, more in (((3, 5), "2 of 10 subtitles are refused, subtitle 3 at ", ""),
-                                 (range(2, 6), "4 of 10 subtitles are refused, ", " and 1 more; 6"),
+        for bad, words, more in (((3, 5), "2 of 10 subtitles are refused: subtitle 3 at ", ""),
+                                 (range(2, 6), "4 of 10 subtitles are refused: ", " and 1 more; 6"),
                                  (range(2, 9), "7 of 10 subtitles are ", " and 4 more; 3 other")):
             printed = self.judge(self.write_stl(*bad), self.pes).verdict.sentence
             self.must(f"{bad}", words in printed and more in printed and (" more; " in printed) ==
@@ -305,7 +306,7 @@ class ExpectedPages(unittest.TestCase):
             if count < 2:
                 continue
             printed = found.describe()
-            self.assertTrue(printed.startswith(f"{count} of {count + 2} subtitles are refused, "),
+            self.assertTrue(printed.startswith(f"{count} of {count + 2} subtitles are refused: "),
                             count)
             self.assertEqual([at for at in range(1, count + 1) if f" (letter {at})" in printed],
                              [*range(1, min(count, 3) + 1)], count)

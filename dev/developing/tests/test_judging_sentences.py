@@ -69,11 +69,12 @@ class Sentences(unittest.TestCase):
                 (Facts(LOST, 2, faults=1, named="pictures", lost=["a"]),
                  "Not accepted: a; all faults that were found are declared as warnings."),
                 (Facts(WARNED, 1, refused="one", warnings=["page"]), "Not accepted: --strict "
-                 "counts warnings (page); all faults that were found are declared as warnings."),
+                 "treats warnings as faults (page); all faults that were found are declared as "
+                 "warnings."),
                 (Facts(WAIVED, 2, first=fault, faults=1, hint="no header"), "Waived, since these "
                  "faults are declared as warnings: from 10:00:00:00 on no header."),
                 (Facts(WARNED, 2, warnings=["page", "page", "pause"]), "Not accepted: --strict "
-                 "counts warnings (page, pause); everything that was received is right."),
+                 "treats warnings as faults (page, pause); everything that was received is right."),
                 (Facts(REFUSED, 1234,
                        first=parse_fault_line("refused 72 Content frame 10:00:00:00"),
                        faults=2, delay=50,
@@ -92,8 +93,9 @@ class Sentences(unittest.TestCase):
                  "file's own clock, or `tcp`) or --origin PTS."),
                 (Facts(RELATIVE, 2, within=1), "All 2 subtitles match relative to each other "
                  f"within 1 frame. No clock was given, so a delay that they all share {ADD}."),
-                (Facts(RELATIVE, 6, parts=2), "All 6 subtitles match relative to the others of "
-                 f"their part. No clock was given, so a delay that all of a part share {ADD}."),
+                (Facts(RELATIVE, 6, parts=2), "All 6 subtitles match relative to the others in "
+                 "their part. No clock was given, so a delay that all subtitles in a part share "
+                 f"{ADD}."),
                 (Facts(RELATIVE, 1), "The subtitle has the right text and length. No clock was "
                  f"given, so its delay {ADD}."),
                 (Facts(RELATIVE, 2, first=fault, faults=1, hint="no header"), "Waived, since "
@@ -204,17 +206,17 @@ class RecordingEnds(ProgrammeCase):
             ("all are early, none is cut off", -2, whole, [],
              "all 10 subtitles appeared 2 frames early"),
             ("the first one is cut off", 0, (110, 1060), [
-                "63: 1 of 10 subtitles was not recorded completely; --from 00:00:08:00 judges "
-                "the others"], "the recording begins after the first TCI"),
+                "63: 1 of 10 subtitles was not recorded completely; use --from 00:00:08:00 to "
+                "judge the others"], "the recording begins after the first TCI"),
             ("all are late, the first one is cut off", 2, (110, 1060), [
-                "63: 1 of 10 subtitles was not recorded completely; --from 00:00:08:00 judges "
-                "the others"], "all 10 subtitles appeared 2 frames late"),
+                "63: 1 of 10 subtitles was not recorded completely; use --from 00:00:08:00 to "
+                "judge the others"], "all 10 subtitles appeared 2 frames late"),
             ("the last one is cut off", 0, (100, 1050), [
-                "74: 1 of 10 subtitles was not recorded completely; --to 00:00:38:11 judges the "
-                "others"], "the recording ends before the last TCO"),
+                "74: 1 of 10 subtitles was not recorded completely; use --to 00:00:38:11 to judge "
+                "the others"], "the recording ends before the last TCO"),
             ("the ninth one ends in the last frame", 0, (100, 960), [
-                "74: 1 of 10 subtitles was not recorded completely; --to 00:00:38:11 judges the "
-                "others"], "")]
+                "74: 1 of 10 subtitles was not recorded completely; use --to 00:00:38:11 to judge "
+                "the others"], "")]
         for name, frames, (first, last), hints, sentence in rows:
             sent = [(pts, some) for pts, some in self.sent
                     if first * TICKS <= pts <= last * TICKS]
@@ -304,7 +306,7 @@ class EmptyRanges(ProgrammeCase):
                 judged = self.judge(self.sent[:7], "--pes", pes, *words)
                 path = self.path("one.pes")
                 printed = f"{path} has 7 PES packets, 0-6: --pes {pes} is outside " \
-                       "of them"
+                    "this range"
                 self.must(f"{pes} {words}", (printed in judged.told) == is_none and
                           (judged.word == "not judged") >= is_none, judged.told)
 

@@ -125,9 +125,12 @@ class Notices(Case):
             ([[other], [own]], ""), ([[own], [other]], ""), ([[own, other]], ""),
             ([[]], "announces no page on PID 0x101, so receivers do not find page 888"),
             ([[], []], "announces no page on PID 0x101, so receivers do not find page 888"),
-            ([[other]], "announces 150 ger subtitles for the hard of hearing, but not page 888"),
-            ([[other], [other]], "150 ger subtitles for the hard of hearing, but not page 888"),
-            ([[Announced((0, 0x89), "eng", 2)]], "announces 889 eng subtitles, but not page 888")]
+            ([[other]],
+             "announces page 150 (ger, subtitles for the hard of hearing), but not page 888"),
+            ([[other], [other]],
+             "page 150 (ger, subtitles for the hard of hearing), but not page 888"),
+            ([[Announced((0, 0x89), "eng", 2)]],
+             "announces page 889 (eng, subtitles), but not page 888")]
         for pages, words in of_pages:
             listing: Any = SimpleNamespace(programmes_of=lambda pid: [
                 SimpleNamespace(pages={0x101: some, 0x102: [other]}) for some in pages])
@@ -433,12 +436,12 @@ class PageDifferences(Case):
             None, found[2], found[2], None, found[6], found[6], None])
         self.assertEqual([*file.list_subtitles()], [found[2], found[6]])
         advice = OptionAdvice(file, "english")
-        self.assertTrue(advice.advise(5, 4).startswith("ø is in no option"))
+        self.assertTrue(advice.advise(5, 4).startswith("no option has ø: "))
         self.assertEqual((advice.advise(5, 6), advice.complete_options), ("", []))
         german = SubtitleFile(self.write("two.stl", make_gsi_block(b"", 1, 1) + make_tti_block(
             1, 25, 50, 20, 2, b"\xc8a")))
         self.assertEqual(OptionAdvice(german, "english").advise(1, 0),
-                         "--option german, swedish have all characters of the file")
+                         "use --option german or swedish, which have all characters of the file")
 
 
 class RepeatIntervals(unittest.TestCase):

@@ -73,7 +73,7 @@ class Verdicts(Case):
         relative = "relative 10 frames 2 transmissions"
         good, content, first = "accepted 10 frames 2 transmissions", REFUSED[0], OTHER[0]
         has = "; the profile has --allow-lost and --severity"
-        warned, of_loss = "not accepted, since --strict counts warnings (pause, page)", \
+        warned, of_loss = "not accepted, since --strict treats warnings as faults (pause, page)", \
             "not accepted, since TS packets are lost"
         rows: list[tuple[str, dict[str, Any], str, str | None, str | None]] = [
             ("a", {}, "accepted", good, good),
@@ -93,8 +93,8 @@ class Verdicts(Case):
             ("a", strict, "warned", f"{warned}: {good}", None),
             ("r", {**strict, "is_mild": True}, "warned", f"{warned}: waived: {content}", None),
             ("af", {}, "accepted", "accepted 20 frames 4 transmissions in 2 parts", None),
-            ("af", {**strict, "warnings": []}, "warned", "not accepted, since --strict counts "
-             "warnings (estimated): accepted 20 frames 4 transmissions in 2 parts", None),
+            ("af", {**strict, "warnings": []}, "warned", "not accepted, since --strict treats "
+             "warnings as faults (estimated): accepted 20 frames 4 transmissions in 2 parts", None),
             ("f", untimed, "relative", relative, relative),
             ("f", {}, "relative", relative, relative),
             ("ff", untimed, "relative", "relative 20 frames 4 transmissions in 2 parts", None),
@@ -215,7 +215,7 @@ class Verdicts(Case):
                 part = dataclasses.replace(part, pes=(0, 0))
                 found, = make_gaps([place], [part])
                 self.must(f"{words} {origin}",
-                          found.format_line() == f"{words}: 3 TS packets lost" and
+                          found.format_line() == f"{words}: 3 TS packets were lost" and
                           found.is_judged and found.place is place, found)
 
     def test_trusts_no_frame_of_a_loss(self) -> None:

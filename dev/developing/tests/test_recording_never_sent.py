@@ -200,13 +200,13 @@ class JudgedStreams(ProgrammeCase):
                 fault["number"], fault["name"], fault["meaning"]) == (None, "never sent", words)
                   and told.verdict.sentence == f"Refused: {words}." and known["parts"] == []
                   and known["subtitle_counts"] is None and known["inputs"]["recording"]["sha256"]
-                  and any("announced 888" in line for line in told.said), told.said)
+                  and any("announces page 888" in line for line in told.said), told.said)
 
     def test_refuses_a_page_that_comes_on_another_pid(self) -> None:
         judged = self.judge_plan([(0, OLD)], self.on_old, "--every", "25")
         self.must("sent", judged.word == "accepted")
-        words = "page 888 is announced on PID 0x111, but never sent (no TS packet of PID 0x111); " \
-            "PID 0x101 has it"
+        words = "page 888 is announced on PID 0x111, but was never sent (PID 0x111 has no TS " \
+            "packet); PID 0x101 has it"
         self.check_never_sent("announced elsewhere", self.judge_plan([(0, NEW)], self.on_old),
                               words)
         half = len(self.pes) // 2
@@ -219,7 +219,7 @@ class JudgedStreams(ProgrammeCase):
             self.must(name, judged.word == "accepted", judged.said)
 
     def test_refuses_a_page_that_never_comes_while_it_is_expected(self) -> None:
-        words = "page 888 is announced on PID 0x111, but never sent"
+        words = "page 888 is announced on PID 0x111, but was never sent"
         rows: list[tuple[str, int | None, list[str], bool]] = [
                 ("all", None, [], True), ("a third", len(self.pes) // 3, [], False),
                 ("a third, by the clock", len(self.pes) // 3, ["--origin", "0"], True),
@@ -239,7 +239,7 @@ class JudgedStreams(ProgrammeCase):
         judged = self.judge_stream(made.data)
         self.must("asked", judged.word == "not judged" and judged.told[0].endswith(
             "but sent only on PID 0x101, not on PID 0x111") and [
-                line.split()[-1] for line in judged.told if line.startswith(("type ", "or "))] == [
+                line.split()[-1] for line in judged.told if line.startswith(("try: ", "or: "))] == [
                     "0x101", "0x111"], judged.said)
 
     def test_reports_a_refused_subtitle_first(self) -> None:
@@ -250,7 +250,8 @@ class JudgedStreams(ProgrammeCase):
         self.must("refused", judged.verdict.line == "refused 50 Character block 3 at 7" and
                   {one["number"] for one in judged.result["faults"]} == {50, None} and
                   judged.told[0].startswith("the other subtitles were not judged: page 888 is "
-                                          "announced on PID 0x111, but never sent "), judged.said)
+                                          "announced on PID 0x111, but was never sent "),
+                  judged.said)
 
     def test_is_not_judged_if_the_fault_is_waived(self) -> None:
         path = self.write("severity", b"never sent warning\n")
@@ -261,7 +262,7 @@ class JudgedStreams(ProgrammeCase):
         out = self.path("out")
         self.judge_plan([(0, NEW)], self.bare, "-o", out)
         page = self.read("out/one.html").decode()
-        self.must("report", "is announced on PID 0x111, but never sent" in page and
+        self.must("report", "is announced on PID 0x111, but was never sent" in page and
                   json.loads(self.read("out/one.json"))["status"] == 1, page[:2000])
 
 

@@ -140,8 +140,8 @@ class Messages(Case):
             one.print_losses()
             wanted = [["is damaged"] * bool(damage), [
                 *["refused 31 Start"] * bool(refusal),
-                *["40 bytes outside of TS packets"] * bool(skipped),
-                *["1 TS packet lost"] * marks] * bool(size)]
+                *["40 bytes outside TS packets"] * bool(skipped),
+                *["1 TS packet was lost"] * marks] * bool(size)]
             self.check_lines(one.listener.lines, [*wanted[0], *wanted[1]])
 
     def test_warns_of_a_cut_and_of_damage(self) -> None:

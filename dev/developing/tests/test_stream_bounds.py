@@ -110,7 +110,7 @@ class Silences(unittest.TestCase):
                 min(count, MAX_LISTED), [f"and at {more + 1} more places"] * (more > 0)), count)
             times = f"PTS {SECOND} and {SECOND + 2 * TICKS} (00:00:00:00 and 00:00:00:02 after " \
                 "the first)"
-            self.assertEqual(found[:1], [f"between {times}: 1 TS packet lost"][:count], count)
+            self.assertEqual(found[:1], [f"between {times}: 1 TS packet was lost"][:count], count)
 
 
 class FirstPictures(unittest.TestCase):

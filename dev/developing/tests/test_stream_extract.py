@@ -65,7 +65,7 @@ class ConvertedStreams(Case):
         data = example_bytes("story.pes")
         first = packets(data)[0]
         for name, pes, count, line in (
-                ("cut", data[:-1], 4, "PES packet 4 is cut"),
+                ("cut", data[:-1], 4, "PES packet 4 is incomplete"),
                 ("another start", data[:368] + b"\1" + data, 1,
                  "PES packet 1 does not begin with 00 00 01 BD"),
                 ("no PTS", first + data[:7] + b"\0" + data[8:], 1,

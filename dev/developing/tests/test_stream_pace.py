@@ -304,10 +304,10 @@ def without_pid(made: list[Packet], first: int, count: int) -> list[Packet]:
     return [one for at, one in enumerate(made) if at not in missing]
 
 
-UNSEEN = "not checked for losses of {} s or more on this PID alone: its PES packets "
-IRREGULAR_NOTE = UNSEEN.format("0.6") + "come at irregular intervals"
-PACE_LINE = "at most 1 frame from one PES packet to the next, at least 3 after a loss of 16 TS " \
-    "packets: --pace 2"
+UNSEEN = "not checked for losses of {} s or more that only this PID would show: "
+IRREGULAR_NOTE = UNSEEN.format("0.6") + "the PES packets come at irregular intervals"
+PACE_LINE = "PES packets are at most 1 frame apart, or at least 3 after a loss of 16 TS packets: " \
+    "--pace 2"
 
 
 class Losses(ProgrammeCase):
@@ -357,13 +357,13 @@ class Losses(ProgrammeCase):
         none: list[bytes] = []
         both = [one for pts, some in sent for one in ((pts, some), (pts + TICKS // 2, none))]
         made = self.multiplexed(both, 400)
-        note = "not checked for losses of up to 0.08 s on this PID alone at "
+        note = "not checked for losses of up to 0.08 s that only this PID would show, at "
         for count in (0, 16, 32, 48, 160):
             judged = self.judge_stream(without_pid(made, 1320, count), "--within", "1")
             self.must(f"{count}", judged.word == ("refused" if count else "accepted") and bool(
                 count) == ("refused 79 Silent frame 10:00:26:11" in judged.listed), judged.listed)
-            self.must(f"{count}: said", judged.lines("pace: ") == ["at most 1 frame from one PES "
-                      "packet to the next, and three may come in that time: --pace 2"] and sum(
+            self.must(f"{count}: said", judged.lines("pace: ") == ["PES packets are at most 1 "
+                      "frame apart, and three may come in that time: --pace 2"] and sum(
                           line.startswith(note) for line in judged.told) == 1, judged.said)
         without_one = [one for at, one in enumerate(both) if at // 2 not in (510, 610)]
         judged = self.judge_stream(self.multiplexed(without_one, 400), "--within", "1")
@@ -423,7 +423,8 @@ class Losses(ProgrammeCase):
                     "refused 73 Gap frame 10:00:40:04" in judged.listed), judged.listed)
 
     def test_notes_that_no_pace_exists_for_a_pausing_inserter(self) -> None:
-        for count, note in ((4, UNSEEN.format("0.6") + "pause for up to 1701 frames"),
+        for count, note in ((4, UNSEEN.format("0.6") + "there is no PES packet for up to 1701 "
+                             "frames"),
                             (6, IRREGULAR_NOTE)):
             times = [(BEGIN + 2000 * at, BEGIN + 2000 * at + 200) for at in range(count)]
             sent = filled(schedule_pages(self, write_programme(self, times), every=25))

@@ -152,15 +152,15 @@ class DepartureFaults(Case):
         faults, notes = find_desync(survey_with(lines_of(steps, origin)), PID, TimedPart(
             1000, 2000, Clock(origin, source)), within, 1)
         self.check("kinds", {(one.name, one.part) for one in faults} - {(PICTURES_LEFT, 1)}, set())
-        return [(one.time, one.until, one.text.partition(" on subtitles are ")[2].partition(
+        return [(one.time, one.until, one.text.partition(" on, subtitles are ")[2].partition(
             " for viewers")[0]) for one in faults], notes
 
     def test_reports_departures_as_early_or_late(self) -> None:
         middle, end = "00:01:00:00", "00:01:19:24"
-        unclear = f"{NOT_CHECKED} at 1 place where its decoding times jump: the multiplexer's " \
-            "delay varies, pictures are lost too, or it is within a second of the programme's " \
-            "beginning or end"
-        allowed = f"from {middle} on subtitles are 2 frames late for viewers: the video's " \
+        unclear = f"{NOT_CHECKED} at 1 place where the video's decoding times jump: the " \
+            "multiplexer's delay varies, pictures are lost too, or the place is within a second " \
+            "of the programme's beginning or end"
+        allowed = f"from {middle} on, subtitles are 2 frames late for viewers: the video's " \
             "timestamps jump, as --within 2 allows"
         rows: dict[str, tuple[list[tuple[float, int]], int, list[tuple[str, str, str]],
                               list[str]]] = {
@@ -203,7 +203,7 @@ class DepartureFaults(Case):
         lines = [line for line in lines_of([(by + 0.5, at) for by, at in steps])]
         for name, survey, wanted in (
                 ("at random", survey_with(lines),
-                 [f"{NOT_CHECKED}: the decoding times of the video have no usual step"]),
+                 [f"{NOT_CHECKED}: the video's decoding times have no usual step"]),
                 ("no line", Survey(), [])):
             found = find_desync(survey, PID, TimedPart(1000, 2000, Clock(0, GIVEN)), 0, 1)
             self.check(name, found, ([], wanted))
@@ -222,7 +222,7 @@ class Pairs(Case):
             made = Programme({TELETEXT_PID: pes}, TICKS * begin, later=[(1500, TICKS * frames)])
             path = self.write("one.ts", multiplex_programmes([made], end - begin).data)
             found = judge_files(self, stl, path, "--origin", "0", *words)
-            line = f" on subtitles are {way} for viewers: the video's timestamps jump"
+            line = f" on, subtitles are {way} for viewers: the video's timestamps jump"
             self.must(f"{frames} {words}", found.word == word and (not way or any(
                 line in one for one in found.said)), found.said)
             several = [time_of(begin + 1500 + frame) for frame in range(-25, 26)]  # within a second

@@ -67,8 +67,8 @@ class LossPlaces(Case):
                     f"before PTS {after}" if before is None else f"after PTS {before}"
                     for (before, after), _ in wanted[:len(marks)]], where)
         self.must("said", describe_loss(LossPlace(1, 2, is_announced=True)) ==
-                  "an unusually long interval "
-                  "with an announced jump of the counter")
+                  "the interval between PES packets is unusually long, and the stream announces a "
+                  "jump of the counter")
 
     def test_merges_losses_between_the_same_pes_packets(self) -> None:
         ends = [None, *range(5)]
@@ -175,7 +175,7 @@ class StreamLosses(Case):
         words = [self.path("story.stl"), self.path("one.ts"), "--origin", "0"]
         own = [one for one in made if one.pid == TELETEXT_PID]
         jumped = make_multiplex(pes, Shape(jump=(60, 8641 * SECOND)))
-        hole = "s are missing by the PCR and the counters of other PIDs"
+        hole = "s of TS packets are missing according to the PCR and the counters of other PIDs"
         for name, sent, word, more, line in (
                 ("whole", made, "accepted", "--pid=0x101", ""),
                 ("a hole", delete_between(made, 27, 16), "lost", "--pace=none", hole),
@@ -185,11 +185,11 @@ class StreamLosses(Case):
                  "10:00:02:08, but no packet is missing: was an encoder restarted?"),
                 ("alone", own, "accepted", "--pid=0x101", ""),
                 ("not asked", own, "accepted", "--pace=none",
-                 " has no PCR: ")):
+                 " has no PCR, so a loss that ")):
             self.write("one.ts", stream_bytes(sent))
             found = judge_files(self, *words, more)
             reported = [one for one in found.told if one.startswith("warning: the clock") or
-                    " has no PCR: " in one or hole in one]
+                    " has no PCR, " in one or hole in one]
             self.must(name, found.word == word and len(reported) == bool(line) and
                       line in "".join(reported), found.said)
             if word == "lost":

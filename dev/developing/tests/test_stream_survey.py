@@ -808,8 +808,8 @@ class SurveyAnswers(Case):
             *(("programme 1 9; stream 5 6; announce 5 888 656e67 2; announce 5 888 656e67 2; " +
                "; ".join(f"sub 5 2{page}" for page in range(9 + count, 9, -1)),
                lambda it: it.lines(), [
-                   "PID 0x5: announced 888 eng subtitles in programme 1; subtitle pages sent: 210 "
-                   f"211 212 213 214 215 216 217 218 219 220 221{more}"])
+                   "PID 0x5: the PMT announces page 888 (eng, subtitles) in programme 1; subtitle "
+                   f"pages sent: 210 211 212 213 214 215 216 217 218 219 220 221{more}"])
               for count, more in ((12, ""), (13, " and 1 more"), (14, " and 2 more"))),
             # A PMT is dated by the last PCR on its PCR PID, or else on one of its eight previous
             # PCR PIDs.
@@ -848,7 +848,7 @@ class SurveyAnswers(Case):
                PageChange(10, b"AB", 5, ((21, b" A B"),))])),
             ("damaged 5 3 start", lambda it: on_5(it).damage,
              "PES packet 3 does not begin with 00 00 01 BD"),
-            ("damaged 5 0 cut", lambda it: on_5(it).damage, "PES packet 0 is cut"),
+            ("damaged 5 0 cut", lambda it: on_5(it).damage, "PES packet 0 is incomplete"),
             *((f"end 5 7 8 30 4 {refusal} {cut} {begun}", lambda it: (
                 on_5(it).packets, on_5(it).scrambled, on_5(it).refusal, on_5(it).is_cut,
                 on_5(it).last_pts), (30, 4, refusal, bool(cut), pts))

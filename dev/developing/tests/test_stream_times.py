@@ -446,10 +446,10 @@ class ClockTables(unittest.TestCase):
     def test_describes_losses(self) -> None:
         for place, words in (
                 (LossPlace(1, 2), "a break in the stream"),
-            (LossPlace(1, 2, 1), "1 TS packet lost"),
-                (LossPlace(1, 2, 2, 1), "2 TS packets lost, 1 TS packet scrambled"),
+            (LossPlace(1, 2, 1), "1 TS packet was lost"),
+                (LossPlace(1, 2, 2, 1), "2 TS packets were lost, 1 TS packet was scrambled"),
                 (LossPlace(1, 2, missing=225_000),
-                 "TS packets of 2.50 s are missing by the PCR and "
+                 "2.50 s of TS packets are missing according to the PCR and "
                  "the counters of other PIDs")):
             self.assertEqual(describe_loss(place), words, place)
         for place, words in (
@@ -457,13 +457,13 @@ class ClockTables(unittest.TestCase):
                  "after the first)"),
                 (LossPlace(None, 7200, 1), "before PTS 7200 (00:00:00:02 after the first)"),
                 (LossPlace(3600, None, 1), "after PTS 3600 (00:00:00:01 after the first)")):
-            self.assertEqual(loss_line(place, 0), f"{words}: 1 TS packet lost", place)
+            self.assertEqual(loss_line(place, 0), f"{words}: 1 TS packet was lost", place)
         words = f"between PTS {CLOCK - 3600} and 3600 (00:00:00:01 and 00:00:00:03 after the " \
             "first): "
         for first, last in ((CLOCK - 7200, 3600), (CLOCK - 7201, 3599)):
             printed = loss_line(LossPlace(CLOCK - 3600, last, 1, 2), first)
             self.assertEqual(printed, words.replace(" 3600", f" {last}") +
-                             "1 TS packet lost, 2 TS packets scrambled", (first, last))
+                             "1 TS packet was lost, 2 TS packets were scrambled", (first, last))
         self.assertEqual(loss_line(LossPlace(None, 3600, 0), None),
                          "before PTS 3600 (00:00:00:01 after the first): a break in the stream")
-        self.assertEqual(loss_line(LossPlace(None, None, 1), None), "1 TS packet lost")
+        self.assertEqual(loss_line(LossPlace(None, None, 1), None), "1 TS packet was lost")

@@ -80,21 +80,21 @@ def propose_every(all_repeats: Sequence[Repeats]) -> Finding:
         return Finding("", ["every: there are too few headers of the page"])
     worst = max(all_repeats, key=lambda one: one.longest)
     usual = [one.usual for one in all_repeats if one.usual is not None]
-    words = f"; {max(usual)} are usual" if usual else ""
+    words = f" ({max(usual)} are usual)" if usual else ""
     lines = [
-        f"every: at most {counted(worst.longest, 'frame')} from one header of the page to the "
-        f"next, first from {time_of(worst.longest_start)} on, in "
-        f"{counted(sum(repeats.headers for repeats in all_repeats), 'header')}{words}"]
+        f"every: {counted(sum(repeats.headers for repeats in all_repeats), 'header')} of the page, "
+        f"at most {counted(worst.longest, 'frame')} apart{words}, first from "
+        f"{time_of(worst.longest_start)} on"]
     return Finding(f"--every {worst.longest}", lines + named_lines(
-        "longer without a header, which --every then refuses", [
+        "longer intervals, which check refuses with this --every", [
             f"{counted(frames, 'frame')} from {time_of(since)} on" for repeats in all_repeats
             for since, frames in repeats.exceptions if frames > worst.longest]))
 
 
 WHY_NONE = {
-    IRREGULAR: "PES packets come at irregular intervals", PAUSED: "PES packets pause",
-    BY_EVERY: "--every shows each loss", TOO_FEW: "PES packets are too few, or "
-    "too close together, to show a loss"}
+    IRREGULAR: "PES packets come at irregular intervals", PAUSED: "PES packets have pauses",
+    BY_EVERY: "--every shows each loss", TOO_FEW: "there are too few PES "
+    "packets, or they are too close together, to show a loss"}
 
 
 def propose_pace(paces: Sequence[Pace]) -> Finding:
@@ -107,9 +107,8 @@ def propose_pace(paces: Sequence[Pace]) -> Finding:
                                       if pace_frames is None))
         return Finding("", [f"pace: none, since {why or 'there are no PES packets'}"])
     return Finding(f"--pace {max(known_frames)}", [
-        f"pace: nearly always at most "
-        f"{counted(max(pace.interval for pace in paces), 'frame')} from "
-        "one PES packet to the next"])
+        "pace: PES packets are nearly always at most "
+        f"{counted(max(pace.interval for pace in paces), 'frame')} apart"])
 
 
 class Delays(NamedTuple):
@@ -203,8 +202,9 @@ def propose_lateness(several: Sequence[Delays], without: Sequence[str],
     """
     off, count = off_frame
     least = int(off * RARE >= count > 0)
-    lines = [f"within: {off} of {count} PTS are off their frames, which "
-             f"{'--within 1 accepts' if least else '--within 0 refuses (61)'}"] * (off > 0)
+    lines = [f"within: {off} of {count} PTS differ from their frames, which check "
+             f"{'accepts with --within 1' if least else 'refuses with --within 0 (fault 61)'}"] \
+        * (off > 0)
     lines += [f"within, late: no clock was given for {name} (--origin or --start), so it is not "
               "known how late its cues are" for name in without]
     if not several:
@@ -214,17 +214,17 @@ def propose_lateness(several: Sequence[Delays], without: Sequence[str],
     for delays in several:
         begins, ends = begins + delays.begins, ends + delays.ends
     lines += [f"within, late: in-cues {format_delays(begins)}; out-cues {format_delays(ends)} "
-              "(frames late:how many)"]
+              "(frames late:number of cues)"]
     begins, ends = remove_unusual(begins), remove_unusual(ends)
     lines += named_lines("early, which no option accepts", [
         name for one in several for name in one.early])
     lines += named_lines("text never sent", [
         name for one in several for name in one.unseen])
     longest = max([*begins, *ends, least])
-    lines += named_lines("later than usual, which --within then refuses", [
+    lines += named_lines("later than usual, which check refuses with this --within", [
         words for one in several for delay, words in one.late if delay > longest])
     if longest > MAX_WITHIN:
-        lines.append(f"within is {MAX_WITHIN} frames at most")
+        lines.append(f"within can be at most {MAX_WITHIN} frames")
     if not longest or longest > MAX_WITHIN or not (least or begins and ends):
         yield Finding("", lines)
         return
@@ -255,9 +255,10 @@ def propose_keeping(headers: int, keeping: int, is_alone: bool) -> Finding:
     lines = [f"keeping: C4 (erase page) is clear in {keeping} of {counted(headers, 'header')}"]
     is_habit = keeping > 0 and keeping * RARE >= headers
     if keeping and not is_habit:
-        lines.append("keeping: these are too few to be the site's habit: they are refused (67)")
+        lines.append("keeping: these headers are too few to be usual: check refuses them (fault "
+                     "67)")
     if is_habit and not is_alone:
-        lines.append("keeping: other control bits of a header are wrong too: they are refused (67)")
+        lines.append("keeping: other control bits are wrong too: check refuses them (fault 67)")
     return Finding("--keeping" if is_habit and is_alone else "", lines)
 
 
@@ -279,7 +280,7 @@ def propose_layout(sendings: Sequence[ReceivedSubtitle], option: NationalOption)
     exceptions. If there is no such layout, describe the nearest one."""
     closest, choice = choose_layouts([sending.sent for sending in sendings], option)
     if closest.total < FEWEST:
-        return Finding("", [f"layout: {counted(closest.total, 'subtitle')} found with their text, "
+        return Finding("", [f"layout: the text of {counted(closest.total, 'subtitle')} was found, "
                             f"but {FEWEST} are needed"])
     text = format_layout(choice.layout)
     if not choice.is_clear:
@@ -506,10 +507,11 @@ def list_refused(requests: Sequence[Request], command_paths: CommandPaths,
         if not is_good:
             refused += 1
             first, *more = sentence.splitlines()
-            yield f"# By this profile {request.stl} {request.recording} is not accepted: {first}"
+            yield f"# With this profile, qc does not accept {request.stl} {request.recording}: " \
+                f"{first}"
             yield from (f"# {line}" for line in more)
     if not refused:
-        yield "# By this profile none of these recordings is refused."
+        yield "# With this profile, qc refuses none of these recordings."
 
 
 def measure_pair(pair: PairJudge) -> Measured:
@@ -543,7 +545,7 @@ def add_part_packets(programme: PartSearch, part: Part) -> Part:
     """Return a part together with the PES packets of its frames."""
     pes = cut_packets(programme, *part.judged_recording, programme.request.within).range
     if pes is None:
-        raise Unclear("the recording has nothing of the page at the time of the subtitles")
+        raise Unclear("the recording does not contain the page at the time of the subtitles")
     return part.add_packets(pes)
 
 
@@ -581,8 +583,8 @@ def profile_lines(requests: Sequence[Request], recordings: Sequence[Measured]) -
     files = " ".join(quote_argument(name) for request in requests
                      for name in (request.stl, request.recording or ""))
     yield f"# qc {version()} --measure {files}"
-    yield (f"# What is usual in {counted(len(requests), 'recording')}. Read each line, and keep "
-           "what is true of your site.")
+    yield (f"# This profile describes {counted(len(requests), 'recording')}. Read each line, and "
+           "keep the lines that are true of your site.")
     are_known = [request.origin is not None or request.start is not None for request in requests]
     counts = [one.headers for one in recordings]
     options = {option for one in recordings for option in one.options}

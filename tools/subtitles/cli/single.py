@@ -348,7 +348,7 @@ def print_verdict(verdict: Verdict, printer: Printer, page: str | None = None) -
     for line in (verdict.unjudged_reason or "").splitlines():
         printer.print_error(f"{NOT_JUDGED}: {line}" if verdict.is_stopped else line)
     for at, line in enumerate(verdict.suggestions):
-        printer.print_error(f"{'type' if at == 0 else 'or'} {line}")
+        printer.print_error(f"{'try' if at == 0 else 'or'}: {line}")
 
 
 def reference_text(verdict: Verdict, page: str | None) -> str:

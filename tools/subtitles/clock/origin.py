@@ -8,7 +8,7 @@ from __future__ import annotations
 import dataclasses
 from typing import Collection, Iterator, NamedTuple, Sequence
 
-from ..common.command_line import Lateness, Stop, counted, format_frame_range
+from ..common.command_line import Lateness, Stop, counted, format_frame_range, was
 from ..common.times import (
     ALL_DAY, Between, FRAMES_A_SECOND, TICKS, ticks_after, ticks_between, ticks_within, time_in,
     time_of)
@@ -148,16 +148,17 @@ def report_sent_pages(packets: Packets, search: OriginSearch, lines: list[str]) 
     if packets.damage:
         if not count:
             raise Stop(f"{search.name}: {packets.damage}")
-        lines.append(f"{search.name}: {packets.damage}; only what is before it is used")
+        lines.append(f"{search.name}: {packets.damage}; only the PES packets before it are used")
     if not timed:
         lines.append(f"none of {counted(count, 'PES packet')} in {search.name} has a PTS: check "
-                     "refuses them as 34")
+                     "refuses them (fault 34)")
         return False
     if marks:
-        lines.append(f"{counted(marks, 'gap marker')} skipped: check refuses them as 45")
+        lines.append(f"{counted(marks, 'gap marker')} {was(marks)} skipped: check refuses gap "
+                     "markers (fault 45)")
     if timed + marks < count:
         lines.append(f"{count - timed - marks} of {counted(count, 'PES packet')} have no PTS and "
-                     "are skipped here: check refuses them as 34")
+                     "were skipped: check refuses them (fault 34)")
     if not packets.changes:
         requested_page = page_name(*search.page)
         others = sorted((page for page in packets.header_counts if page != requested_page),
@@ -188,10 +189,10 @@ def store_first_part(origin: OriginEstimate, search: OriginSearch, bases: Sequen
     if drift := find_drift(cues, bases[part.base].changes):
         origin.shift_texts = [drift_line(drift)]
     origin.lines += origin.shift_texts
-    first, last = (time_in(pts, part.origin) or "outside of the day"
+    first, last = (time_in(pts, part.origin) or "a time outside the day"
                    for pts in part.time_base.pts_range)
-    origin.lines.append(f"subtitles expected from {time_of(cues[0].frame)} to "
-                        f"{time_of(cues[-1].frame)}, page received from {first} to {last}")
+    origin.lines.append(f"subtitles are expected from {time_of(cues[0].frame)} to "
+                        f"{time_of(cues[-1].frame)}; the page was received from {first} to {last}")
 
 
 def prefer_known_origin(part: EstimatedPart, known: int | None) -> EstimatedPart:
@@ -265,8 +266,8 @@ def compare_with_known(origin: OriginEstimate, known: int | None, part: Estimate
     origin.ticks_late = None if known is None else ticks_late
     if known is not None or abs(ticks_late) // TICKS <= NEAR and not 0 <= abs(ticks_late) < TICKS:
         which = f"--origin {known or 0}"
-        origin.lines.append(f"it is {offset_text(ticks_late)} compared with {which}" if ticks_late
-                            else f"it is {which}")
+        origin.lines.append(f"compared with {which}, the subtitles are {offset_text(ticks_late)}"
+                            if ticks_late else f"the subtitles match {which}")
 
 
 def explain_mismatch(packets: Packets, page: Page) -> Iterator[str]:
@@ -317,11 +318,12 @@ def format_match(part: EstimatedPart, count: int) -> str:
     """Return a line with the number of cues that match; `count` is the number of all cues in the
     file."""
     best, others, cues = part.best, part.others, len(part.time_base.cues)
-    following = f"--origin {others[0].origin} with {others[0].matches}" if others else "none"
+    following = f"the next best is --origin {others[0].origin} with " \
+        f"{counted(others[0].matches, 'cue')}" if others else "no other origin matches a cue"
     return (f"{best.matches} of {counted(best.total, 'cue')} "
             f"{'matches' if best.matches == 1 else 'match'}, {best.content_matches} with the "
-            f"expected text; {'the file' if cues == count else 'this part'} has {cues}; "
-            f"next best: {following}")
+            f"expected text; {'the file' if cues == count else 'this part'} has "
+            f"{counted(cues, 'cue')}; {following}")
 
 
 def format_part(part: EstimatedPart, count: int, has_picture: bool = False) -> Iterator[str]:
@@ -336,7 +338,7 @@ def format_part(part: EstimatedPart, count: int, has_picture: bool = False) -> I
     equal, cue_offset = find_equal_origins(part), part.time_base.find_cue_offset(best)
     if equal:
         names = ", ".join(f"--origin {fit.origin}" for fit in equal[:NAMED])
-        yield (f"it is ambiguous: as good as --origin {best.origin} are {names}"
+        yield (f"the clock is ambiguous: --origin {best.origin} is no better than {names}"
                + (f" and {len(equal) - NAMED} more" if len(equal) > NAMED else ""))
     if part.early:
         yield early_line(part.early, has_picture)
@@ -349,8 +351,8 @@ def format_part(part: EstimatedPart, count: int, has_picture: bool = False) -> I
         yield f"{count_text} {kinds[0]} are {offset_text(TICKS * cue_offset.delay)} compared " \
             f"with the {kinds[1]}"
     if best.exact_matches < best.matches:
-        yield (f"{best.matches - best.exact_matches} of them match only to the nearest frame: PTS "
-               "that are not whole frames apart are refused as 61")
+        yield (f"{best.matches - best.exact_matches} of these cues match only to the nearest "
+               "frame: check refuses PTS that are not whole frames apart (fault 61)")
     if best.matches * 2 < best.total and not cue_offset:
         yield (f"fewer than half of the cues match with --origin {best.origin}: check that this "
                "is the right subtitle file")
@@ -360,9 +362,9 @@ def early_line(early: EarlyCues, has_picture: bool) -> str:
     """Return a line that reports early cues. If there are many, it asks for the clock."""
     count = f"{early.early_count} of {counted(early.total, 'cue')} " \
         f"{'is' if early.early_count == 1 else 'are'} up to {counted(early.frames, 'frame')} " \
-        "early compared with the others"
+        "early compared with the other cues"
     options = "--origin or --start" if has_picture else "--origin"
-    return f"{count}: are these early, or is the inserter late for the others? Give {options}" \
+    return f"{count}: either these cues are early, or the other cues are late. Give {options}" \
         if early.is_common_delay else count
 
 
@@ -370,8 +372,8 @@ def drift_line(drift: Drift) -> str:
     """Return a line that reports a drift of the delays."""
     way = "later and later" if drift.frames > 0 else "earlier and earlier"
     by = counted(abs(drift.frames), "frame")
-    return f"from {time_of(drift.first)} to {time_of(drift.last)} subtitles come {way}, by {by}: " \
-        "does the file or the recording have another frame rate?"
+    return f"from {time_of(drift.first)} to {time_of(drift.last)}, subtitles come {way}, by {by}" \
+        ": does the file or the recording have another frame rate?"
 
 
 def shift_lines(row: Sequence[Stretch], parts: Sequence[EstimatedPart], known: int) -> list[str]:
@@ -382,8 +384,8 @@ def shift_lines(row: Sequence[Stretch], parts: Sequence[EstimatedPart], known: i
         frames = round(abs(distance) / TICKS)
         words = f"{frames / FRAMES_A_SECOND:.2f} s ({counted(frames, 'frame')}) " \
             f"{'late' if distance > 0 else 'early'}" if abs(distance) >= TICKS else "on time"
-        back = ", where PTS go back," if part.base != before.base else ""
-        lines.append(f"from {time_of(stretch.track.cues[stretch.first].frame)} on{back} subtitles "
+        back = ", where the PTS go back" if part.base != before.base else ""
+        lines.append(f"from {time_of(stretch.track.cues[stretch.first].frame)} on{back}, subtitles "
                      f"are {words}")
     left = lines[LISTED - 1:-1]
     lines = lines[:LISTED - 1] + [f"and {counted(len(left), 'more change')}"] * bool(left) \
@@ -397,7 +399,7 @@ def format_breaks(parts: Sequence[EstimatedPart]) -> Iterator[str]:
     for number, (previous, part) in enumerate(zip(parts, parts[1:]), 2):
         frames, rest = divmod(abs(gap_ticks := ticks_between(previous.origin, part.origin)), TICKS)
         length = time_of(frames) + (f" and {counted(rest, 'tick')}" if rest else "")
-        where = "where PTS go back" if part.base != previous.base else \
+        where = "where the PTS go back" if part.base != previous.base else \
             f"after a break of {length}" if gap_ticks > 0 else f"where the recording lacks {length}"
         yield f"part {number} begins at {time_of(part.begin)}, {where}"
 

@@ -4,7 +4,7 @@ from __future__ import annotations
 import collections
 from typing import NamedTuple, Sequence
 
-from ..common.command_line import counted, format_pid, escape_hidden
+from ..common.command_line import counted, format_pid, escape_hidden, was
 from ..common.files import read_first_bytes
 from ..common.times import (
     ALL_DAY, Between, EARLY_TICKS, TICKS, frame_in, frame_of, frame_of_code, ticks_after,
@@ -125,13 +125,14 @@ class FirstPicture(NamedTuple):
     def line(self) -> str:
         frames = counted(abs(self.picture_offset), "frame")
         more = "" if self.other is None else \
-            f"; the one with the random_access_indicator has PTS {self.other}, {frames} later" \
-            if self.picture_offset > 0 else \
-            f"; pictures of its group before it, from PTS {self.other} on ({frames}), can't be " \
+            f"; the picture with the random_access_indicator has PTS {self.other}, {frames} " \
+            "later" if self.picture_offset > 0 else \
+            f"; earlier pictures of its group, from PTS {self.other} on ({frames}), can't be " \
             "decoded"
-        return (f"the first picture has PTS {self.pts}, {NAMES[self.kind]} of "
-                f"{format_pid(self.pid)}; {counted(self.skipped, 'PES packet')} of video before it "
-                f"skipped{more}")
+        skipped = f"; {counted(self.skipped, 'earlier PES packet')} of video " \
+            f"{was(self.skipped)} skipped" if self.skipped else ""
+        return (f"the first picture ({NAMES[self.kind]}, {format_pid(self.pid)}) has PTS "
+                f"{self.pts}{skipped}{more}")
 
 
 class StartClock(NamedTuple):
@@ -269,11 +270,12 @@ def compute_start_clock(request: Request, survey: Survey, packets: Packets) -> S
     moved = wrap_pts(first.pts - TICKS * frame + ticks)
     source = TCP if request.start == TCP else START
     name = f"the TCP {time_of(frame)}" if source == TCP else f"--start {time_of(frame)}"
-    said = "which matches the PTS of the Teletext" if not ticks else \
-        f"moved by {counted(abs(ticks), 'tick')} {'forward' if ticks > 0 else 'back'} to the PTS " \
-        "of the Teletext"
+    said = "which fits the Teletext PTS" if not ticks else \
+        f"shifted {'forward' if ticks > 0 else 'back'} by {counted(abs(ticks), 'tick')} to fit " \
+        "the Teletext PTS"
     return StartClock(Clock(moved, source, picture_offset=first.picture_offset),
-                      [first.line(), f"{name} there means --origin {moved}, {said}"], frame)
+                      [first.line(), f"with {name} at this picture, the clock is --origin {moved}, "
+                       f"{said}"], frame)
 
 
 def refuse_outside(request: Request, began: StartClock, begin: int, end: int,
@@ -304,5 +306,5 @@ def find_largest_offset(several: Sequence[int], origin: int) -> int:
 def largest_offset_text(most: int) -> str:
     """Return the largest distance of PTS from their frames as text, or an empty string if it is 0.
     """
-    return f"PTS are up to {counted(most, 'tick')} ({most / MILLISECOND:.2f} ms) off their frames" \
-        if most else ""
+    return f"PTS differ from their frames by up to {counted(most, 'tick')} " \
+        f"({most / MILLISECOND:.2f} ms)" if most else ""

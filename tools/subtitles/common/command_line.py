@@ -272,6 +272,11 @@ def counted(count: int, thing: str) -> str:
     return f"{count} {thing}" if count == 1 else f"{count} {thing}s"
 
 
+def was(count: int) -> str:
+    """Return the verb for a number of things: `was` or `were`."""
+    return "was" if count == 1 else "were"
+
+
 def format_frame_range(least: int, most: int) -> str:
     """Return a range of frames as text, such as `1 frame` or `0 to 2 frames`."""
     return counted(most, "frame") if least == most else f"{least} to {counted(most, 'frame')}"

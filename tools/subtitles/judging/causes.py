@@ -30,7 +30,7 @@ NOT_ERASED, INCOMPLETE_REPEAT, UNKNOWN_CAUSE = "not erased", "not repeated whole
 ERASED, TEXT_IN_PAUSE, NOT_RECEIVED = "erased", "another text in a pause", "not received"
 CAUSE_NAMES = (LATE, EARLY, NEVER, OTHER_TEXT, WRONG_TEXT, WRONG_PLACE, WRONG_ATTRIBUTE, NOT_ERASED,
                INCOMPLETE_REPEAT, ERASED, TEXT_IN_PAUSE, NOT_RECEIVED, UNKNOWN_CAUSE)
-NOT_READABLE = "not everything that was sent then can be read"
+NOT_READABLE = "some of the PES packets at that time cannot be read"
 NEXT_PROGRAMME = "the page sent at the last TCO is the next programme's"
 COMPLETED_LATER = "as expected only after another PES packet of the same frame"
 OMITTED_BY_REPEAT = "missing after a header with C4 (erase page) clear"
@@ -573,7 +573,7 @@ class CauseDescriber:
             sent = format_page_text(cause.sent_page or (), self.option)
             if sent != self.format_expected_text(cause):
                 words += f'; "{sent}" was shown instead' if cause.name == NEVER else \
-                    f', received: "{sent}"'
+                    f'; received "{sent}"'
         if cause.other_index is not None:
             words += f" of {self.subtitles[cause.other_index].name}"
         return words

@@ -195,7 +195,8 @@ class CueJudge:
             return ""
         if cue.begin is None and cue.end is None:
             return "not received"
-        words = f"{counted(end - begin - trusted, 'frame')} not trusted"
+        doubtful = end - begin - trusted
+        words = f"{counted(doubtful, 'frame')} {'is' if doubtful == 1 else 'are'} not trusted"
         return f"{words}: the out-cue is moved" if cue.delay_out else words
 
     def describe_reason(self, verdict: CueVerdict) -> str:

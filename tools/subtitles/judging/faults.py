@@ -5,7 +5,7 @@ import itertools
 from typing import Iterator, NamedTuple, Sequence
 
 from ..clock.start import find_largest_offset, largest_offset_text
-from ..common.command_line import counted
+from ..common.command_line import counted, was
 from ..common.shapes import Members
 from ..common.times import frame_at, frame_of, time_of
 from ..formats.listing import (
@@ -220,8 +220,8 @@ def describe_unrecorded(fault: FaultLine, part: Part) -> str:
     if not left:
         return ""
     words = f"{len(left):,} of {counted(len(subtitles), 'subtitle')} " \
-        f"{'was' if len(left) == 1 else 'were'} not recorded completely"
-    return f"{words}; {option[0]} judges the others" if option else words
+        f"{was(len(left))} not recorded completely"
+    return f"{words}; use {option[0]} to judge the others" if option else words
 
 
 def describe_block_subtitle(fault: FaultLine, subtitles: SubtitleFile) -> str:

@@ -335,7 +335,8 @@ class PairJudge:
         count, pes = recording.packets.count, self.request.pes
         if pes and count and pes[0] >= count:
             has = f"{counted(count, 'PES packet')}, 0-{count - 1}"
-            raise Unclear(f"{recording.name} has {has}: --pes {pes[0]}-{pes[1]} is outside of them",
+            raise Unclear(f"{recording.name} has {has}: --pes {pes[0]}-{pes[1]} is outside this "
+                          "range",
                           self.format_call("--pes", f"0-{count - 1}"))
 
     def judge_valid_subtitles(self, answer: CheckOutput) -> None:

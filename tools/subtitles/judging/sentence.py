@@ -6,7 +6,7 @@ import enum
 from typing import Collection, Iterable, NamedTuple, Sequence
 
 from ..clock.start import clock_advice
-from ..common.command_line import counted, format_frame_range
+from ..common.command_line import counted, format_frame_range, was
 from ..common.times import time_of
 from ..formats.listing import (
     BEGIN, CONTENT, CONTROL, END, ENDS_READING, FaultLine, GAP, INCOMPLETE, LOSSES, LOST_PACKETS,
@@ -201,11 +201,15 @@ CAUSE_PREDICATES = {
     WRONG_TEXT: ("has the wrong text", "have the wrong text"),
     WRONG_PLACE: ("is in the wrong place", "are in the wrong place"),
     WRONG_ATTRIBUTE: ("has a wrong colour or attribute", "have wrong colours or attributes"),
-    NOT_ERASED: ("is not erased", "are not erased"),
-    INCOMPLETE_REPEAT: ("is not repeated completely", "are not repeated completely"),
-    ERASED: ("is erased before its TCO", "are erased before their TCO"),
+    NOT_ERASED: ("was not erased", "were not erased"),
+    INCOMPLETE_REPEAT: ("was not repeated completely", "were not repeated completely"),
+    ERASED: ("was erased before its TCO", "were erased before their TCO"),
     NOT_RECEIVED: ("was not received", "were not received"),
     UNKNOWN_CAUSE: ("is not as expected", "are not as expected")}
+# Predicate after `none of the subtitles`, for a cause that all subtitles have
+NONE_PREDICATES = {
+    NEVER: "was sent", NOT_ERASED: "was erased", INCOMPLETE_REPEAT: "was repeated completely",
+    NOT_RECEIVED: "was received", UNKNOWN_CAUSE: "is as expected"}
 HINTS_ON_ALL = {GAP, OFF_FRAME}  # faults whose hint is about all frames, not about the first fault
 HINTS_FOR_CLAUSE = {CONTROL, PARITY}  # faults whose hint replaces their `FAULT_CLAUSES`
 MAX_NUMBERS = 4  # maximum number of fault numbers listed in a sentence
@@ -269,7 +273,7 @@ def write_sentence(seen: Facts) -> str:
         return f"Not accepted: {lost}{more}; {good}."
     if seen.word == WARNED:
         kinds = ", ".join(dict.fromkeys(seen.warnings))
-        return f"Not accepted: --strict counts warnings ({kinds}); {good}."
+        return f"Not accepted: --strict treats warnings as faults ({kinds}); {good}."
     assert seen.word == ACCEPTED
     return f"Accepted: {describe_success(seen)}."
 
@@ -293,8 +297,8 @@ def describe_relative_match(seen: Facts) -> str:
         found = f"All {seen.subtitles} subtitles match relative to each other{within}"
         delay = "a delay that they all share"
     else:
-        found = f"All {seen.subtitles} subtitles match relative to the others of their part{within}"
-        delay = "a delay that all of a part share"
+        found = f"All {seen.subtitles} subtitles match relative to the others in their part{within}"
+        delay = "a delay that all subtitles in a part share"
     return f"{found}. No clock was given, so {delay}"
 
 
@@ -311,7 +315,7 @@ def describe_success(seen: Facts) -> str:
 def describe_valid_subtitles(seen: Facts) -> str:
     """Describe the refused subtitles, and the result of judging the other subtitles."""
     others = f"{counted(seen.subtitles, 'other subtitle')} " \
-        f"{'was' if seen.subtitles == 1 else 'were'} judged"
+        f"{was(seen.subtitles)} judged"
     sent = seen._replace(refused="")
     if seen.first is None:
         is_one = seen.subtitles == 1
@@ -406,7 +410,8 @@ def describe_causes(causes: Causes, option: str) -> str:
     if not others:
         return words
     known = sorted(others, key=lambda name: (CAUSE_RANKS[name], CAUSE_NAMES.index(name)))
-    counts = ", ".join(f"{others[name]} {name}" for name in known)
+    counts = ", ".join(name if others[name] == 1 else f"{name} ({others[name]:,})"
+                       for name in known)
     return f"{words}; other causes: {counts}"
 
 
@@ -436,12 +441,14 @@ def describe_shared_cause(causes: Sequence[Cause], subtitles: Sequence[Subtitle]
     if name == TEXT_IN_PAUSE:
         return f"another text was sent in {counted(len(causes), 'pause')}, the first " \
             f"{causes[0].details}"
-    which = f"all {len(subtitles):,} subtitles" if len(causes) == len(subtitles) else \
+    is_none = len(causes) == len(subtitles) and name in NONE_PREDICATES
+    which = f"none of the {len(subtitles):,} subtitles" if is_none else \
+        f"all {len(subtitles):,} subtitles" if len(causes) == len(subtitles) else \
         f"{len(causes):,} of {len(subtitles):,} subtitles"
     when = f"first at {time_of(first.begin)}, last at {time_of(last.begin)}"
     frames = sorted(cause.frames or 0 for cause in causes)
     said = f"appeared {format_frame_range(frames[0], frames[-1])} {name}" if name in (LATE, EARLY) \
-        else CAUSE_PREDICATES[name][1]
+        else NONE_PREDICATES[name] if is_none else CAUSE_PREDICATES[name][1]
     words = {cause.details for cause in causes}
     more = f" ({words.pop()})" if len(words) == 1 and words != {""} else ""
     return f"{which} {said}{more} ({when})"

@@ -79,7 +79,7 @@ POSSIBLE_RESULTS = [*STATUSES.items(), (RELATIVE, 0)]  # the last entry is for -
 WORST_FIRST = (2, 1, 3, 0)
 
 NOT_ANSWERED = "check gave no verdict"
-NOTHING_READ = "nothing of the recording was read, and --severity makes all faults warnings"
+NOTHING_READ = "none of the recording was read, and --severity makes all faults warnings"
 
 
 class CheckSummary(NamedTuple):

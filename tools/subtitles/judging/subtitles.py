@@ -90,21 +90,23 @@ def advise_on_character(letter: bytes, complete_options: list[NationalOption]) -
     """
     if complete_options:
         verb = "has" if len(complete_options) == 1 else "have"
-        return f"{format_options(complete_options)} {verb} all characters of the file"
+        return f"use {format_options(complete_options, 'or')}, which {verb} all characters of " \
+            "the file"
     character = decode_character(letter)
     if character is None:
         return f"byte {letter[:1].hex().upper()} is not a character of code table 00: correct it"
     options = find_options(letter)
     if options:
-        return f"{character} is in {format_options(options)}, but another character of the file " \
-            "is not"
-    return (f"{character} is in no option: replace it (at level 1 it needs another region, or "
-            "packets X/26, which are refused as 70)")
+        return f"{format_options(options, 'and')} {'has' if len(options) == 1 else 'have'} " \
+            f"{character}, but not all other characters of the file"
+    return (f"no option has {character}: replace it (at level 1 it needs another region, or "
+            "packets X/26, which check refuses with fault 70)")
 
 
-def format_options(options: list[NationalOption]) -> str:
-    """Format national options as arguments on a command line."""
-    return "--option " + ", ".join(option.word for option in options)
+def format_options(options: list[NationalOption], conjunction: str) -> str:
+    """Return national options as a list in text, such as `--option english or italian`."""
+    *words, last = [option.word for option in options]
+    return f"--option {', '.join(words)} {conjunction} {last}" if words else f"--option {last}"
 
 
 # A subtitle with one of these faults is not compared with other subtitles.
@@ -149,12 +151,12 @@ class RefusedSubtitle(NamedTuple):
         """Describe the fault with the refused character or the meaning of the fault. Add advice."""
         more = self.character or FAULT_CLAUSES.get(self.fault.number, "")
         do = f": {self.advice}" if self.advice else ""
-        return f"{self.fault.number} {self.fault.name} ({more}){do}"
+        return f"has fault {self.fault.number} {self.fault.name} ({more}){do}"
 
     def format_line(self) -> str:
         """Return the output line about the refused subtitle."""
-        return f"undecided: {self.describe_subtitle()}, up to {self.subtitle.end}, is refused " \
-            f"by {self.describe_reason()}"
+        return f"undecided: {self.describe_subtitle()}, until {self.subtitle.end}, " \
+            f"{self.describe_reason()}"
 
 
 class ValidSubtitles(NamedTuple):
@@ -178,13 +180,12 @@ class ValidSubtitles(NamedTuple):
     def describe(self) -> str:
         """Describe the first refused subtitles, and the number of the others."""
         if len(self.refused) == 1:
-            return f"{self.refused[0].describe_subtitle()} is refused by " \
-                f"{self.refused[0].describe_reason()}"
-        named = [f"{refused.describe_subtitle()} by {refused.describe_reason()}"
+            return f"{self.refused[0].describe_subtitle()} {self.refused[0].describe_reason()}"
+        named = [f"{refused.describe_subtitle()} {refused.describe_reason()}"
                  for refused in self.refused[:MAX_NAMED]]
         more, total = len(self.refused) - len(named), len(self.judged) + len(self.skipped_positions)
         last = f"{more:,} more" if more else named.pop()
-        return f"{len(self.refused):,} of {total:,} subtitles are refused, " \
+        return f"{len(self.refused):,} of {total:,} subtitles are refused: " \
             f"{', '.join(named)} and {last}"
 
 

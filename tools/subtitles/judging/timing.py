@@ -175,8 +175,9 @@ def refuse_wrong_clock(search: PartSearch, recording: Recording, part: TimedPart
 def describe_wrong_clock(request: Request, clock: Clock, delay: int) -> str:
     """Describe the error of a given clock, with which the subtitles are `delay` frames late."""
     if clock.source == GIVEN:
-        return f"with --origin {clock.origin} all subtitles are {duration_text(abs(delay))} " \
-            f"{'late' if delay > 0 else 'early'}: none is in the recording at its time"
+        return f"with --origin {clock.origin}, all subtitles would be " \
+            f"{duration_text(abs(delay))} {'late' if delay > 0 else 'early'}, so the recording " \
+            "contains none of them at its time"
     given = read_start_frame(request)
     estimated = wrap_pts(clock.origin + TICKS * delay)
     begins = round(ticks_after(estimated, pts_of(given, clock.origin)) / TICKS)
@@ -192,7 +193,7 @@ def make_unclear_origin(origin: OriginEstimate, again: Iterable[str]) -> Unclear
     """Return the exception that explains why the origin is ambiguous, and suggests commands."""
     is_printed = origin.airings or origin.breaks is not None
     reason = "\n".join(origin.lines) if is_printed else \
-        f"the clock is not clear: {'; '.join(origin.lines)}"
+        f"the clock cannot be estimated: {'; '.join(origin.lines)}"
     return Unclear(reason, *again)
 
 
@@ -230,7 +231,7 @@ def find_part_packets(search: PartSearch, part: Part, listener: Listener) -> Ran
         listener.print_line(f"range: {recording.display_name}: {damage}; the recording was read "
                             "up to this point")
     if cut.range is None:
-        raise Unclear("the recording has nothing of the page at the time of the subtitles",
+        raise Unclear("the recording does not contain the page at the time of the subtitles",
                       recording.suggest_call("--origin", "T"),
                       *recording.other_pages([recording.packets]))
     return cut.range
@@ -298,7 +299,8 @@ def describe_jumps(count: int, recording: Recording) -> str:
     Return an empty string if `count` is 0.
     """
     return f"{UNCHECKED} losses on {format_pid(recording.packets.pid)} at " \
-        f"{counted(count, 'place')} where a jump of its counter is announced" if count else ""
+        f"{counted(count, 'place')} where the stream announces a jump of the counter" \
+        if count else ""
 
 
 def make_pace_selection(pace: Pace, is_stream: bool, part: int) -> Selection:
@@ -311,9 +313,9 @@ def make_pace_selection(pace: Pace, is_stream: bool, part: int) -> Selection:
 def describe_pace(pace: Pace, is_stream: bool) -> str:
     """Describe the usual interval between PES packets, and the --pace chosen from it."""
     more = ", and three may come in that time" if pace.is_dense else \
-        f", at least {pace.loss_interval} after a loss of 16 TS packets" if is_stream else ""
-    return f"pace: at most {counted(pace.interval, 'frame')} from one PES packet to the next" \
-        f"{more}: --pace {pace.frames}"
+        f", or at least {pace.loss_interval} after a loss of 16 TS packets" if is_stream else ""
+    return f"pace: PES packets are at most {counted(pace.interval, 'frame')} apart{more}: " \
+        f"--pace {pace.frames}"
 
 
 def describe_unchecked_losses(pace: Pace, unseen: int | None, recording: Recording) -> str:
@@ -327,18 +329,18 @@ def describe_unchecked_losses(pace: Pace, unseen: int | None, recording: Recordi
         return without
     if pace.kind == REGULAR:
         seconds = (pace.loss_interval - 1) / FRAMES_A_SECOND
-        what = f"losses of up to {seconds:.2f} s on this PID alone" \
+        what = f"losses of up to {seconds:.2f} s that only this PID would show" \
             if recording.is_stream else "a missing PES packet"
-        return f"{UNCHECKED} {what} at {counted(pace.hidden_places, 'place')} where PES packets " \
+        return f"{UNCHECKED} {what}, at {counted(pace.hidden_places, 'place')} where PES packets " \
             "are closer together"
-    why = {IRREGULAR: "come at irregular intervals",
-           PAUSED: f"pause for up to {counted(pace.interval, 'frame')}",
-           TOO_FEW: "are too few to measure their interval"}[pace.kind]
+    why = {IRREGULAR: "the PES packets come at irregular intervals",
+           PAUSED: f"there is no PES packet for up to {counted(pace.interval, 'frame')}",
+           TOO_FEW: "there are too few PES packets to measure their interval"}[pace.kind]
     if not recording.is_stream:
-        return f"{UNCHECKED} missing PES packets: those of this file {why}"
+        return f"{UNCHECKED} missing PES packets: {why}"
     tenths = 10 * (unseen or 0) // FRAMES_A_SECOND
     what = f"losses of {tenths / 10} s or more" if tenths else "losses"
-    return f"{UNCHECKED} {what} on this PID alone: its PES packets {why}"
+    return f"{UNCHECKED} {what} that only this PID would show: {why}"
 
 
 def describe_missing_pcr(recording: Recording) -> str:
@@ -348,8 +350,8 @@ def describe_missing_pcr(recording: Recording) -> str:
     """
     if not recording.is_stream or recording.survey.clock_of(recording.packets.pid) is not None:
         return ""
-    return f"the programme of {format_pid(recording.packets.pid)} has no PCR: a loss that its " \
-        "counter does not show, as of 16 TS packets, is not noticed"
+    return f"the programme of {format_pid(recording.packets.pid)} has no PCR, so a loss that the " \
+        "counter does not show, such as 16 TS packets, is not detected"
 
 
 # Viewers see if pictures drift from the subtitles, but the PTS of Teletext do not show the drift.
@@ -416,7 +418,7 @@ class Desync(NamedTuple):
         """Return a clause that describes the fault."""
         count = counted(abs(self.ticks) // TICKS, "frame") if self.ticks % TICKS == 0 else \
             f"{abs(self.ticks) / TICKS:.1f} frames"
-        return f"from {time_of(self.first)} on subtitles are {count} " \
+        return f"from {time_of(self.first)} on, subtitles are {count} " \
             f"{'early' if self.ticks > 0 else 'late'} for viewers: the video's timestamps jump"
 
 
@@ -461,7 +463,7 @@ def make_unclear_notes(is_steady: bool, count: int) -> list[str]:
     If `is_steady` is false, no drift was checked. Otherwise, the drifts at `count` places were not.
     """
     if not is_steady:
-        return [f"{NOT_CHECKED}: the decoding times of the video have no usual step"]
-    return [f"{NOT_CHECKED} at {counted(count, 'place')} where its decoding times jump: the "
-            "multiplexer's delay varies, pictures are lost too, or it is within a second of the "
-            "programme's beginning or end"] if count else []
+        return [f"{NOT_CHECKED}: the video's decoding times have no usual step"]
+    return [f"{NOT_CHECKED} at {counted(count, 'place')} where the video's decoding times jump: "
+            "the multiplexer's delay varies, pictures are lost too, or the place is within a "
+            "second of the programme's beginning or end"] if count else []

@@ -6,7 +6,7 @@ import dataclasses
 from typing import Callable, Collection, Iterable, NamedTuple, Sequence
 
 from ..clock.start import ESTIMATED_LATER_NOTE, ESTIMATED_NOTE, clock_advice
-from ..common.command_line import format_frame_range
+from ..common.command_line import format_frame_range, was
 from ..common.files import SummedFile
 from ..common.times import time_in
 from ..formats.listing import FaultLine, NamedFault, STL_FAULTS, UNDECIDED
@@ -42,9 +42,10 @@ class DelaySpread(NamedTuple):
     def describe(self) -> str:
         """Return a clause that describes the delays."""
         middle = "" if self.minimum == self.maximum else f" (median {self.median})"
-        never = f"; {self.never_complete} never seen complete" if self.never_complete else ""
-        return f"subtitles are complete after {format_frame_range(self.minimum, self.maximum)}" \
-            f"{middle}{never}"
+        never = f"; {self.never_complete} {was(self.never_complete)} never complete" \
+            if self.never_complete else ""
+        return f"subtitles were complete {format_frame_range(self.minimum, self.maximum)} after " \
+            f"their TCI{middle}{never}"
 
 
 def summarize_delays(several: Iterable[int | None]) -> DelaySpread | None:
@@ -421,7 +422,7 @@ class Verdict:
             return f"not accepted, since TS packets are lost: {line}"
         if word == WARNED:
             kinds = ", ".join(dict.fromkeys(self.collect_grounds().warnings))
-            return f"not accepted, since --strict counts warnings ({kinds}): {line}"
+            return f"not accepted, since --strict treats warnings as faults ({kinds}): {line}"
         return line
 
     def format_good_line(self) -> str:

@@ -94,9 +94,9 @@ def find_page_notices(page_announcements: list[Announced], request: Request) -> 
     """Yield warnings if the PMT announces the page with another type, language or character set."""
     name = request.page_name
     if not any(announced.kind in SUBTITLE_KINDS for announced in page_announcements):
-        kinds = " and ".join(dict.fromkeys(KINDS.get(announced.kind, "of an unknown kind")
+        kinds = '" and "'.join(dict.fromkeys(KINDS.get(announced.kind, "an unknown kind")
                                            for announced in page_announcements))
-        yield Notice("type", f"the PMT announces page {name} as {kinds}, not as subtitles")
+        yield Notice("type", f'the PMT announces page {name} as "{kinds}", not as subtitles')
     code = read_language_code(request.stl_path)
     wanted = {*language_names(code)}
     languages = dict.fromkeys(announced.language.lower() for announced in page_announcements)
@@ -304,11 +304,12 @@ def explain_never_sent(survey: Survey, page: Page, pids: Collection[int],
                        carriers: Collection[int] = ()) -> str:
     """Return a message with the PIDs that announce the page and the PIDs that send it."""
     names = " and ".join(map(format_pid, sorted(pids)))
-    words = f"page {page_name(*page)} is announced on {names}, but never sent"
+    words = f"page {page_name(*page)} is announced on {names}, but was never sent"
     none = [pid for pid in sorted(pids)
             if pid not in survey.by_pid or not survey.by_pid[pid].packets]
     if none:
-        words += f" (no TS packet of {' and '.join(map(format_pid, none))})"
+        words += f" ({' and '.join(map(format_pid, none))} " \
+            f"{'has' if len(none) == 1 else 'have'} no TS packet)"
     if carriers:
         words += f"; {' and '.join(map(format_pid, sorted(carriers)))} has it"
     return words

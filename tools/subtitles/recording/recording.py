@@ -11,7 +11,7 @@ from typing import Collection, Iterable, Iterator, Sequence
 
 from ..clock.start import NoFirstPicture, has_first_picture
 from ..common.command_line import (
-    PACKET_SIZES, Stop, counted, escape_hidden, format_pid, stream_options)
+    PACKET_SIZES, Stop, counted, escape_hidden, format_pid, stream_options, was)
 from ..common.files import (
     BackgroundSum, STANDARD, SummedFile, read_first_bytes, name_errors, read_chunks)
 from ..common.times import ticks_between
@@ -173,7 +173,7 @@ class Recording:
         pids = [by_pid[pid] for pid in sorted(by_pid) if by_pid[pid].has_page]
         self.refuse_silent({one.pid for one in pids})
         if len(pids) == 1:
-            self.print_choice(pids[0], "and on no other PID")
+            self.print_choice(pids[0], "no other PID sends the page")
             return pids[0]
         if not pids:
             refuse_unsent(self.request, self.survey, self.times)
@@ -200,8 +200,8 @@ class Recording:
     def print_choice(self, packets: Packets, why: str) -> None:
         """Report the chosen PID, and the reason for the choice."""
         header = sum(run.length for run in packets.runs_with_pts() if HEADER in run.flags)
-        line = f"{format_pid(packets.pid)}: page {self.request.page_name} has a header in " \
-            f"{header} of {counted(packets.count, 'PES packet')}, {why}"
+        line = f"{format_pid(packets.pid)}: {header} of {counted(packets.count, 'PES packet')} " \
+            f"{'has' if header == 1 else 'have'} a header of page {self.request.page_name}; {why}"
         self.listener.add_selection(Selection(PID_CHOICE, f"0x{packets.pid:X}", line, header,
                                               packets.count))
 
@@ -234,8 +234,8 @@ class Recording:
         if why:
             self.listener.print_line(why)
         if self.survey.skipped:
-            self.listener.print_line(f"{counted(self.survey.skipped, 'byte')} outside of TS "
-                                    "packets skipped")
+            self.listener.print_line(f"{counted(self.survey.skipped, 'byte')} outside TS packets "
+                                     f"{was(self.survey.skipped)} skipped")
         for line in gap_marker_lines(packets):
             self.listener.print_line(line)
 

@@ -312,11 +312,11 @@ def pair_files(folder: str, files: list[str], defaults: argparse.Namespace) -> I
     name = pair_name((subtitles or recordings)[0])
     paths = [os.path.join(folder, file) for file in subtitles + recordings]
     if not recordings:
-        reason = f"{', '.join(paths)}: no recording has that name"
+        reason = f"{', '.join(paths)}: no recording has the same name"
     elif not subtitles:
-        reason = f"{', '.join(paths)}: no subtitle file has that name"
+        reason = f"{', '.join(paths)}: no subtitle file has the same name"
     elif len(paths) > 2:
-        reason = f"{', '.join(paths)}: more than one pair has that name"
+        reason = f"{', '.join(paths)}: more than one pair has this name"
     else:
         return [make_item(name, paths[0], paths[1], defaults)]
     return [BatchItem(name, None, reason, paths)]
@@ -360,10 +360,10 @@ def read_line_pair(path: str, number: int, defaults: argparse.Namespace) \
     them may be an input file. Earlier lines are read too, since the name of the pair depends on
     them."""
     if os.path.isdir(path):
-        raise Stop(f"{path} is not a list: --line needs a LIST")
+        raise Stop(f"--line needs a list, but {path} is a folder")
     lines = [*split_lines(read_list(path, may_be_pipe=True))]
     before = [line for line in lines if line.number <= number]
     if not before or before[-1].number < number:
-        raise Stop(f"{path}, line {number} has no pair")
+        raise Stop(f"line {number} of {path} has no pair")
     *_, item = read_list_pairs(path, before, defaults)
     return check_files(item), [word for line in lines for word in line.arguments]

@@ -5,7 +5,7 @@ import dataclasses
 import statistics
 from typing import Iterable, Iterator, NamedTuple, Sequence
 
-from ..common.command_line import counted, format_pid
+from ..common.command_line import counted, format_pid, was
 from ..common.times import TICKS, ticks_between, time_of, wrap_pts
 from .packets import PCRStep, PTSPair, Packets
 from .survey import Survey
@@ -97,14 +97,16 @@ def is_after(place: LossPlace, other: LossPlace) -> bool:
 
 def describe_loss(place: LossPlace) -> str:
     """Describe the missing packets at a place."""
-    said = [f"{counted(place.lost, 'TS packet')} lost"] if place.lost and not place.missing else []
-    by = f"the counter shows {place.lost} of them" if place.lost else \
-        "and the counters of other PIDs"
-    said += [f"TS packets of {place.missing / SECOND:.2f} s are missing by the PCR"
-             f"{'; ' if place.lost else ' '}{by}"] if place.missing else []
-    said += [f"{counted(place.scrambled, 'TS packet')} scrambled"] if place.scrambled else []
-    said += ["an unusually long interval with an announced jump of the counter"] \
-        if place.is_announced else []
+    said = [f"{counted(place.lost, 'TS packet')} {was(place.lost)} lost"] \
+        if place.lost and not place.missing else []
+    by = f" (the counter shows {counted(place.lost, 'TS packet')})" if place.lost else \
+        " and the counters of other PIDs"
+    said += [f"{place.missing / SECOND:.2f} s of TS packets are missing according to the PCR{by}"] \
+        if place.missing else []
+    said += [f"{counted(place.scrambled, 'TS packet')} {was(place.scrambled)} scrambled"] \
+        if place.scrambled else []
+    said += ["the interval between PES packets is unusually long, and the stream announces a jump "
+             "of the counter"] if place.is_announced else []
     return ", ".join(said) or "a break in the stream"
 
 

@@ -33,8 +33,8 @@ class Announced(NamedTuple):
     kind: int
 
     def line(self) -> str:
-        return f"{page_name(*self.page)} {escape_hidden(self.language)} " \
-            f"{KINDS.get(self.kind, 'of an unknown kind')}"
+        return f"page {page_name(*self.page)} ({escape_hidden(self.language)}, " \
+            f"{KINDS.get(self.kind, 'of an unknown kind')})"
 
 
 @dataclasses.dataclass
@@ -70,8 +70,8 @@ def pid_line(packets: Packets, programmes: Iterable[ProgramMap]) -> str:
                               for page in program_map.pages.get(packets.pid, []))
     pages = sorted(packets.header_counts)
     more = [f"and {len(pages) - MAX_PAGES} more"] if len(pages) > MAX_PAGES else []
-    return f"{format_pid(packets.pid)}: announced {', '.join(announced) or 'nothing'}; subtitle " \
-        f"pages sent: {' '.join(pages[:MAX_PAGES] + more) or 'none'}"
+    return f"{format_pid(packets.pid)}: the PMT announces {', '.join(announced) or 'nothing'}; " \
+        f"subtitle pages sent: {' '.join(pages[:MAX_PAGES] + more) or 'none'}"
 
 
 def optional_number(word: str) -> int | None:
@@ -226,7 +226,7 @@ class Survey:
 
     def parse_damaged(self, pid: str, number: str, why: str, *_: str) -> None:
         self.get_packets(pid).damage = f"PES packet {number} " + {
-            "start": "does not begin with 00 00 01 BD", "cut": "is cut"}[why]
+            "start": "does not begin with 00 00 01 BD", "cut": "is incomplete"}[why]
 
     def parse_end(self, pid: str, *numbers: str) -> None:
         of_pid = self.get_packets(pid)
