@@ -42,7 +42,7 @@ ENTRY_LINE = re.compile(
 FILES = re.compile(r"FILE|DIR|FOLDER|LIST|STL|PES|OUT|IN|PROGRAM|FEED|TS|WORD")
 LINK = re.compile(r"\[([^]]*)\]\([^)]*\)")
 WIDTH = 100
-PAGE_REFERENCE = "All of it: "  # text before a reference from help text to a manual page
+PAGE_REFERENCE = "See also "  # text before a reference from help text to a manual page
 
 
 class Command(NamedTuple):

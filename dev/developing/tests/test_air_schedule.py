@@ -7,7 +7,7 @@ from developing.stl import box_line, make_gsi_block, make_subtitle_blocks
 from subtitles.air.schedule import length_of, read_schedule
 from .air import Air, DAY
 
-NO_TIME = "is not a time of air: begin the line with a date and a time that ends in Z or an " \
+NO_TIME = "is not an air time: begin the line with a date and a time that ends in Z or an " \
     "offset, as `2026-11-29T20:15:00Z news.stl`"
 
 # Lines of a schedule, each with the name and times of its programme, or with an error message.

@@ -33,7 +33,7 @@ def judge_parser() -> ToolParser:
     """Return the argument parser of the command `judge`."""
     parser = ToolParser("Judge the programmes of a schedule from segments of a feed, each once it "
                         "is over.")
-    parser.add_argument("schedule", metavar="SCHEDULE", help="read the times of air from this file")
+    parser.add_argument("schedule", metavar="SCHEDULE", help="read air times from this file")
     parser.add_argument("segments", metavar="SEGMENTS", help="read segments from this folder")
     parser.add_argument("-o", dest="out", metavar="OUT", required=True,
                         help="write results to OUT")

@@ -49,7 +49,7 @@ def time_of_air(text: str) -> float:
         if found:
             time = datetime.datetime.strptime(text, FORMATS[bool(found[1])])
             return time.astimezone(datetime.timezone.utc).timestamp()
-    raise Stop(f"{text} is not a time of air: begin the line with a date and a time that ends in Z "
+    raise Stop(f"{text} is not an air time: begin the line with a date and a time that ends in Z "
                f"or an offset, as `{EXAMPLE} news.stl`")
 
 
@@ -101,7 +101,7 @@ def parse_line(line: Line, folder: str, options: argparse.Namespace) -> Programm
         raise Stop(line.fault)
     begin, end = times_of_air(line.arguments[0])
     if len(line.arguments) < 2:
-        raise Stop("it has no subtitle file: write the time of air, then the subtitle file")
+        raise Stop("it has no subtitle file: write the air time, then the subtitle file")
     stl = os.path.join(folder, line.arguments[1])
     request = make_line_request([stl, RECORDING, *line.arguments[2:]], options, folder)
     if request.start or request.pes:

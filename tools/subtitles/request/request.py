@@ -160,7 +160,7 @@ def format_range(pes: tuple[int, int]) -> str:
 
 PROFILE = Record("profile", "", Member("name", Text()), Member("sha256", CHECKSUM))
 
-PART_NOTE = "null if qc chosen the value, which is then in see the part."
+PART_NOTE = "Null if qc chose the value, which is then in the part."
 
 OPTIONS: tuple[Option, ...] = (
     Option("--page", "P", "judge page P", MEASURED_PAIRS, "888", field="page", default=(0, 0x88),
