@@ -30,8 +30,8 @@ LINES = {
                                  f"line 1: 0001-01-01T00:00:00+23:00 {NO_TIME}"),
     "an end before it": ("2026-12-01T08:00:00Z/2026-12-01T07:00:00Z news.stl", "line 1: "
                          "2026-12-01T08:00:00Z/2026-12-01T07:00:00Z ends before it begins"),
-    "a time alone": ("2026-12-01T08:00:00Z", "line 1: it has no subtitle file: write the time of "
-                     "air, then the subtitle file"),
+    "a time alone": ("2026-12-01T08:00:00Z", "line 1: it has no subtitle file: write the air "
+                     "time, then the subtitle file"),
     "a wrong option": ("2026-12-01T08:00:00Z news.stl --colour",
                        "line 1: unrecognized arguments: --colour"),
     "a place in a recording": ("2026-12-01T08:00:00Z news.stl --start 10:00:00:00",
