@@ -22,7 +22,7 @@ from ..common.times import EARLY_TICKS, TICKS, wrap_pts
 from ..stream.packets import HEADER, Packets, PageChange, Range, Texts
 
 VOTES = 1_000_000  # maximum number of pairs of a cue and a page change to compare
-REPEATED = 20  # maximum number of cues with the same text, for the text to be compared
+REPEATED = 20  # a text that more cues have is not compared
 TRIED = 64  # maximum number of origins to compare with all cues
 MAX_CUE_OFFSET = 50  # maximum difference between the delays of in-cues and out-cues, in frames
 MAX_BASES = 32  # maximum number of time bases to search
@@ -30,10 +30,8 @@ MAX_ERASED = 5  # maximum number of frames without a text that are not treated a
 
 
 class ExpectedSubtitle(NamedTuple):
-    """A subtitle that is shown from frame `begin` and erased at frame `end`.
-
-    `look` has its text, row and justification, and `letters` only its characters.
-    """
+    """A subtitle that is shown from frame `begin` and erased at frame `end`. `look` has its text,
+    row and justification, and `letters` only its characters."""
 
     begin: int
     end: int
@@ -42,10 +40,7 @@ class ExpectedSubtitle(NamedTuple):
 
 
 class ExpectedCue(NamedTuple):
-    """A change of the expected page: its frame and the new characters.
-
-    `is_begin` is true for an in-cue and false for an out-cue.
-    """
+    """A cue: its frame, the new characters of the expected page, and whether it is an in-cue."""
 
     frame: int
     letters: bytes
@@ -53,40 +48,28 @@ class ExpectedCue(NamedTuple):
 
 
 class OriginFit(NamedTuple):
-    """An origin and the number of cues that match.
-
-    `total` counts the cues during the recording, and `matches` those that match a page change.
-    `content_matches` counts the matches with the expected page, `text_matches` those of them with a
-    text, and `exact_matches` the matches at the start of a frame. `first_text` is the frame of the
-    first text match, and `first_unmatched` the frame of the first cue without a match. `start` is
-    the frame of the first PTS. With --within N, `delays` has the delay of each match.
-    """
+    """An origin and the number of cues that match."""
 
     origin: int
-    matches: int
-    content_matches: int
-    text_matches: int
-    exact_matches: int
-    total: int
-    first_text: int | None
-    first_unmatched: int | None
-    start: int
-    delays: Sequence[int] = ()
+    matches: int  # cues that match a page change
+    content_matches: int  # matches with the expected page
+    text_matches: int  # content matches whose page has text
+    exact_matches: int  # matches at the start of a frame
+    total: int  # cues during the recording
+    first_text: int | None  # frame of the first text match
+    first_unmatched: int | None  # frame of the first cue without a match
+    start: int  # frame of the first PTS
+    delays: Sequence[int] = ()  # delay of each match, with --within N
 
     def score(self, counts_erasures: bool = True) -> int:
-        """Return the score of an origin. Cues with the expected page count twice.
-
-        If `counts_erasures` is false, an erasure counts once.
-        """
+        """Return the sum of all matches and the content matches. If `counts_erasures` is false,
+        content matches without a text don't count."""
         return self.matches + (self.content_matches if counts_erasures else self.text_matches)
 
 
 class CueOffset(NamedTuple):
-    """A constant delay between in-cues and out-cues, in frames.
-
-    If `is_begin` is true, in-cues have this delay relative to out-cues. Otherwise out-cues have it
-    relative to in-cues. `matches` of `total` cues have the delay.
-    """
+    """A constant delay, in frames, that `matches` of `total` cues have: of in-cues relative to
+    out-cues if `is_begin`, otherwise of out-cues relative to in-cues."""
 
     is_begin: bool
     delay: int
@@ -95,10 +78,8 @@ class CueOffset(NamedTuple):
 
 
 class MatchedChange(NamedTuple):
-    """A page change, with its delay in frames after a cue and the characters of the new page.
-
-    `ticks` is the distance of its PTS from the start of its frame.
-    """
+    """A page change: its delay in frames after a cue, the characters of the new page, and the ticks
+    from the start of its frame to its PTS."""
 
     delay: int
     letters: bytes
@@ -119,10 +100,8 @@ def find_expected_cues(subtitles: Sequence[ExpectedSubtitle]) -> list[ExpectedCu
 
 
 class TimeBase:
-    """A part of a recording in which PTS increase, and its page changes.
-
-    The keys of `changes` are numbers of frames since the first header.
-    """
+    """A part of a recording in which PTS increase, and its page changes. The keys of `changes` are
+    numbers of frames since the first header."""
 
     def __init__(self, cues: Sequence[ExpectedCue], changes: Sequence[PageChange], first: int,
                  last: int, packets: Range, within: int) -> None:
@@ -153,14 +132,13 @@ class TimeBase:
             before = change.rows
 
     def split_distance(self, pts: int) -> tuple[int, int]:
-        """Return the number of whole frames from the first PTS to `pts`, and the remaining ticks.
-        """
+        """Return the whole frames from the first PTS to `pts`, and the remaining ticks."""
         early = EARLY_TICKS if self.within else TICKS // 2
         frames, ticks = divmod(wrap_pts(pts - self.first + early), TICKS)
         return frames, ticks - early
 
     def copy_between(self, cues: Sequence[ExpectedCue], low: int, high: int) -> TimeBase:
-        """Return a copy with the cues `cues`, and without page changes outside `low` to `high`."""
+        """Return a copy with the given cues and the page changes between `low` and `high`."""
         base = copy.copy(self)
         base.__dict__.pop("fits", None)
         base.cues, base.frames = cues, [cue.frame for cue in cues]
@@ -168,10 +146,7 @@ class TimeBase:
         return base
 
     def find_match(self, cue: ExpectedCue, start: int) -> MatchedChange | None:
-        """Return the page change that matches a cue, or `None` if there is none.
-
-        `start` is the assumed frame of the first PTS.
-        """
+        """Return the page change that matches a cue if the first PTS is at frame `start`."""
         if not self.within:
             return self.changes.get(cue.frame - start)
         for delay in range(self.within + 1):
@@ -182,11 +157,9 @@ class TimeBase:
 
     @functools.cached_property
     def fits(self) -> list[OriginFit]:
-        """Return the most likely origins, in descending order of their scores.
-
-        If scores are equal, an origin with more text matches is first. If these are equal too, the
-        origin whose first text match is earliest is the first of all.
-        """
+        """Return the most likely origins, best score first. If scores are equal, an origin with
+        more text matches comes first; of equal best origins, the one whose first text match is
+        earliest."""
         if not self.cues or not self.changes:
             return []
         votes = self.votes()
@@ -208,10 +181,8 @@ class TimeBase:
             fit is not first, -fit.score(), -fit.text_matches, fit.start))
 
     def votes(self) -> collections.Counter[int]:
-        """Return, for each start frame, the number of cues that match a page change.
-
-        If there are too many cues and page changes to compare, use only every n-th page change.
-        """
+        """Return, for each start frame, the number of cues that match a page change. If there are
+        too many combinations, use only every n-th page change."""
         places = sorted(self.changes)
         voting = places[::len(places) * len(self.cues) // VOTES + 1]
         return collections.Counter(itertools.starmap(operator.sub, itertools.product(
@@ -238,8 +209,7 @@ class TimeBase:
         return self.fit(start - least) if least else fit
 
     def compare(self, start: int) -> OriginFit:
-        """Compare the cues with the page changes, assuming that the first PTS is at frame `start`.
-        """
+        """Compare the cues with the page changes if the first PTS is at frame `start`."""
         inside = self.cues[bisect.bisect_left(self.frames, start):
                            bisect.bisect_right(self.frames, start + self.length)]
         pairs = [(cue, change) for cue in inside if (change := self.find_match(cue, start))]
@@ -256,7 +226,7 @@ class TimeBase:
                          next(unmatched, None) if len(pairs) < len(inside) else None, start, delays)
 
     def find_cue_offset(self, fit: OriginFit) -> CueOffset | None:
-        """Return the constant delay between in-cues and out-cues, or `None` if there is none."""
+        """Return the constant delay between in-cues and out-cues, if there is one."""
         for is_begin in (True, False):
             before_offset = self.count_delayed(fit, is_begin, 0)
             if before_offset.total and before_offset.matches * 2 >= before_offset.total:
@@ -272,10 +242,7 @@ class TimeBase:
         return None
 
     def count_delayed(self, fit: OriginFit, is_begin: bool, delay: int) -> CueOffset:
-        """Return the number of in-cues that are `delay` frames late.
-
-        If `is_begin` is false, return the number of such out-cues.
-        """
+        """Count the cues, in-cues if `is_begin` or else out-cues, that are `delay` frames late."""
         expected_texts = [(at, cue.letters) for cue in self.cues if cue.is_begin == is_begin
                           and 0 <= (at := cue.frame - fit.start + delay) <= self.length]
         matches = sum(at in self.changes and self.changes[at].letters == letters
@@ -283,19 +250,14 @@ class TimeBase:
         return CueOffset(is_begin, delay, matches, len(expected_texts))
 
     def align_in_cues(self, fit: OriginFit) -> OriginFit:
-        """Return the origin of the in-cues if it differs from the origin of the out-cues.
-
-        Otherwise return `fit`.
-        """
+        """Return the origin of the in-cues if it is another one than the out-cues', else `fit`."""
         cue_offset = self.find_cue_offset(fit)
         return self.fit(fit.start - cue_offset.delay) if cue_offset and cue_offset.is_begin else fit
 
 
 def skip_repeats(changes: Sequence[PageChange], most: int) -> Iterator[PageChange]:
-    """Yield the page changes without short erasures.
-
-    If a text is erased and sent again within `most` frames, skip the erasure and the repeat.
-    """
+    """Yield the page changes. If a text is erased and sent again within `most` frames, skip the
+    erasure and the repeat."""
     at = 0
     while at < len(changes):
         yield changes[at]
@@ -306,10 +268,8 @@ def skip_repeats(changes: Sequence[PageChange], most: int) -> Iterator[PageChang
 
 
 def find_repeat(changes: Sequence[PageChange], at: int, most: int) -> int | None:
-    """Return the index of the change that repeats the text of `changes[at]` after its erasure.
-
-    Return `None` if there is no repeat within `most` frames.
-    """
+    """Return the index of the change that repeats the text of `changes[at]` within `most` frames
+    after its erasure."""
     text, after = changes[at], changes[at + 1:at + 26]
     if not text.letters or not after or after[0].letters:
         return None
@@ -322,10 +282,7 @@ def find_repeat(changes: Sequence[PageChange], at: int, most: int) -> int | None
 
 def find_time_bases(subtitles: Sequence[ExpectedSubtitle], packets: Packets, within: int,
                     inside: Range | None = None) -> list[TimeBase]:
-    """Return the time bases in which the page changes.
-
-    `inside` is the range of PES packets to use; `None` means all.
-    """
+    """Return the time bases in which the page changes; use only the PES packets in `inside`."""
     cues, bases = find_expected_cues(subtitles), []
     run_starts = [run.first for run in packets.runs]
     for base, changes in select_time_bases(packets, inside or (0, packets.count - 1)):
@@ -340,9 +297,7 @@ def find_time_bases(subtitles: Sequence[ExpectedSubtitle], packets: Packets, wit
 
 def select_time_bases(packets: Packets, inside: Range) -> list[tuple[range, Sequence[PageChange]]]:
     """Return the ranges of PES packets between jumps back of the PTS, with their page changes.
-
-    Return at most `MAX_BASES` ranges, namely those with the most page changes.
-    """
+    Return only the `MAX_BASES` ranges with the most page changes."""
     numbers = [change.number for change in packets.changes]
     candidates = []
     for base_numbers in packets.time_bases():
@@ -363,18 +318,16 @@ def select_time_bases(packets: Packets, inside: Range) -> list[tuple[range, Sequ
 # takes no time to send. If a few cues are early on that clock, they are early subtitles. If there
 # are many, the inserter may delay all other subtitles; then the operator must give the clock.
 
-COMMON = 2  # a usual delay has at least 1/2 of the number of cues with the most common delay
-FEW_CUES = 3  # a usual delay has at least 3 cues, unless no delay has 3
+COMMON = 2  # a delay is usual if at least half as many cues have it as have the most common delay
+FEW_CUES = 3  # a delay is usual only if at least 3 cues have it, unless no delay has 3 cues
 FEW_ENDS = 10  # out-cues are ignored if they are less than 1/10 of all cues
 RARE = 20  # minimum share of early cues (1/20) for which the operator must give the clock
 UNSEEN_SHARE = 0.002  # minimum probability of a delay, and probability of a cue without a match
 
 
 class EarlyCues(NamedTuple):
-    """The number of early cues, and the total number of matching cues.
-
-    `frames` is the maximum number of frames by which a cue is early.
-    """
+    """The number of early cues, the total number of matching cues, and the maximum number of frames
+    by which a cue is early."""
 
     early_count: int
     total: int
@@ -382,16 +335,14 @@ class EarlyCues(NamedTuple):
 
     @property
     def is_common_delay(self) -> bool:
-        """Return whether there are so many early cues that the inserter may delay the others."""
+        """Return whether many cues are early, so that the other cues may be late instead."""
         return self.early_count * RARE >= self.total
 
 
 def choose_clock(base: TimeBase, fit: OriginFit,
                  lateness: Lateness | None) -> tuple[OriginFit, EarlyCues | None]:
     """Correct the estimated clock `fit` by the usual delay, or by `lateness` (the option --late).
-
-    Without `lateness`, also return the number of early cues, if any.
-    """
+    Without `lateness`, also return the number of early cues, if any."""
     if not base.within or not fit.matches:
         return fit, None
     if lateness:
@@ -428,8 +379,7 @@ def find_usual_delay(begins: Mapping[int, int], ends: Mapping[int, int]) -> int:
 
 
 def find_likeliest_clock(base: TimeBase, fit: OriginFit, lateness: Lateness) -> OriginFit:
-    """Return the clock near the estimated clock `fit` that makes the observed delays most likely.
-    """
+    """Return the clock near the clock `fit` that makes the observed delays most likely."""
     near = range(-base.within, 2 * base.within + 1)
     patterns = collections.Counter(
         (cue.is_begin, tuple(by for by in near if base.has_text_at(cue, fit.start - by)))
@@ -452,17 +402,15 @@ def find_likeliest_clock(base: TimeBase, fit: OriginFit, lateness: Lateness) -> 
 FEW_TEXTS = 6  # minimum number of texts that are expected once and sent once
 LEAST_DRIFT = 2  # minimum drift, in frames
 NEAR_LINE = 1.5  # maximum distance in frames between a delay and the regression line
-MAX_OFF = 10  # at most 1/10 of the delays may be farther from the line
+MAX_OFF = 10  # at most 1/10 of the delays may be farther from the line than `NEAR_LINE`
 # The line must explain all but 1/5 of the variance of the delays. A line through delays that
 # change only once leaves at least 1/4.
 MAX_LEFT = 5
 
 
 class Drift(NamedTuple):
-    """A steady change of the delay by `frames` from frame `first` to frame `last`.
-
-    `frames` is negative if the subtitles become early.
-    """
+    """A steady change of the delay by `frames` from frame `first` to frame `last`. It is negative
+    if the subtitles become early."""
 
     first: int
     last: int
@@ -470,10 +418,8 @@ class Drift(NamedTuple):
 
 
 def find_drift(cues: Sequence[ExpectedCue], changes: Mapping[int, MatchedChange]) -> Drift | None:
-    """Return the drift of the delays, or `None` if they do not change steadily.
-
-    Only texts that are expected once and sent once are compared.
-    """
+    """Return the drift of the delays, or `None` if they do not change steadily. Compare only texts
+    that are expected once and sent once."""
     due = find_single_texts((cue.frame, cue.letters) for cue in cues)
     sent = find_single_texts((at, change.letters) for at, change in changes.items())
     frames = sorted(frame for letters, frame in due.items() if letters in sent)

@@ -23,72 +23,58 @@ from .stretches import (
     select_other_origins, split_at_breaks)
 
 
-NEAR = 10 * FRAMES_A_SECOND  # maximum distance from origin 0 that is printed, in frames
+# An origin is reported if its distance from 0 is at most this number of frames.
+NEAR = 10 * FRAMES_A_SECOND
 NAMED = 5  # maximum number of origins or pages to list
 LISTED = 20  # maximum number of changes of the delay to list
 
 
 class OriginSearch(NamedTuple):
-    """A request to estimate the origin from the subtitles of a file and a page of a recording.
-
-    `origin` is the known origin, if any. `within` is the allowed delay in frames, and `breaks` the
-    number of breaks. `inside` is the range of PES packets to use, and `between` the range of frames
-    in which subtitles begin. `left_out` has the positions of subtitles to ignore.
-    """
+    """A request to estimate the origin from the subtitles of a file and a page of a recording."""
 
     stl: str
     name: str
     page: Page = (0, 0x88)
     option: str = "english"
-    origin: int | None = None
-    within: int = 0
-    breaks: int = 0
-    inside: Range | None = None
-    between: Between = ALL_DAY
-    left_out: Collection[int] = ()
+    origin: int | None = None  # the known origin, if any
+    within: int = 0  # allowed delay in frames
+    breaks: int = 0  # number of breaks
+    inside: Range | None = None  # PES packets to use
+    between: Between = ALL_DAY  # range of frames in which subtitles begin
+    left_out: Collection[int] = ()  # positions of subtitles to ignore
     lateness: Lateness | None = None  # the option --late
     has_picture: bool = False  # whether the operator may use `--start`
 
 
 class PartOrigin(NamedTuple):
-    """The origin of a part, and the number of its cues that match.
-
-    `packets` is its range of PES packets, if PTS go back somewhere in the recording. `frames` has
-    its first and last frame, if there are several parts. `line` reports how many cues match.
-    """
+    """The origin of a part, and the number of its cues that match."""
 
     origin: int
-    packets: Range | None = None
-    frames: tuple[int, int] | None = None
+    packets: Range | None = None  # its PES packets, if the PTS go back somewhere in the recording
+    frames: tuple[int, int] | None = None  # its first and last frame, if there are several parts
     matches: int = 0
     total: int = 0
-    line: str = ""
+    line: str = ""  # reports how many cues match
 
 
 @dataclasses.dataclass
 class OriginEstimate:
-    """The result of estimating the origin of a recording.
+    """The result of estimating the origin of a recording."""
 
-    `status` is 0 if the origin is unambiguous; `parts` then has the origin of each part. `airings`
-    has the PES packets of each airing of the programme, if there are several. `breaks` is the
-    number of breaks in the recording, if it differs from --breaks. `ticks_late` is the delay of the
-    first part relative to the known origin. `has_all_cues` is true if all cues of the first part
-    match, or if all its in-cues or out-cues have the same delay. `first_shift` is the first frame
-    with another delay, and `shift_texts` lists the changes of the delay. `printed` has the options
-    for standard output, and `lines` the messages.
-    """
-
-    status: int = 1
+    status: int = 1  # 0 if the origin is unambiguous
+    # The origin of each part, if the status is 0
     parts: list[PartOrigin] = dataclasses.field(default_factory=list)
+    # PES packets of each airing of the programme, if there are several
     airings: list[Range] = dataclasses.field(default_factory=list)
-    breaks: int | None = None
-    ticks_late: int | None = None
+    breaks: int | None = None  # number of breaks, if it differs from --breaks
+    ticks_late: int | None = None  # delay of the first part relative to the known origin
+    # Whether all cues of the first part match, or all its in-cues or out-cues have the same delay
     has_all_cues: bool = True
     matches_every_cue: bool = False  # whether every cue of the file matches the expected page
-    first_shift: int | None = None
-    shift_texts: list[str] = dataclasses.field(default_factory=list)
-    printed: list[str] = dataclasses.field(default_factory=list)
-    lines: list[str] = dataclasses.field(default_factory=list)
+    first_shift: int | None = None  # first frame with another delay
+    shift_texts: list[str] = dataclasses.field(default_factory=list)  # changes of the delay
+    printed: list[str] = dataclasses.field(default_factory=list)  # options for standard output
+    lines: list[str] = dataclasses.field(default_factory=list)  # messages
 
 
 def subtitles_between(path: str, option: str, between: Between,
@@ -138,11 +124,8 @@ def estimate_origin(search: OriginSearch, packets: Packets) -> OriginEstimate:
 
 
 def report_sent_pages(packets: Packets, search: OriginSearch, lines: list[str]) -> bool:
-    """Return whether the page was sent.
-
-    Append messages about skipped PES packets to `lines`. If the page was not sent, also append a
-    message with the other pages.
-    """
+    """Return whether the page was sent. Append messages to `lines` about skipped PES packets and,
+    if the page was not sent, about the other pages."""
     count, marks = packets.count, len(packets.gap_markers)
     timed = sum(run.length for run in packets.runs_with_pts())
     if packets.damage:
@@ -196,11 +179,8 @@ def store_first_part(origin: OriginEstimate, search: OriginSearch, bases: Sequen
 
 
 def prefer_known_origin(part: EstimatedPart, known: int | None) -> EstimatedPart:
-    """Return a part with the known origin if the estimated origin matches only the first page.
-
-    The first page is no evidence: if a recording begins during a subtitle, its first header looks
-    like a late in-cue.
-    """
+    """Return a part with the known origin if the estimated origin matches only the first page. That
+    is no evidence: if a recording begins during a subtitle, its first header seems late."""
     # The page changes without the first one, which is at frame 0.
     sent = part.time_base.copy_between(part.time_base.cues, 0, part.time_base.length +
                                        1)
@@ -242,10 +222,8 @@ def store_parts(origin: OriginEstimate, search: OriginSearch, bases: Sequence[Ti
 
 def add_part(origin: OriginEstimate, part: EstimatedPart, packets: Range | None,
              frames: tuple[int, int] | None, count: int) -> None:
-    """Store a part whose origin is unambiguous, and its command-line options.
-
-    `count` is the number of cues in the file.
-    """
+    """Store a part whose origin is unambiguous, and its command-line options. `count` is the number
+    of cues in the file."""
     between = f"--from {time_of(frames[0])} --to {time_of(frames[1])} " if frames else ""
     pes = f"--pes {packets[0]}-{packets[1]} " if packets else ""
     best = part.best
@@ -256,9 +234,7 @@ def add_part(origin: OriginEstimate, part: EstimatedPart, packets: Range | None,
 
 def compare_with_known(origin: OriginEstimate, known: int | None, part: EstimatedPart) -> None:
     """Store whether all cues of the first part match, and its delay relative to the known origin.
-
-    Without a known origin, report the delay relative to --origin 0 if it is short.
-    """
+    Without a known origin, report the delay relative to --origin 0 if it is short."""
     best, cue_offset = part.best, part.time_base.find_cue_offset(part.best)
     origin.has_all_cues = best.matches == best.total or bool(
         cue_offset and cue_offset.matches == cue_offset.total)
@@ -271,10 +247,8 @@ def compare_with_known(origin: OriginEstimate, known: int | None, part: Estimate
 
 
 def explain_mismatch(packets: Packets, page: Page) -> Iterator[str]:
-    """Yield reasons why cues may not match.
-
-    These are rows that were sent while the page was not open, and sub-pages.
-    """
+    """Yield possible reasons why cues do not match: rows that were sent outside a transmission of
+    the page, and sub-pages."""
     name = page_name(*page)
     if packets.stray_rows:
         count = sum(run.length for run in packets.runs if STRAY in run.flags)
@@ -292,11 +266,8 @@ def offset_text(ticks: int) -> str:
 
 
 def find_equal_origins(part: EstimatedPart) -> list[OriginFit]:
-    """Return the origins that are as likely as the best origin of a part.
-
-    If in-cues and out-cues have different delays, ignore nearby origins and those at which only
-    erasures match.
-    """
+    """Return the origins that are as likely as the best origin of a part. If in-cues and out-cues
+    have different delays, ignore nearby origins and those at which only erasures match."""
     best, cue_offset = part.best, part.time_base.find_cue_offset(part.best)
     ways = (True,) if best.matches >= LEAST_ROW else (True, False)
     return [fit for fit in part.others if any(fit.score(one) >= best.score(one) for one in ways)
@@ -305,18 +276,15 @@ def find_equal_origins(part: EstimatedPart) -> list[OriginFit]:
 
 
 def is_clear(part: EstimatedPart, is_known: bool = False) -> bool:
-    """Return whether the origin of a part is unambiguous.
-
-    If `is_known` is false, too many early cues make it ambiguous.
-    """
+    """Return whether the origin of a part is unambiguous. If `is_known` is false, too many early
+    cues make it ambiguous."""
     is_open = part.early is not None and part.early.is_common_delay and not is_known
     return not find_equal_origins(part) and not is_open and (
         part.best.matches * 2 >= part.best.total or bool(part.time_base.find_cue_offset(part.best)))
 
 
 def format_match(part: EstimatedPart, count: int) -> str:
-    """Return a line with the number of cues that match; `count` is the number of all cues in the
-    file."""
+    """Return a line with the number of matching cues; `count` is the number of cues in the file."""
     best, others, cues = part.best, part.others, len(part.time_base.cues)
     following = f"the next best is --origin {others[0].origin} with " \
         f"{counted(others[0].matches, 'cue')}" if others else "no other origin matches a cue"
@@ -327,8 +295,7 @@ def format_match(part: EstimatedPart, count: int) -> str:
 
 
 def format_part(part: EstimatedPart, count: int, has_picture: bool = False) -> Iterator[str]:
-    """Yield the report lines about the origin of a part; `count` is the number of cues in the file.
-    """
+    """Yield the report on the origin of a part. `count` is the number of cues in the file."""
     best = part.best
     yield format_match(part, count)
     if part.time_base.within:
@@ -359,7 +326,7 @@ def format_part(part: EstimatedPart, count: int, has_picture: bool = False) -> I
 
 
 def early_line(early: EarlyCues, has_picture: bool) -> str:
-    """Return a line that reports early cues. If there are many, it asks for the clock."""
+    """Report early cues. If there are many, ask the operator to give the clock."""
     count = f"{early.early_count} of {counted(early.total, 'cue')} " \
         f"{'is' if early.early_count == 1 else 'are'} up to {counted(early.frames, 'frame')} " \
         "early compared with the other cues"
@@ -394,8 +361,7 @@ def shift_lines(row: Sequence[Stretch], parts: Sequence[EstimatedPart], known: i
 
 
 def format_breaks(parts: Sequence[EstimatedPart]) -> Iterator[str]:
-    """Yield a line for each part but the first: its start, and the length of the break before it.
-    """
+    """Yield a line for each later part: its start, and the length of the break before it."""
     for number, (previous, part) in enumerate(zip(parts, parts[1:]), 2):
         frames, rest = divmod(abs(gap_ticks := ticks_between(previous.origin, part.origin)), TICKS)
         length = time_of(frames) + (f" and {counted(rest, 'tick')}" if rest else "")
@@ -406,8 +372,8 @@ def format_breaks(parts: Sequence[EstimatedPart]) -> Iterator[str]:
 
 def find_airing_packets(airings: Sequence[Airing], number: int, bases: Sequence[TimeBase],
                         packets: Packets) -> Range:
-    """Return the PES packets after the last page change of the previous airing and before the first
-    page change of the next airing."""
+    """Return the PES packets between the last page change of the previous airing and the first page
+    change of the next airing."""
     first, last = bases[0].packets[0], bases[-1].packets[1]
     if number:
         first = find_packet_number(airings[number - 1].last, bases, packets) + 1

@@ -24,20 +24,18 @@ ESTIMATED_LATER_NOTE = "the clock after a break was estimated, so a delay that a
 
 
 class Clock(NamedTuple):
-    """An origin and its source, which is a key of `SOURCES`.
-
-    `delay_frames` is the delay of the cues, or `None` if the clock was estimated from the cues and
-    so includes the delay. If `is_delay_of_all` is true, every cue of the file has this delay.
-    `evidence` explains an estimated clock. `picture_offset` is the number of frames by which the
-    clock would be later if the time code of `--start` belonged to another picture.
-    """
+    """An origin and its source, which is a key of `SOURCES`."""
 
     origin: int
     source: str
+    # Delay of the cues. It is `None` if the clock was estimated from the cues and so includes the
+    # delay.
     delay_frames: int | None = None
-    evidence: Selection | None = None
+    evidence: Selection | None = None  # explains an estimated clock
+    # Frames by which the clock would be later if the time code of `--start` belonged to another
+    # picture
     picture_offset: int = 0
-    is_delay_of_all: bool = False
+    is_delay_of_all: bool = False  # whether every cue of the file has this delay
 
     def get_selection(self, part: int | None) -> Selection | None:
         """Return the `Selection` to report for an estimated clock, or `None` for other clocks."""
@@ -54,10 +52,8 @@ class Clock(NamedTuple):
         return f"origin {self.origin}, {SOURCES[self.source]}"
 
     def question(self) -> str:
-        """Return the question whether the time code belongs to another picture.
-
-        Return an empty string unless the delay equals the distance to that picture.
-        """
+        """Ask whether the time code belongs to another picture, if the delay equals the distance to
+        that picture. Otherwise return an empty string."""
         if not self.picture_offset or self.delay_frames != self.picture_offset:
             return ""
         return "is the time code from the GOP header? That belongs to the first picture in " \
@@ -67,17 +63,13 @@ class Clock(NamedTuple):
 
 
 class TimedPart(NamedTuple):
-    """A part of the subtitle file that is judged with one clock.
+    """A part of the subtitle file that is judged with one clock."""
 
-    `begin` and `end` are its frames. `packets` is its range of PES packets, if PTS go back
-    somewhere in the recording. `between` is the range of frames in which its subtitles begin.
-    """
-
-    begin: int
-    end: int
+    begin: int  # its first TCI
+    end: int  # its last TCO
     clock: Clock
-    packets: Range | None = None
-    between: Between = ALL_DAY
+    packets: Range | None = None  # its PES packets, if the PTS go back somewhere in the recording
+    between: Between = ALL_DAY  # range of frames in which its subtitles begin
 
     @property
     def origin(self) -> int:
@@ -103,19 +95,14 @@ class NoFirstPicture(Exception):
 
 
 class FirstPicture(NamedTuple):
-    """The first picture of a recording.
+    """The first picture of a recording. Two pictures may be the first: the one with the
+    random_access_indicator, and the one with the smallest PTS of the same group of pictures."""
 
-    `pid` and `kind` are the video PID and its stream_type. `skipped` is the number of PES packets
-    of video before the picture. Two pictures may be the first: the one with the
-    random_access_indicator, and the one with the smallest PTS of the same group of pictures. `pts`
-    is the PTS of the chosen picture. If there are two, `other` is the PTS of the other picture.
-    """
-
-    pid: int
-    kind: int
-    pts: int
-    skipped: int
-    other: int | None = None
+    pid: int  # PID of the video
+    kind: int  # its stream_type
+    pts: int  # PTS of the chosen picture
+    skipped: int  # PES packets of video before this picture
+    other: int | None = None  # PTS of the other picture, if there are two
 
     @property
     def picture_offset(self) -> int:
@@ -144,10 +131,8 @@ class StartClock(NamedTuple):
 
 
 def find_video(survey: Survey, teletext: int) -> tuple[int, int]:
-    """Return the video PID that belongs to a Teletext PID, and its stream_type.
-
-    Raise `NoFirstPicture` if there is not exactly one, or if its format is not supported.
-    """
+    """Return the video PID that belongs to a Teletext PID, and its stream_type. Raise
+    `NoFirstPicture` if there is not exactly one, or if its format is not supported."""
     programmes = survey.programmes_of(teletext)
     if not programmes:
         raise NoFirstPicture(f"no PMT names {format_pid(teletext)}")
@@ -201,11 +186,8 @@ def find_first_picture(survey: Survey, teletext: int) -> FirstPicture:
 
 
 def count_skipped(pts: list[int], is_cut: bool) -> int:
-    """Return the number of frames without a picture, from the PTS of the first pictures.
-
-    If the recording is cut off, ignore the last pictures: pictures shown between them may be
-    missing.
-    """
+    """Return the number of frames without a picture, from the PTS of the first pictures. If the
+    recording is cut off, ignore the last pictures: pictures shown between them may be missing."""
     shown_at = sorted(ticks_between(pts[0], one) for one in pts)
     if is_cut or shown_at[-1] - shown_at[0] > LONGEST:
         del shown_at[-REORDERED:]
@@ -231,11 +213,8 @@ def clock_advice(has_picture: bool) -> str:
 
 def find_frame_offset(packets: Packets, pts: int, within: int) -> int:
     """Return the most common distance in ticks (0 to 3599) from the start of a frame to the PTS of
-    Teletext.
-
-    A frame starts at the PTS `pts` of a picture. If `within` is not 0, prefer distances near a
-    whole frame: Teletext may have a PTS for each of the two fields of a frame.
-    """
+    Teletext. A frame starts at the PTS `pts` of a picture. If `within` is not 0, prefer distances
+    near a whole frame: Teletext may have a PTS for each of the two fields of a frame."""
     ticks: collections.Counter[int] = collections.Counter()
     for _, (sent, _) in zip(range(MAX_SAMPLES), ((sent, 0) for sent in packets.pts())):
         ticks[ticks_after(pts, sent) % TICKS] += 1
@@ -280,10 +259,8 @@ def compute_start_clock(request: Request, survey: Survey, packets: Packets) -> S
 
 def refuse_outside(request: Request, began: StartClock, begin: int, end: int,
                    last: int | None) -> None:
-    """Raise `Unclear` if subtitles lie outside the recording, assuming that it begins at the TCP.
-
-    `begin` and `end` are the frames of the subtitles, and `last` is the last PTS.
-    """
+    """Raise `Unclear` if the subtitles from frame `begin` to `end` lie outside the recording,
+    assuming that it begins at the TCP and ends at the PTS `last`."""
     if begin < began.frame:
         raise Unclear(f"the first subtitle of {request.stl} begins at {time_of(begin)}, before "
                       f"its TCP {time_of(began.frame)}, at which the recording would begin")
@@ -304,7 +281,6 @@ def find_largest_offset(several: Sequence[int], origin: int) -> int:
 
 
 def largest_offset_text(most: int) -> str:
-    """Return the largest distance of PTS from their frames as text, or an empty string if it is 0.
-    """
+    """Return the largest distance of PTS from their frames as text, or "" if it is 0."""
     return f"PTS differ from their frames by up to {counted(most, 'tick')} " \
         f"({most / MILLISECOND:.2f} ms)" if most else ""

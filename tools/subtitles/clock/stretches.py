@@ -20,7 +20,7 @@ from .alignment import (
 
 LEADERS = 8  # number of best sequences of tracks for which a change of track is considered
 LEAST_ROW = 5  # minimum number of consecutive cues that must match on a new track
-NEW_TRACK = LEAST_ROW - 1  # cost of a change of track, in points
+NEW_TRACK = LEAST_ROW - 1  # cost of a change of track, in points (see `Track.points`)
 LEAST_BREAK = 5 * FRAMES_A_SECOND  # minimum length of a break; a shorter shift is a delay
 LEAST_GAP = 60 * FRAMES_A_SECOND  # minimum jump of the time codes in the file at a break
 TEXT_POINTS = 3  # points of a cue whose expected text is sent
@@ -31,12 +31,9 @@ Place = tuple[int, int]
 
 
 class Track:
-    """A possible origin in a time base, whose number is `base`.
-
-    `places` has the frame of each cue in the time base. `points` has the points of each cue: 3 if
-    the expected text is sent, 2 if the page is erased as expected, 1 for another page change, and 0
-    for no change.
-    """
+    """A possible origin in the time base with number `base`. `places` has the frame of each cue in
+    the time base. `points` has a score for each cue: 3 if the expected text is sent, 2 if the page
+    is erased as expected, 1 for another page change, and 0 for no change."""
 
     def __init__(self, number: int, start: int, base: TimeBase) -> None:
         self.base, self.start, self.within, self.cues = number, start, base.within, base.cues
@@ -49,22 +46,19 @@ class Track:
 
     @functools.cached_property
     def row_lengths(self) -> list[int]:
-        """Return, for each cue, the number of consecutive matching cues that begin with it."""
+        """Return, for each cue, the number of consecutive matching cues, starting with this cue."""
         rows = itertools.accumulate(reversed(self.points), lambda row, one: row + 1 if one else 0,
                                     initial=0)
         return list(rows)[:0:-1]
 
     def rank(self) -> tuple[int, int, int]:
-        """Return a sort key: descending points, then ascending delay and place of the first text.
-        """
+        """Return a sort key: most points, then smallest delay, then earliest cue with its text."""
         first = self.points.index(TEXT_POINTS) if TEXT_POINTS in self.points else len(self.cues)
         return -sum(self.points), self.total_delay, first
 
     def may_follow(self, previous: Track, frames: int) -> bool:
-        """Return whether a cue on this track is sent after a cue on the track `previous`.
-
-        `frames` is the expected distance between the cues.
-        """
+        """Return whether a cue on this track is sent after a cue on the track `previous`. `frames`
+        is the expected distance between the cues."""
         return self.base > previous.base or \
             self.base == previous.base and frames > self.start - previous.start
 
@@ -83,10 +77,8 @@ class Stretch(NamedTuple):
 
 
 def find_stretches(bases: Sequence[TimeBase]) -> list[Stretch]:
-    """Divide all cues into stretches.
-
-    Return an empty list if five consecutive cues never match at the same origin.
-    """
+    """Divide all cues into stretches. Return an empty list if five consecutive cues never match at
+    the same origin."""
     candidates = [(number, base) for number, base in enumerate(bases)
                   if len(base.changes) >= LEAST_ROW]
     for number, base in candidates:
@@ -109,15 +101,11 @@ def find_stretches(bases: Sequence[TimeBase]) -> list[Stretch]:
 
 
 class TrackSequence(NamedTuple):
-    """A sequence of tracks for the first cues of the file.
+    """A sequence of tracks for the first cues of the file."""
 
-    `turns` has each track with its first cue. `points` is the sum of the points of the cues, less
-    the cost of the changes of track. `nearness` is higher if the origins of the tracks are closer.
-    """
-
-    points: int
-    nearness: int
-    turns: tuple[tuple[int, Track], ...]
+    points: int  # sum of the points of the cues, minus `NEW_TRACK` for each change of track
+    nearness: int  # higher if the origins of the tracks are closer
+    turns: tuple[tuple[int, Track], ...]  # each track with its first cue
 
     @property
     def rank(self) -> tuple[int, int]:
@@ -134,14 +122,11 @@ class TrackSequence(NamedTuple):
 
 
 def find_best_stretches(cues: Sequence[ExpectedCue], tracks: Sequence[Track]) -> list[Stretch]:
-    """Return the stretches of the best sequence of tracks.
-
-    The best sequence has the highest `rank`. To change track, five consecutive cues must match on
-    the new track. At each cue, keep the best sequence for each last track, and consider a change of
-    track only for the `LEADERS` best sequences. Finally, move the borders between stretches to
-    earlier cues if this gives more points.
-    """
-    best: dict[Track, TrackSequence] = {}  # the best sequence for each last track
+    """Return the stretches of the `TrackSequence` with the highest `rank`. To change track, five
+    consecutive cues must match on the new track. At each cue, keep the best sequence for each last
+    track, and consider a change of track only for the `LEADERS` best sequences. Finally, move the
+    borders between stretches to earlier cues if this gives more points."""
+    best: dict[Track, TrackSequence] = {}
     for at, cue in enumerate(cues):
         gap = cue.frame - cues[at - 1].frame if at else 0
         leaders = heapq.nlargest(LEADERS, best.items(), key=lambda item: item[1].rank)
@@ -167,10 +152,8 @@ def find_best_stretches(cues: Sequence[ExpectedCue], tracks: Sequence[Track]) ->
 
 
 def find_border(cues: Sequence[ExpectedCue], previous: Stretch, following: Stretch) -> int:
-    """Return the number of the cue at which `following` should begin.
-
-    This is its first cue, or an earlier cue if this gives more points.
-    """
+    """Return the number of the cue at which `following` should begin: its first cue, or an earlier
+    cue if more points are then reached."""
     best, most, gained = following.first, 0, 0
     for border in range(following.first - 1, previous.first + LEAST_ROW - 1, -1):
         gained += following.track.points[border] - previous.track.points[border]
@@ -181,21 +164,15 @@ def find_border(cues: Sequence[ExpectedCue], previous: Stretch, following: Stret
 
 
 class EstimatedPart(NamedTuple):
-    """A part of a programme with its own origin.
+    """A part of a programme with its own origin."""
 
-    `begin` is its first TCI and `end` its last TCO. `best` is the best origin, and `others` has the
-    other possible origins. `base` is the number of its time base, and `time_base` has its cues and
-    page changes. `overlapping` has its subtitles that end in the next part. `early` has the number
-    of early cues.
-    """
-
-    begin: int
-    end: int
-    best: OriginFit
-    others: list[OriginFit]
-    time_base: TimeBase
-    base: int
-    overlapping: list[ExpectedSubtitle]
+    begin: int  # first TCI
+    end: int  # last TCO
+    best: OriginFit  # the best origin
+    others: list[OriginFit]  # the other possible origins
+    time_base: TimeBase  # its cues and page changes
+    base: int  # number of the time base
+    overlapping: list[ExpectedSubtitle]  # subtitles that end in the next part
     early: EarlyCues | None = None
 
     @property
@@ -206,11 +183,8 @@ class EstimatedPart(NamedTuple):
 def fit_parts(subtitles: Sequence[ExpectedSubtitle], bases: Sequence[TimeBase],
               row: Sequence[Stretch],
               lateness: Lateness | None = None) -> list[EstimatedPart]:
-    """Return a part for each of the stretches `row`.
-
-    If there is only one stretch or none, return one part with all subtitles. Return an empty list
-    if no cue matches. `lateness` is the value of --late.
-    """
+    """Return a part for each of the stretches `row`, or a single part if there are fewer than two.
+    Return an empty list if no cue matches. `lateness` is the value of --late."""
     if len(row) > 1:
         return [fit_part(subtitles, bases, row, number, lateness) for number in range(len(row))]
     number = row[0].track.base if row else max(
@@ -235,8 +209,7 @@ def select_other_origins(base: TimeBase, *starts: int) -> list[OriginFit]:
 def fit_part(subtitles: Sequence[ExpectedSubtitle], bases: Sequence[TimeBase],
              row: Sequence[Stretch],
              number: int, lateness: Lateness | None) -> EstimatedPart:
-    """Return the part for stretch `number`, without the page changes of the stretches next to it.
-    """
+    """Return the part for stretch `number`, without the page changes of neighbouring stretches."""
     track, first, end = row[number]
     whole = bases[track.base]
     begin = whole.cues[first].frame if number else 0
@@ -259,12 +232,10 @@ def fit_part(subtitles: Sequence[ExpectedSubtitle], bases: Sequence[TimeBase],
 
 
 def split_at_breaks(row: Sequence[Stretch]) -> list[Stretch]:
-    """Join stretches if there is no break between them.
-
-    There is a break if PTS go back, if the time codes of the file jump forward, or if the origin is
-    at least five seconds later than in the previous stretch and in the first stretch of the part. A
-    shorter delay, or subtitles that are early for a while, are no break.
-    """
+    """Join stretches if there is no break between them. There is a break if the PTS go back, if the
+    time codes of the file jump forward, or if the origin is at least five seconds later than in the
+    previous stretch and in the first stretch of the part. A shorter delay is not a break, nor are
+    subtitles that are early for a while."""
     parts = list(row[:1])
     for previous, stretch in zip(row, row[1:]):
         track = stretch.track
@@ -285,13 +256,10 @@ class Airing(NamedTuple):
 
 
 def find_airings(bases: Sequence[TimeBase], has_clock: bool = False) -> list[Airing]:
-    """Return the airings of the programme, in order of time.
-
-    First find the airing in which most cues match. Then search the recording before and after it
-    for repeats. A repeat contains enough texts of the cues. Its texts may all be wrong; then it is
-    found by the times of its page changes, if the clock is unknown and the cues are irregular.
-    Regular cues match anywhere.
-    """
+    """Return the airings of the programme, in order of time. First find the airing in which most
+    cues match. Then search the recording before and after it for repeats, which contain enough
+    texts of the cues. If all texts of a repeat are wrong, find it by the times of its page changes,
+    but only if the clock is unknown and the cues are irregular: regular cues match anywhere."""
     row = find_stretches(bases)
     uses_times = not has_clock and not have_equal_steps([cue.frame for cue in bases[0].cues])
     if len(row) > 1:  # the sequence of stretches may end in another airing
@@ -322,7 +290,7 @@ def find_airings(bases: Sequence[TimeBase], has_clock: bool = False) -> list[Air
 
 
 def find_text_places(row: Sequence[Stretch]) -> dict[int, Place]:
-    """Return the places at which expected pages are sent. The keys are the numbers of the cues."""
+    """Return the places at which expected pages are sent, by the number of the cue."""
     return {at: (stretch.track.base, stretch.track.places[at]) for stretch in row
             for at in range(stretch.first, stretch.end) if stretch.track.points[at] > 1}
 
@@ -334,12 +302,10 @@ def make_airing(places: Mapping[int, Place]) -> Airing:
 
 def is_repeated_airing(bases: Sequence[TimeBase], first: dict[int, Place],
                        again: dict[int, Place]) -> bool:
-    """Return whether the cues that match outside the first airing are a repeat of the programme.
-
-    At least half of all cues and half of the cues with a text must match. Alternatively, a quarter
-    of the cues with a text must match, and extend over half of the programme. In both cases, half
-    of these texts must also match in the first airing.
-    """
+    """Return whether the cues that match outside the first airing are a repeat of the programme. At
+    least half of all cues and half of the cues with a text must match. Alternatively, a quarter of
+    the cues with a text must match, and extend over half of the programme. In both cases, half of
+    these texts must also match in the first airing."""
     cues = bases[0].cues
     texts = [at for at in again if cues[at].letters]
     count = sum(1 for cue in cues if cue.letters)
@@ -350,11 +316,8 @@ def is_repeated_airing(bases: Sequence[TimeBase], first: dict[int, Place],
 
 
 def have_equal_steps(frames: Sequence[int]) -> bool:
-    """Return whether many pairs of frames have the same distance, as those of regular cues have.
-
-    The number of these pairs must be at least half the number of frames. Only the first
-    `MAX_COMPARED` frames are compared.
-    """
+    """Return whether many pairs of frames are the same distance apart, as with regular cues: at
+    least half as many pairs as frames. Compare only the first `MAX_COMPARED` frames."""
     frames = frames[:MAX_COMPARED]
     counts = collections.Counter(second - first for first, second in itertools.combinations(
         frames, 2))
@@ -362,11 +325,9 @@ def have_equal_steps(frames: Sequence[int]) -> bool:
 
 
 def find_changes_by_time(bases: Sequence[TimeBase], count: int) -> dict[int, Place]:
-    """Return the places of page changes at the times of cues, whatever their text.
-
-    The keys are the numbers of the cues. There must be at least 90 % as many page changes as
-    `count`, and 75 % as many as cues. Otherwise return an empty dictionary.
-    """
+    """Return the places of page changes at the times of cues, whatever their text, by the number of
+    the cue. Return an empty dictionary if these are fewer than 90 % of `count`, the number of
+    matching cues in the first airing, or fewer than 75 % of all cues."""
     for number, base in enumerate(bases):
         if not base.changes or count < LEAST_CUES * (2 if base.within else 1):
             continue
@@ -378,10 +339,8 @@ def find_changes_by_time(bases: Sequence[TimeBase], count: int) -> dict[int, Pla
 
 
 def find_changes(base: TimeBase, number: int, start: int) -> dict[int, Place]:
-    """Return the places of page changes at most the allowed delay after the cues.
-
-    The keys are the numbers of the cues.
-    """
+    """Return the places of page changes that follow a cue within the allowed delay, by the number
+    of the cue."""
     return {at: (number, place) for at, cue in enumerate(base.cues)
             for place in [next((place for place in range(
                 cue.frame - start, cue.frame - start + base.within + 1)
@@ -389,8 +348,7 @@ def find_changes(base: TimeBase, number: int, start: int) -> dict[int, Place]:
 
 
 def limit_bases(bases: Sequence[TimeBase], low: Place, high: Place) -> list[TimeBase]:
-    """Return copies of the time bases without the page changes outside the places `low` to `high`.
-    """
+    """Return copies of the time bases with only the page changes between two places."""
     return [base.copy_between(base.cues,
                          -1 if number > low[0] else low[1] if number == low[0] else base.length + 1,
                          base.length + 1 if number < high[0] else high[1] if number == high[0]
