@@ -38,36 +38,25 @@ EVEN_PARITY = "a byte of its rows has even parity"
 
 
 class Cause(NamedTuple):
-    """The reason why a subtitle is refused.
+    """The reason why a subtitle is refused."""
 
-    `subtitle_index` is the index of the subtitle among the judged subtitles. `frames` is the number
-    of frames by which it is late or early. `sent_page` is the page that was sent, and `other_index`
-    the index of the subtitle with the text of this page. No frame after `final_frame` can change
-    the cause.
-    """
-
-    subtitle_index: int
+    subtitle_index: int  # among the judged subtitles
     name: str
-    frames: int | None
-    sent_page: Rows | None
-    other_index: int | None
+    frames: int | None  # number of frames by which it is late or early
+    sent_page: Rows | None  # the page that was sent
+    other_index: int | None  # index of the subtitle with the text of this page
     details: str
-    final_frame: int
+    final_frame: int  # no later frame can change the cause
 
     @property
     def may_be_correct(self) -> bool:
-        """Return whether the subtitle may be correct.
-
-        It may be if PES packets can't be read, or if the next programme begins at its TCO.
-        """
+        """Return whether the subtitle may be correct, because PES packets can't be read or because
+        the next programme begins at its TCO."""
         return self.details in (NOT_READABLE, NEXT_PROGRAMME)
 
 
 class FaultyFrames:
-    """The frames in which a subtitle has a wrong page.
-
-    `during` is the first span before its TCO, and `after_end` the first span after its TCO.
-    """
+    """The first spans, before and after its TCO, in which a subtitle has a wrong page."""
 
     def __init__(self) -> None:
         self.during: Span | None = None
@@ -90,10 +79,8 @@ class CauseFinder(PageTransmissions):
         self.output = output
 
     def find_cause(self, place: int, faulty: FaultyFrames) -> Cause:
-        """Return the cause of a subtitle's fault.
-
-        The cause is unknown if an interval without PES packets explains the fault.
-        """
+        """Return the cause of a subtitle's fault. It is unknown if an interval without PES packets
+        explains the fault."""
         cause, subtitle = self.classify_transmission(place, faulty), self.subtitles[place]
         pause = self.timeline.pause_at(subtitle.end if cause.name == NOT_ERASED else subtitle.begin)
         if pause is None:
@@ -144,29 +131,22 @@ class CauseFinder(PageTransmissions):
         return Cause(place, name, frames, self.pages[place], None, words, max(came, subtitle.begin))
 
     def is_allowed_delay(self, place: int, came: int) -> bool:
-        """Return whether a page was late by at most the allowed delay.
-
-        Also, the page must not have been incomplete for longer than the allowed delay.
-        """
+        """Return whether a page was late, and incomplete, for at most the allowed delay."""
         late = came - self.subtitles[place].begin
         return 0 < late <= self.timeline.within and \
             came - self.find_first_wrong_frame(came - 1) <= self.timeline.within
 
     def find_first_wrong_frame(self, frame: int) -> int:
         """Return the first frame of the uninterrupted span of wrong pages that ends at `frame`.
-
-        Search at most 250 frames before `frame`.
-        """
+        Search at most 250 frames."""
         first = frame
         while frame - first < LEAST and first > 0 and not self.is_expected_page(first - 1):
             first -= 1
         return first
 
     def describe_incomplete_frames(self, came: int) -> str:
-        """Describe for how many frames the page was incomplete before frame `came`.
-
-        The number is larger than the delay if the page was already incomplete before the TCI.
-        """
+        """Describe for how many frames the page was incomplete before frame `came`. The number is
+        larger than the delay if the page was already incomplete before the TCI."""
         first = self.find_first_wrong_frame(came - 1)
         return f"the page is incomplete for {counted(came - first, 'frame')} in a row, from " \
             f"{time_of(first)} on"
@@ -196,21 +176,18 @@ class CauseFinder(PageTransmissions):
                      window.last)
 
     def came_while_closed(self, place: int) -> bool:
-        """Return whether rows of a subtitle were received while the page was not open."""
+        """Return whether rows of a subtitle were received outside a transmission of the page."""
         subtitle, page = self.subtitles[place], self.pages[place]
         return any(span.first < subtitle.end and subtitle.begin <= span.last and any(
             content == page[row - 1] for row, content in texts)
             for span, texts in self.timeline.stray_rows)
 
     def describe_closed_page(self) -> str:
-        """Return the message that rows were received while the page was not open."""
+        """Return the message that rows were received outside a transmission of the page."""
         return f"its rows came while page {page_name(*self.timeline.page)} was not open"
 
     def classify_difference(self, place: int, number: int) -> Cause:
-        """Return the cause for a subtitle that was replaced by a page that belongs to no subtitle.
-
-        `number` is the number of this page.
-        """
+        """Return the cause for a subtitle replaced by page `number`, which no subtitle has."""
         subtitle, due, sent = self.subtitles[place], self.pages[place], self.timeline.pages[number]
         words = join_page_text(sent)
         if words != join_page_text(due):
@@ -266,27 +243,22 @@ class CauseFinder(PageTransmissions):
         return EVEN_PARITY if HIT in b"".join(self.timeline.state_at(frame).rows) else ""
 
     def list_omitted_rows(self, frame: int) -> str:
-        """Describe which rows a repeat of the page omitted.
-
-        Return an empty string if omitted rows can't explain the fault in this frame, because some
-        of its packets can't be read, or because it has several PES packets (without --within).
-        """
+        """Describe which rows a repeat of the page omitted. Return an empty string if omitted rows
+        can't explain the fault in this frame, because some of its packets can't be read, or because
+        it has several PES packets (without --within)."""
         is_one = self.timeline.within or len(self.timeline.runs_in_frame(frame)) == 1
         return find_omitted_rows(self.timeline, self.expected.page_at(frame), frame, self.output) \
             if is_one and self.timeline.was_received(frame, frame) else ""
 
     @functools.cached_property
     def subcode_text(self) -> str:
-        """Describe the sub-pages that alternate, or return an empty string if there are none."""
+        """Describe the sub-pages that alternate, or return an empty string."""
         subcodes = alternating_subcodes(self.timeline.packets, self.timeline.inside)
         return subpage_text(subcodes, page_name(*self.timeline.page)) if subcodes else ""
 
     def classify_after_end(self, place: int, number: int, frame: int) -> Cause:
-        """Return the cause for a subtitle after whose TCO page `number` was sent.
-
-        If the page belongs to no subtitle, the cause is another text in the pause. At the last TCO
-        it is the next programme.
-        """
+        """Return the cause of a fault if page `number` was sent after the TCO of a subtitle. A page
+        of no subtitle is another text in the pause, or after the last TCO the next programme."""
         subtitle, page = self.subtitles[place], self.timeline.pages[number]
         is_other = page not in self.expected.by_page and page != BLANK_PAGE
         is_ours = join_page_text(page) in self.expected.by_text
@@ -301,10 +273,7 @@ class CauseFinder(PageTransmissions):
                                        f"sent after its TCO, at {time_of(frame)}")
 
     def describe_removal(self, place: int, number: int) -> str:
-        """Describe how long page `number` stayed after the TCO.
-
-        Return an empty string if its end is unknown.
-        """
+        """Describe how long page `number` stayed after the TCO, or return "" if this is unknown."""
         until, end = self.timeline.page_span(number).last, self.subtitles[place].end
         following = self.subtitles[place + 1:place + 2]
         if following and following[0].begin <= until and \
@@ -328,7 +297,7 @@ class CauseFinder(PageTransmissions):
             return self.make_other_text_cause(place, other, subtitle.end)
         if page == BLANK_PAGE:
             erased = self.timeline.frames[number]
-            if erased < subtitle.begin:  # before the TCI
+            if erased < subtitle.begin:
                 return self.make_unknown_cause(place, span.first, subtitle.end,
                                                f"it is missing at {time_of(span.first)}")
             if self.was_erased(number):
@@ -339,11 +308,8 @@ class CauseFinder(PageTransmissions):
         return self.classify_difference(place, number)
 
     def was_erased(self, number: int) -> bool:
-        """Return whether a header without rows erased the page.
-
-        The next page must have its own header. Otherwise its rows belong to the same header, and
-        the page was not erased.
-        """
+        """Return whether a header without rows erased the page. The next page must have its own
+        header; otherwise its rows belong to the same header, and the page was not erased."""
         begins = self.timeline.frames[number:number + 2]
         return all(any(HEADER in run.flags for run in self.timeline.runs_in_frame(frame))
                    for frame in begins)
@@ -353,10 +319,8 @@ class CauseFinder(PageTransmissions):
         return NOT_RECEIVED if self.timeline.lost.has(first, last) else NOT_READABLE
 
     def make_unknown_cause(self, place: int, frame: int, known: int, words: str) -> Cause:
-        """Return the cause `NOT_RECEIVED` or `UNKNOWN_CAUSE` for a subtitle.
-
-        `words` has the details. No frame after `known` can change the cause.
-        """
+        """Return the cause `NOT_RECEIVED` or `UNKNOWN_CAUSE` with the details `words`. No frame
+        after `known` can change the cause."""
         sent = self.timeline.page_at(frame)
         name, words = (NOT_RECEIVED, "") if words == NOT_RECEIVED else (UNKNOWN_CAUSE, words)
         return Cause(place, name, None, None if sent == BLANK_PAGE else sent, None, words, known)
@@ -366,22 +330,19 @@ SENT_BEFORE_CUT = f"its page was sent before the judged range, so {BEGIN} is rep
 
 
 class Causes:
-    """The causes of the faults that `check --all` lists.
-
-    The keys of `by_index` are the indices of the subtitles. `by_end_fault` has the subtitle that
-    belongs to the fault at the beginning of the recording (63) or at its end (74), if the recording
-    is longer than the judged frames. `recorded_span` has the frames that the recording covers, if
-    its PCR shows more frames than its PES packets.
-    """
+    """The causes of the faults that `check --all` lists. `recorded_span` has the frames that the
+    recording covers, if its PCR shows more than its PES packets."""
 
     def __init__(self, expected: ExpectedPages, timeline: Timeline,
                  recorded_span: Span | None = None) -> None:
         self.expected, self.timeline, self.recorded_span = expected, timeline, recorded_span
         self.finder = CauseFinder(expected, timeline)
-        self.by_index: dict[int, Cause] = {}
+        self.by_index: dict[int, Cause] = {}  # by index of the subtitle
+        # The subtitle for the fault at the beginning of the recording (63) or at its end (74), if
+        # the recording is longer than the judged frames
         self.by_end_fault: dict[int, int] = {}
         self.pending: dict[int, FaultyFrames] = {}
-        # The first frame with a wrong page of each subtitle
+        # For each subtitle, the first frame with a wrong page
         self.first_wrong_frames: dict[int, int] = {}
 
     def classify_all(self, output: CheckOutput) -> None:
@@ -420,11 +381,8 @@ class Causes:
 
     def compare_before(self, frame: int) -> None:
         """Compare the decoded pages with the expected pages before `frame`, the first judged frame.
-
-        Do so only if the recording shows whether the first subtitle is early or late. It does if it
-        covers the first TCI, or if it begins at least as long before the first TCI as `frame` is
-        after it.
-        """
+        Do so only if the recording shows whether the first subtitle is early or late: it must cover
+        the first TCI, or begin at least as long before the first TCI as `frame` is after it."""
         begin, held = self.expected.begins[0], self.timeline
         if not (held.frames and held.frames[0] <= begin or
                 self.find_covered_span().first <= 2 * begin - frame):
@@ -435,11 +393,9 @@ class Causes:
         self.add_differences(BEGIN, begin, frame - 1)
 
     def classify_first(self, frame: int) -> None:
-        """Classify the first subtitle as late if the recording begins with its page.
-
-        The second subtitle must be late too, and the beginning or the end of the first page must
-        have the same delay. The first page alone is no evidence: its beginning may be cut off.
-        """
+        """Classify the first subtitle as late if the recording begins with its page. The second
+        subtitle must be late too, and the beginning or the end of the first page must have the same
+        delay. The first page alone is no evidence: its beginning may be cut off."""
         page, following = self.expected.pages[0], self.by_index.get(1)
         if following is None or following.name != LATE or BEGIN in self.by_end_fault \
                 or self.timeline.first != frame or self.timeline.page_at(frame) != page:
@@ -454,26 +410,21 @@ class Causes:
         self.by_index[0] = Cause(0, LATE, late, page, None, "", max(frame, first.begin + late))
 
     def compare_after(self, frame: int) -> None:
-        """Compare the decoded pages with the expected pages after `frame`, the last judged frame.
-
-        Do so only if the recording covers the frames up to the last TCO.
-        """
+        """Compare the decoded pages with the expected pages after `frame`, the last judged frame,
+        if the recording covers the frames up to the last TCO."""
         end = self.expected.subtitles[-1].end
         if self.find_covered_span().last >= end:
             self.add_differences(END, frame + 1, end)
 
     def add_differences(self, number: int, first: int, last: int) -> None:
-        """Add the frames from `first` to `last` that have a wrong page.
-
-        `number` is the number of the fault that `check` reports for these frames.
-        """
+        """Add the frames from `first` to `last` that have a wrong page, for which `check` reports
+        the fault `number`."""
         for span in self.finder.split_frames(first, last):
             if not self.finder.is_expected_page(span.first):
                 place = self.add_span(self.finder.find_owner(span.first), span)
                 self.by_end_fault.setdefault(number, place)
 
     def classify_subtitle(self, place: int) -> Cause:
-        """Return the cause of the faults in a subtitle."""
         cause = self.finder.find_cause(place, self.pending[place])
         begin = self.expected.begins[place]
         if cause.name == LATE and begin + (cause.frames or 0) == self.timeline.first \
@@ -484,15 +435,14 @@ class Causes:
         return cause._replace(details=SENT_BEFORE_CUT) if is_before else cause
 
     def find_cause(self, number: int, frame: int) -> Cause | None:
-        """Return the cause of a fault in a frame, or `None` if it has no cause."""
+        """Return the cause of a fault in a frame, if it has one."""
         if number == CONTENT:
             return self.by_index.get(self.finder.find_owner(frame))
         edge = self.by_end_fault.get(number)
         return None if edge is None else self.by_index.get(edge)
 
     def ended_early(self, place: int) -> bool:
-        """Return whether a subtitle was sent early, and the recording contains the page after it.
-        """
+        """Return whether a subtitle was sent early and the recording has the page after it."""
         cause = self.by_index.get(place)
         if cause is None or cause.name != EARLY:
             return False
@@ -514,10 +464,8 @@ LINE_PREFIX = "cause: "  # the beginning of each line with a cause
 
 
 class CauseDescriber:
-    """Converts the causes of faults in a part to text and to JSON values.
-
-    `option` is the name of the national option that selects the characters.
-    """
+    """Converts the causes of faults in a part to text and to JSON values. `option` is the name of
+    the national option that selects the characters."""
 
     def __init__(self, causes: Causes, option: str) -> None:
         self.causes, self.subtitles = causes, causes.expected.subtitles
@@ -525,7 +473,6 @@ class CauseDescriber:
         self.option = BY_WORD[option].bits
 
     def make_json(self, cause: Cause) -> Members:
-        """Return a cause as a JSON value."""
         subtitle = self.subtitles[cause.subtitle_index]
         other = None if cause.other_index is None else self.subtitles[cause.other_index]
         return {
@@ -541,11 +488,10 @@ class CauseDescriber:
         }
 
     def format_expected_text(self, cause: Cause) -> str:
-        """Return the expected text of the subtitle that a cause belongs to."""
+        """Return the expected text of the subtitle that has a cause."""
         return format_page_text(self.pages[cause.subtitle_index], self.option)
 
     def format_line(self, cause: Cause) -> str:
-        """Return the output line for a cause."""
         subtitle = self.subtitles[cause.subtitle_index]
         if cause.name == TEXT_IN_PAUSE:  # not a fault of the subtitle before the pause
             return f"{LINE_PREFIX}{self.describe(cause)}"
@@ -553,10 +499,7 @@ class CauseDescriber:
                 f'"{self.format_expected_text(cause)}": {self.describe(cause)}')
 
     def describe(self, cause: Cause, has_text: bool = True) -> str:
-        """Describe a cause and its details.
-
-        If `has_text` is true and a wrong text was sent, add this text.
-        """
+        """Describe a cause and its details, including a wrong text if `has_text` is true."""
         subtitle = self.subtitles[cause.subtitle_index]
         words = cause.name
         if cause.name in (LATE, EARLY):
@@ -580,7 +523,7 @@ class CauseDescriber:
 
 
 def format_cause_counts(several: list[Causes]) -> str:
-    """Return a line with the number of subtitles that have a cause, in total and for each cause."""
+    """Return a line with the number of subtitles whose fault has a cause, in total and by cause."""
     count = sum(len(one.by_index) for one in several)
     return f"causes of faults in {counted(count, 'subtitle')}: {list_cause_counts(several)}"
 

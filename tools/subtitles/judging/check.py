@@ -36,14 +36,8 @@ TIME_CODE = re.compile(r"\d\d:\d\d:\d\d:\d\d")
 
 
 class CheckOutput:
-    """The output of `check --all`. The file at `path` contains all lines.
-
-    `first_fault` is the first fault, which `check` prints without `--all`. Three dictionaries have
-    the fault number as their key: `counts_by_number` has the number of faults, `first_faults` the
-    first fault, and `fault_spans` the frames of all faults. `fault_ends` has the end of each fault
-    by its position in the list. `skipped_packets` has the numbers of the PES packets that `check`
-    skipped, and `trusted_frames` the frames on its `trusted` lines.
-    """
+    """The output of `check --all`, stored at `path`. `skipped_packets` has the numbers of the PES
+    packets that `check` skipped, and `trusted_frames` the frames on its `trusted` lines."""
 
     def __init__(self, path: str) -> None:
         self.path, self.last_line = path, ""
@@ -58,18 +52,18 @@ class CheckOutput:
     def clear_faults(self) -> None:
         """Discard all faults read so far."""
         self.fault_count = 0
-        self.counts_by_number: collections.Counter[int] = collections.Counter()
-        self.first_faults: dict[int, FaultLine] = {}
+        self.counts_by_number: collections.Counter[int] = collections.Counter()  # number of faults
+        self.first_faults: dict[int, FaultLine] = {}  # by fault number
+        # The fault that `check` prints without `--all`
         self.first_fault: FaultLine | None = None
-        self.fault_spans: dict[int, Spans] = {}
-        self.fault_ends: dict[int, FaultEnd] = {}
+        self.fault_spans: dict[int, Spans] = {}  # frames of all faults, by fault number
+        self.fault_ends: dict[int, FaultEnd] = {}  # by position in the list
         self.last_positions: dict[str, int] = {}  # position of the last fault with each number
         self.skipping_fault = ""  # the last fault that made `check` skip PES packets
         self.skipped_packets, self.trusted_frames = Spans(), Spans()
 
     @property
     def fault_numbers(self) -> set[int]:
-        """Return the fault numbers of all reported faults."""
         return set(self.counts_by_number)
 
     def read_fault(self, line: str, words: list[str]) -> None:
@@ -107,7 +101,6 @@ class CheckOutput:
 
     @property
     def transmission_fault_count(self) -> int:
-        """Return the number of transmission faults."""
         return sum(count for number, count in self.counts_by_number.items()
                    if number not in STL_FAULTS | {UNDECIDED})
 
@@ -130,10 +123,8 @@ class CheckOutput:
             self.unknown_line = line
 
     def finish(self, status: int) -> None:
-        """Close the file, and store the exit status of `check`.
-
-        Raise `IncompleteAnswer` if there is no verdict.
-        """
+        """Close the file, and store the exit status of `check`. Raise `IncompleteAnswer` if there
+        is no verdict."""
         with name_errors(self.path):
             self.file.close()
         self.exit_status = status
@@ -159,10 +150,8 @@ class CheckOutput:
         return self.content_fault_rows[at][1] if at >= 0 else None
 
     def find_last_time(self) -> str | None:
-        """Return the time on the last line of output, or `None` if the line has no time.
-
-        All faults up to this time have been reported.
-        """
+        """Return the time on the last line of output, if it has one. All faults up to this time
+        have been reported."""
         times: list[str] = TIME_CODE.findall(self.last_line)
         return times[-1] if times else None
 
@@ -180,10 +169,8 @@ class CheckOutput:
             pass
 
     def summarize(self, is_read: bool = True) -> CheckSummary:
-        """Return the values that decide the verdict on a part.
-
-        If `check` can't have printed one of the lines, the part is not judged.
-        """
+        """Return the values that decide the verdict on a part. If `check` can't have printed one of
+        the lines, the part is not judged."""
         is_clear = self.unknown_line is None
         is_list = is_clear and self.first_fault is not None and self.frames is None
         counted = parse_count_line(self.last_line) if is_list else None
@@ -230,11 +217,8 @@ class CheckOutput:
 
 def run_check(command: list[str], output: CheckOutput,
               report_line: Callable[[str], None]) -> CheckOutput:
-    """Run `check --all` and return its output.
-
-    Call `report_line` for each line at once. An `accepted` line is reported only after the exit
-    status has confirmed it.
-    """
+    """Run `check --all` and return its output. Call `report_line` for each line at once, but for an
+    `accepted` line only after the exit status has confirmed it."""
     with subprocess.Popen(command, stdin=subprocess.DEVNULL, stdout=subprocess.PIPE,
                           encoding="utf-8", errors="replace") as process:
         assert process.stdout

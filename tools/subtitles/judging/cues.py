@@ -1,5 +1,4 @@
-"""Find the times at which each subtitle of a part was expected and decoded, and the verdict on it.
-"""
+"""Find when each subtitle of a part was expected and decoded, and the verdict on it."""
 from __future__ import annotations
 
 import functools
@@ -30,18 +29,14 @@ REPLACING_CAUSES = {WRONG_TEXT, WRONG_PLACE, WRONG_ATTRIBUTE, OTHER_TEXT}
 
 
 class Cue(NamedTuple):
-    """A subtitle, its expected page, and the page that a receiver decoded for it.
-
-    `begin` is the first frame of the decoded page, and `end` the first frame after it. A frame is
-    `None` if it was not recorded.
-    """
+    """A subtitle, its expected page, and the page that a receiver decoded for it."""
 
     subtitle: Subtitle
     expected: Rows
     cause: Cause | None
     decoded: Rows | None = None
-    begin: int | None = None
-    end: int | None = None
+    begin: int | None = None  # first frame of the decoded page, if recorded
+    end: int | None = None  # first frame after it, if recorded
 
     @property
     def delay_in(self) -> int | None:
@@ -66,10 +61,8 @@ def find_cues(part: Part) -> Iterator[Cue]:
 
 def find_decoded_times(cue: Cue, place: int, expected: ExpectedPages, timeline: Timeline,
                        delay: int | None) -> Cue:
-    """Return a copy of a cue with the decoded page and its times.
-
-    `place` is the position of the subtitle in `expected`, and `delay` the delay of the subtitle.
-    """
+    """Return a copy of a cue with the decoded page and its times. `place` is the position of the
+    subtitle in `expected`, and `delay` the delay of the subtitle."""
     number = find_page_number(cue, expected, timeline, delay)
     if number is None:
         return cue
@@ -81,7 +74,8 @@ def find_decoded_times(cue: Cue, place: int, expected: ExpectedPages, timeline: 
     before, after = expected.subtitles[place - 1:place], expected.subtitles[place + 1:place + 2]
     begin: int | None = first
     if place and before[0].end == subtitle.begin and expected.pages[place - 1] == page:
-        begin = max(first, subtitle.begin)  # adjoining subtitles have the same page
+        # The previous subtitle adjoins and has the same page, so earlier frames belong to it.
+        begin = max(first, subtitle.begin)
     elif subtitle.begin < first == timeline.first and not (
             cue.cause and subtitle.begin + (cue.cause.frames or 0) == first):
         begin = None  # the page was sent before the recording began
@@ -97,7 +91,7 @@ def find_decoded_times(cue: Cue, place: int, expected: ExpectedPages, timeline: 
 
 def find_page_number(cue: Cue, expected: ExpectedPages, timeline: Timeline,
                      delay: int | None) -> int | None:
-    """Return the number of the decoded page for a cue, or `None` if there is none."""
+    """Return the number of the decoded page for a cue, if there is one."""
     cause, (begin, end) = cue.cause, (cue.subtitle.begin, cue.subtitle.end)
     if cause and cause.name in (LATE, EARLY):
         frame = begin + (cause.frames or 0) * (1 if cause.name == LATE else -1)
@@ -118,10 +112,8 @@ def find_page_number(cue: Cue, expected: ExpectedPages, timeline: Timeline,
 
 
 def is_variant(page: Rows, decoded: Rows, expected: ExpectedPages) -> bool:
-    """Return whether `page` is a damaged or corrected repeat of the page `decoded`.
-
-    Most characters must be equal, and `page` must not be the expected page of any subtitle.
-    """
+    """Return whether `page` is a damaged or corrected repeat of the page `decoded`. Most characters
+    must be equal, and `page` must not be the expected page of any subtitle."""
     if page == decoded or page in expected.by_page:
         return page == decoded
     differing: int = sum(map(operator.ne, b"".join(page), b"".join(decoded)))
@@ -133,16 +125,12 @@ NOT_ALL_RECEIVED = "not received completely"
 
 
 class CueVerdict(NamedTuple):
-    """The verdict on a subtitle, and its reason.
-
-    The reason is the cause of its fault, and the numbers of other faults at its time. If the
-    verdict is not known, the reason is a doubt.
-    """
+    """The verdict on a subtitle, and its reason."""
 
     word: str
-    cause: str = ""
-    fault_numbers: Sequence[int] = ()
-    doubt: str = ""
+    cause: str = ""  # cause of its fault
+    fault_numbers: Sequence[int] = ()  # numbers of other faults at its time
+    doubt: str = ""  # why the verdict is not known
 
 
 class CueJudge:
@@ -179,11 +167,9 @@ class CueJudge:
         return CueVerdict(word, words, numbers)
 
     def describe_doubt(self, cue: Cue) -> str:
-        """Explain why a cue without a fault may nevertheless be wrong.
-
-        Return an empty string if it is right. It is right if the part is accepted and no TS packet
-        was lost during the cue, or if `check` trusts all frames of the cue.
-        """
+        """Explain why a cue without a fault may be wrong, or return an empty string. It is right if
+        the part is accepted and no TS packet was lost during it, or if `check` trusts all its
+        frames."""
         begin, end = cue.subtitle.begin, cue.subtitle.end
         if self.part.check_output.verdict == ACCEPTED:
             is_lost = any(span.first < end and begin <= span.last
@@ -223,11 +209,9 @@ class SubtitleFaults(NamedTuple):
 
 def find_refused_subtitles(part: Part, file: SubtitleFile, beside: ValidSubtitles | None) \
         -> Iterator[SubtitleFaults]:
-    """Yield the refused subtitles in a file, each with its faults.
-
-    Then yield the subtitles without a fault that are not judged because the next subtitle is
-    refused. `beside` has the subtitles that are judged although others are refused.
-    """
+    """Yield the refused subtitles in a file, each with its faults. Then yield the subtitles without
+    a fault that are not judged because the next subtitle is refused. `beside` has the subtitles
+    that are judged although others are refused."""
     left_out = set(beside.skipped_positions) if beside else set[int]()
     faults = [fault for fault,
               _ in itertools.islice(part.check_output.read_faults(), MAX_FAULTS_READ)
@@ -249,10 +233,8 @@ def find_first_block(file: SubtitleFile, fault: FaultLine) -> int:
 
 
 def read_block_text(file: SubtitleFile, block: int) -> bytes:
-    """Return the text of the subtitle that contains the block `block`.
-
-    If the last blocks of the subtitle are missing, return the text of those that exist.
-    """
+    """Return the text of the subtitle that contains the block `block`. If the last blocks of the
+    subtitle are missing, return the text of those that exist."""
     first, last = file.first_blocks[block], block
     for number in range(block, len(file.first_blocks)):
         data = file.block(number)
@@ -267,11 +249,9 @@ LONGEST_STEP = 3600 * 90_000  # in ticks; a longer step, or a step back, is a ju
 
 
 def find_recording_start(part: Part) -> int | None:
-    """Return the time of the beginning of the recording, as a PTS on the clock of a part.
-
-    The recording begins at the first PCR, or at the first PTS if it has no PCR. If the clock jumps
-    between the beginning and the part, the length of the jump is left out.
-    """
+    """Return the time of the beginning of the recording, as a PTS on the clock of a part. This is
+    the first PCR, or the first PTS if there is no PCR. If the clock jumps between the beginning and
+    the part, the length of the jump is left out."""
     if part.recording is None or part.pes is None:
         return None
     clock = part.recording.survey.clock_of(part.packets.pid) if part.recording.is_stream else None
@@ -285,10 +265,8 @@ def find_recording_start(part: Part) -> int | None:
 
 
 def format_recording_offset(part: Part, start: int | None, frame: int) -> str:
-    """Return the time from the beginning of the recording, `start`, to a frame as H:MM:SS.
-
-    Return an empty string if the beginning is unknown or later than the frame.
-    """
+    """Return the time from the beginning of the recording, `start`, to a frame as H:MM:SS. Return
+    an empty string if the beginning is unknown or later than the frame."""
     if start is None or part.origin is None:
         return ""
     seconds = ticks_between(start, pts_of(frame, part.origin)) // 90_000

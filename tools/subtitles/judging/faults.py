@@ -30,17 +30,12 @@ from .verdict import Verdict
 
 
 class FaultPlace(NamedTuple):
-    """The place of a fault in the transmission.
+    """The place of a fault in the transmission."""
 
-    `pes` is the number of the PES packet and `pts` its PTS; both are `None` between two packets.
-    `rows` has the page decoded after this packet. For refused control bits (67), `headers` has the
-    page headers.
-    """
-
-    pes: int | None
-    pts: int | None
-    rows: Rows | None
-    headers: Sequence[PageHeader] = ()
+    pes: int | None  # number of the PES packet, or `None` between two packets
+    pts: int | None  # its PTS
+    rows: Rows | None  # the page decoded after this packet
+    headers: Sequence[PageHeader] = ()  # the page headers, for refused control bits (67)
 
 
 NO_PLACE = FaultPlace(None, None, None)
@@ -48,11 +43,8 @@ NO_PLACE = FaultPlace(None, None, None)
 
 def find_fault_place(fault: FaultLine, packets: Packets, timeline: Timeline | None,
                      expected: Rows | None = None) -> FaultPlace:
-    """Return the place of a transmission fault.
-
-    A frame may have several PES packets. If `expected`, the expected page, is given, choose the
-    last one after which the cell of the fault is wrong.
-    """
+    """Return the place of a transmission fault. If a frame has several PES packets and `expected`,
+    the expected page, is given, choose the last packet after which the faulty cell is wrong."""
     if fault.pes is not None:
         return FaultPlace(fault.pes, packets.pts_at(fault.pes), None)
     if fault.frame is None or timeline is None:
@@ -74,23 +66,20 @@ def find_fault_place(fault: FaultLine, packets: Packets, timeline: Timeline | No
 
 
 def find_pes_packet(members: Sequence[PacketRun], packet: int) -> PacketRun:
-    """Return the PES packet that contains a Teletext packet.
-
-    `members` has the PES packets of a frame. `packet` is the number of the Teletext packet among
-    all Teletext packets of this frame.
-    """
+    """Return the PES packet that contains a Teletext packet. `members` has the PES packets of a
+    frame. `packet` is the number of the Teletext packet among all those of this frame."""
     ends = itertools.accumulate(run.units for run in members)
     return next((run for run, end in zip(members, ends) if packet < end), members[-1])
 
 
 def find_fault_code(fault: FaultLine, page: Rows) -> int | None:
-    """Return the code of the cell that a fault refers to, or `None` if it is unknown."""
+    """Return the code of the cell that a fault refers to, if it is known."""
     return None if fault.row is None or fault.column is None else \
         find_code(page, fault.row, fault.column)
 
 
 def find_code(rows: Rows | None, row: int, column: int) -> int | None:
-    """Return the code of a cell, or `None` if it was not received."""
+    """Return the code of a cell, if it was received."""
     if rows is None or rows[row - 1][column] == OLD:
         return None
     return rows[row - 1][column] & 0x7F
@@ -149,10 +138,8 @@ def describe_hint(fault: FaultLine, part: Part, verdict: Verdict) -> str:
 
 
 def describe_first_hint(fault: FaultLine, part: Part, verdict: Verdict) -> str:
-    """Return the hint on the fault to report first.
-
-    For a header fault, the hint begins with the subtitle and the effect on receivers.
-    """
+    """Return the hint on the fault to report first. For a header fault, it begins with the subtitle
+    and the effect on receivers."""
     words = describe_hint(fault, part, verdict)
     if fault.number != CONTROL or not words or fault.frame is None:
         return words
@@ -162,10 +149,8 @@ def describe_first_hint(fault: FaultLine, part: Part, verdict: Verdict) -> str:
 
 
 def describe_subtitle_at(frame: int, part: Part) -> str:
-    """Return the name and the text of the subtitle that is expected in a frame.
-
-    In a pause, return text such as `the page after subtitle 5`.
-    """
+    """Return the name and the text of the subtitle expected in a frame, or in a pause a text such
+    as `the page after subtitle 5`."""
     due = part.expected_pages()
     count, is_due = due.count_begun(frame)
     if not is_due:
@@ -175,10 +160,7 @@ def describe_subtitle_at(frame: int, part: Part) -> str:
 
 
 def describe_parity_fault(fault: FaultLine, part: Part) -> str:
-    """Describe which character of a subtitle has even parity.
-
-    Return an empty string if the frame or its page is unknown.
-    """
+    """Describe which character of a subtitle has even parity, or return "" if it is unknown."""
     rows = find_fault_place(fault, part.packets, part.decoded_pages).rows
     if fault.frame is None or rows is None:
         return ""
@@ -196,10 +178,7 @@ def describe_parity_fault(fault: FaultLine, part: Part) -> str:
 
 
 def describe_pid_end(part: Part) -> str:
-    """Explain why the PID has no Teletext after the last judged PES packet.
-
-    Return an empty string if it has some.
-    """
+    """Explain why the PID has no Teletext after the last judged PES packet, or return ""."""
     is_last = part.pes is not None and part.pes[1] == part.packets.count - 1
     return (explain_refusal(part.packets) or "") if is_last and part.packets.refusal else ""
 
@@ -225,10 +204,7 @@ def describe_unrecorded(fault: FaultLine, part: Part) -> str:
 
 
 def describe_block_subtitle(fault: FaultLine, subtitles: SubtitleFile) -> str:
-    """Return the name, the time and the text of the subtitle in the block of a fault.
-
-    Return an empty string if the fault has no block.
-    """
+    """Return the name, time and text of the subtitle in the block of a fault, or "" without one."""
     subtitle = subtitles.find_by_block(fault.block) if fault.block else None
     if subtitle is None or not fault.block:
         return ""
@@ -251,10 +227,7 @@ def format_stored_text(text: bytes) -> str:
 
 
 def describe_open_option(subtitles: SubtitleFile) -> str:
-    """Return the hint that --open accepts the display standard code (DSC) of the file.
-
-    Return an empty string if --open does not accept this code.
-    """
+    """Return the hint that --open accepts the file's display standard code, or "" if it doesn't."""
     kind = {b"0": "0 (open subtitles)", b" ": "blank"}.get(subtitles.data[DSC])
     return f"its DSC is {kind}: --open accepts it" if kind else ""
 
@@ -342,10 +315,7 @@ class PartFaults:
         }
 
     def make_cause(self, fault: FaultLine) -> Members | None:
-        """Return the cause of a fault as a JSON value, or `None` if it has none.
-
-        Only faults with the numbers 63, 72 and 74 have a cause.
-        """
+        """Return the cause of a fault with number 63, 72 or 74, if it has one, as a JSON value."""
         if self.wording is None or fault.number not in WITH_CAUSE or fault.frame is None:
             return None
         cause = self.wording.causes.find_cause(fault.number, fault.frame)
@@ -358,14 +328,14 @@ class PartFaults:
         return self.subtitles.find_by_frame(fault.frame) if fault.frame is not None else None
 
     def format_time(self, pts: int | None) -> str | None:
-        """Return the time code of a PTS, or `None` if no frame starts at the PTS."""
+        """Return the time code of a PTS, if a frame starts there."""
         if pts is None or self.part.origin is None:
             return None
         frame = frame_at(pts, self.part.origin, self.request.within)
         return None if frame is None else time_of(frame)
 
     def make_cell(self, rows: Rows | None, fault: FaultLine) -> Members | None:
-        """Return the JSON value of the cell that a fault refers to, or `None` if it is unknown."""
+        """Return the JSON value of the cell that a fault refers to, if it is known."""
         if fault.row is None or fault.column is None:
             return None
         code = find_code(rows, fault.row, fault.column)
@@ -402,8 +372,7 @@ def make_named_fault(verdict: Verdict, fault: NamedFault) -> Members:
 
 
 def make_faults(verdict: Verdict) -> Iterator[Members]:
-    """Yield the JSON values of all faults: first those without a number, then the numbered ones.
-    """
+    """Yield the JSON values of all faults: those without a number, then the numbered ones."""
     yield from (make_named_fault(verdict, fault) for fault in verdict.named_faults)
     for part in verdict.parts:
         if part.check_output.fault_count:

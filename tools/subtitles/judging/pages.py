@@ -55,10 +55,8 @@ def join_page_text(rows: Rows) -> str:
 
 
 def format_page_text(rows: Rows, option: int) -> str:
-    """Return the text of a page, with slashes between rows.
-
-    `option` is the number of the national option that selects the characters.
-    """
+    """Return the text of a page, with slashes between rows. `option` is the number of the national
+    option that selects the characters."""
     table = character_table(option)
     return " / ".join("".join(table[code & 0x7F] for code in line.text)
                       for line in find_text_rows(rows))
@@ -101,10 +99,8 @@ def describe_move(due: Rows, sent: Rows) -> str:
 
 
 def describe_attribute_difference(due: Rows, sent: Rows) -> str:
-    """Describe the first cell that differs between two pages.
-
-    If its row begins or ends at another column, describe this too.
-    """
+    """Describe the first cell that differs between two pages. If its row begins or ends at another
+    column, describe this too."""
     for number, (row, other) in enumerate(zip(due, sent), 1):
         for column, (code, held) in enumerate(zip(row, other)):
             if code != held:
@@ -114,10 +110,8 @@ def describe_attribute_difference(due: Rows, sent: Rows) -> str:
 
 
 def describe_row_ends(due: bytes, sent: bytes) -> str:
-    """Describe how many columns too early or too late a row begins or ends.
-
-    The row includes its attributes. Return an empty string if it begins and ends as expected.
-    """
+    """Describe how many columns too early or too late a row, including its attributes, begins or
+    ends. Return an empty string if it begins and ends as expected."""
     (first, end), (begins, ends) = find_extent(due), find_extent(sent)
     words = [] if begins == first else [describe_columns("begins", begins - first)]
     words += [] if ends == end else [describe_columns("ends", ends - end)]
@@ -125,8 +119,7 @@ def describe_row_ends(due: bytes, sent: bytes) -> str:
 
 
 def find_extent(row: bytes) -> tuple[int, int]:
-    """Return the column of the first cell that is not a space, and the column after the last one.
-    """
+    """Return the columns of the first cell that is not a space and of the cell after the last."""
     return len(row) - len(row.lstrip(b" ")), len(row.rstrip(b" "))
 
 
@@ -137,11 +130,8 @@ def describe_columns(what: str, columns: int) -> str:
 
 
 def is_text_moved(due: Rows, sent: Rows) -> bool:
-    """Return whether the same text has different positions on two pages.
-
-    Ignore a shift by columns if the attributes differ too: an attribute takes a cell, so adding one
-    shifts the text.
-    """
+    """Return whether the same text has different positions on two pages. Ignore a shift by columns
+    if the attributes differ too: an attribute takes a cell, so adding one shifts the text."""
     rows, other = find_text_rows(due), find_text_rows(sent)
     if [line.row for line in rows] != [line.row for line in other]:
         return True
@@ -150,10 +140,8 @@ def is_text_moved(due: Rows, sent: Rows) -> bool:
 
 
 def describe_extra_rows(due: Rows, sent: Rows) -> str:
-    """Describe the rows that a page has in addition to the expected rows.
-
-    Return an empty string if there are none, or if an expected row is wrong.
-    """
+    """Describe the rows that a page has in addition to the expected rows. Return an empty string if
+    there are none, or if an expected row is wrong."""
     if any(row != other for row, other in zip(due, sent) if row.strip()):
         return ""
     *others, last = ["", *(str(line.row) for line in find_text_rows(sent)
@@ -192,10 +180,8 @@ def find_coded_rows(rows: Rows) -> Iterator[CodedRow]:
 
 def describe_drawing_differences(subtitles: Sequence[Subtitle], pages: Sequence[Rows],
                                  held: Timeline, option: NationalOption) -> str:
-    """Describe how many subtitles have the correct characters in a different layout.
-
-    Also describe the difference in the first of these subtitles. `held` has the decoded pages.
-    """
+    """Describe how many subtitles have the correct characters in a different layout, and the
+    difference in the first of them. `held` has the decoded pages."""
     differing = [(subtitle, page, sent.rows) for subtitle, page in zip(subtitles, pages)
                  for sent in find_sent_subtitles([subtitle], held, option) if sent.rows != page]
     if not differing:
@@ -208,10 +194,8 @@ def describe_drawing_differences(subtitles: Sequence[Subtitle], pages: Sequence[
 
 
 def describe_row_difference(due: Rows, sent: Rows) -> str:
-    """Describe the first row that differs between two pages with the same characters.
-
-    The row, its column or its attributes may differ.
-    """
+    """Describe the first row that differs between two pages with the same characters, by its row,
+    its column or its attributes."""
     lines, others = [*find_coded_rows(due)], [*find_coded_rows(sent)]
     if len(lines) != len(others):
         return f"{counted(len(others), 'row')} instead of {len(lines)}"
@@ -243,17 +227,13 @@ HIDDEN = "hidden"  # kind of the warnings about hidden rows
 
 
 class Cell(NamedTuple):
-    """A character of a row.
-
-    `is_boxed` is true if two start box codes open its box, and `is_after_start_box` if at least one
-    does. `is_invisible` is true if it has the colour of its background.
-    """
+    """A character of a row."""
 
     column: int
     code: int
-    is_boxed: bool
-    is_after_start_box: bool
-    is_invisible: bool
+    is_boxed: bool  # two start box codes open its box
+    is_after_start_box: bool  # at least one start box code opens its box
+    is_invisible: bool  # it has the colour of its background
 
     @property
     def is_shown(self) -> bool:
@@ -324,10 +304,7 @@ def describe_hidden_characters(cells: bytes, option: str) -> str:
 
 
 class HiddenRows(NamedTuple):
-    """The results of `find_hidden_rows`.
-
-    `faults` has the rows that no receiver shows, and `warnings` the rows that some receivers hide.
-    """
+    """The rows that no receiver shows, and warnings about the rows that some receivers hide."""
 
     faults: list[NamedFault]
     warnings: list[Notice]
