@@ -38,7 +38,6 @@ class FakeChecker:
         self.sent, self.fails, self.work, self.calls = sent, fails, os.devnull, list[str]()
 
     def check(self, _: Request, name: str, begin: float, stretch: Unbroken) -> Outcome:
-        """Return the outcome that the real checker would return for a programme."""
         self.calls.append(name)
         if self.fails():
             return Outcome(None, "the machine failed")
@@ -60,7 +59,6 @@ class FakeChecker:
 
 
 def outcome(name: str, verdict: str, reason: str) -> Outcome:
-    """Return the outcome of a judged programme."""
     return Outcome({**make_unjudged(name, reason), "verdict": verdict,
                     "inputs": {"recording": {}}},
                    reason)
@@ -116,12 +114,10 @@ class Air(Case):
         return {name: str(self.result(name)["verdict"]) for name in names if name != "state"}
 
     def result(self, name: str) -> dict[str, Any]:
-        """Return the JSON result `name` in the output folder."""
         found: dict[str, Any] = json.loads(self.read(f"out/{name}.json"))
         return found
 
     def delete_all(self, *folders: str) -> None:
-        """Delete all files in the given folders of the test."""
         for folder in folders:
             for name in os.listdir(self.path(folder)):
                 os.unlink(self.path(f"{folder}/{name}"))

@@ -42,10 +42,7 @@ class Done(NamedTuple):
 
 
 class Bench:
-    """Settings of a test run, such as the program under test and the folder of the tests.
-
-    `over` lists the tests that were skipped, with reasons.
-    """
+    """Settings of a test run. `over` lists the tests that were skipped, with reasons."""
 
     def __init__(self) -> None:
         self.folder, self.is_timed, self.is_updated = "", False, False
@@ -87,11 +84,7 @@ class Case(unittest.TestCase):
         self.folder = self.bench.make_folder(self.id().rpartition("tests.")[2])
 
     def must(self, name: str, is_right: object, told: object = "") -> bool:
-        """Check that a condition is true. Continue after a failure.
-
-        A failure shows the caller's line and the first false part of the condition. Prefer `check`
-        if there is an expected value.
-        """
+        """Check a condition. Continue after a failure. Prefer `check` for an expected value."""
         with self.subTest(name):
             if not is_right:
                 frame = calling_frame()
@@ -137,10 +130,7 @@ class Case(unittest.TestCase):
 
     def call(self, command: Sequence[str], data: bytes | None = None,
              env: dict[str, str] | None = None, user: int | None = None, folder: str = "") -> Done:
-        """Run a command in the test's folder or in a folder within it.
-
-        Python tools run in a fork of this process, unless `env` or `user` is given.
-        """
+        """Run a command in the test's folder. Fork for Python tools without `env` and `user`."""
         does = forked_tool(command) if env is None and user is None else None
         done = subprocess.run(command, cwd=os.path.join(self.folder, folder), check=False,
                               stdout=subprocess.PIPE, stderr=subprocess.PIPE, timeout=SECONDS,
@@ -187,8 +177,7 @@ def is_python(path: str) -> bool:
 
 
 def forked_tool(command: Sequence[str]) -> Callable[[], NoReturn] | None:
-    """Return a function that runs a Python tool in a forked process, or `None` for other commands.
-    """
+    """Return a function that runs a Python tool in a fork. Return `None` for other commands."""
     sys.__stdout__.flush()
     return functools.partial(run_forked, command) if is_python(command[0]) else None
 

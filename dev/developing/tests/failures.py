@@ -36,8 +36,7 @@ def place_of(frame: FrameType) -> str:
 
 
 def shortened(lines: list[str]) -> str:
-    """Join the lines. Replace all lines after the first MOST with a line that gives their number.
-    """
+    """Join lines, but replace those after the first MOST with a line that gives their number."""
     more = [f"  .. {len(lines) - MOST} more lines"] * (len(lines) > MOST)
     return "\n".join([*lines[:MOST], *more])
 

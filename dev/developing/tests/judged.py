@@ -34,10 +34,7 @@ class LineRecorder(SilentPrinter):
 
 
 class JudgedPair(NamedTuple):
-    """A judged pair: its verdict, printed lines, JSON result, and the fault lines of its parts.
-
-    Printed commands may name only `files`.
-    """
+    """A judged pair: verdict, output, JSON result, fault lines. Commands may name only `files`."""
 
     verdict: Verdict
     said: list[str]
@@ -53,8 +50,7 @@ class JudgedPair(NamedTuple):
     def is_timed(self) -> bool:
         """Return whether a clock was known, or qc claimed nothing that needs a clock.
 
-        Without a clock, qc must print neither `accepted` nor `waived`. It must not return 0, unless
-        --relative allows it.
+        Without a clock, qc must not print `accepted` or `waived`. Status 0 needs --relative.
         """
         request, printed = self.verdict.request, (
             self.verdict.word, self.result["verdict"], self.said[-1].split(" ")[0])
@@ -77,10 +73,7 @@ class JudgedPair(NamedTuple):
 
 def judge_files(case: Case, *words: str, by: str | None = None,
                 recorder: LineRecorder | None = None) -> JudgedPair:
-    """Judge a pair with these arguments for qc.
-
-    Check that printed commands name only files of the pair.
-    """
+    """Judge a pair with these arguments for qc. Check that printed commands name only its files."""
     found = judge_files_with(by or case.bench.program, *words, recorder=recorder)
     case.must("a clock", found.is_timed(), found.said)
     for line in found.verdict.commands:
@@ -117,8 +110,7 @@ def judge_files_with(program: str, *words: str, recorder: LineRecorder | None = 
 class ProgrammeCase(Case):
     """A test case with a subtitle file `stl` and its transmission (`sent`, `pes`).
 
-    `due` contains the start and end frames of the subtitles. `words` are arguments for each run of
-    qc.
+    `due` contains the subtitles' start and end frames, `words` the arguments for each run of qc.
     """
 
     due: Sequence[tuple[int, int]] = subtitle_times(10)
@@ -134,12 +126,10 @@ class ProgrammeCase(Case):
         self.pes = packets(pes_file(self.sent))
 
     def judge(self, sent: Sent, *words: str) -> JudgedPair:
-        """Write a transmission to a PES file, and judge it."""
         return judge_files(self, self.stl, self.write("one.pes", pes_file(sent)), *self.words,
                            *words)
 
     def judge_stream(self, made: bytes | Iterable[Packet], *words: str) -> JudgedPair:
-        """Write a transport stream to a file, and judge it."""
         data = made if isinstance(made, bytes) else stream_bytes(made)
         return judge_files(self, self.stl, self.write("one.ts", data), *self.words, *words)
 

@@ -38,10 +38,7 @@ def fault_of(line: str) -> FaultLine:
 
 def make_answer(lines: Sequence[str] = ("accepted 10 frames 2 transmissions",),
            status: int | None = None, path: str = os.devnull) -> CheckOutput:
-    """Parse lines printed by `check --all`.
-
-    The lines are stored in the file `path`.
-    """
+    """Parse lines printed by `check --all`, and store them in the file `path`."""
     made = CheckOutput(path)
     for line in lines:
         made.read_line(line)
@@ -72,7 +69,6 @@ def make_part(begin: int | None, end: int | None, origin: int | None,
 
 
 def read_survey(*lines: str) -> Survey:
-    """Parse lines printed by `survey`."""
     survey = Survey()
     for line in lines:
         survey.read_line(line)
@@ -80,7 +76,6 @@ def read_survey(*lines: str) -> Survey:
 
 
 def request_for(stl: str, recording: str | None, *words: str) -> Request:
-    """Return the request for a pair of files with these options."""
     return make_file_request(stl, recording, default_options(*words))
 
 
@@ -118,9 +113,6 @@ def markup_text(*values: Value) -> str:
 
 
 def shell_script(lines: list[str], status: int) -> str:
-    """Return a shell command that prints lines and exits with `status`.
-
-    If `status` is negative, the command kills itself with this signal instead.
-    """
+    """Return a shell command that prints lines, and exits with `status` or by signal `-status`."""
     printed = "".join(f"echo '{line}'; " for line in lines)
     return printed + (f"exit {status}" if status >= 0 else f"kill {status} $$")

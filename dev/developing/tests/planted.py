@@ -66,8 +66,8 @@ def is_rare(chance: random.Random) -> bool:
     return chance.randrange(20) == 0
 
 
-# All inserters. They send one PES packet in each frame, one in most frames, or two in each frame.
-# With each of these, headers of repeated pages erase the page or keep it.
+# All inserters. They send one PES packet in each frame, one in most frames, or two in each frame,
+# and repeat pages with headers that either erase the page or keep it.
 INSERTERS = [Inserter(name, begins, ends, 12 if keeps else 25, keeps, each, is_left_out)
              for name, (begins, ends) in SHARES.items() for keeps in (False, True)
              for each, is_left_out in ((1, lambda chance: False), (1, is_rare),
@@ -117,10 +117,7 @@ class Programme:
         return (NEW_LINE * 2).join(line.encode() for line in lines)
 
     def plant(self, kind: str) -> bool:
-        """Plant a fault of this kind in a random subtitle.
-
-        Return whether any subtitle is long enough for the fault.
-        """
+        """Plant a fault in a random subtitle. Return whether any subtitle is long enough for it."""
         places = [*range(len(self.times))]
         self.chance.shuffle(places)
         self.fault = next(filter(None, (self.fault_at(kind, place) for place in places)), None)

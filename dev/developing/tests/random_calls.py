@@ -148,7 +148,6 @@ def in_folder() -> Iterator[None]:
 
 
 def schema_violations(known: Any) -> list[str]:
-    """Return the violations of the schema that `results.violations` finds in a JSON result."""
     return [*violations(known, schema())]
 
 

@@ -168,10 +168,7 @@ class Folder:
 
 
 def calls_in(number: int, program: str) -> list[CallOutput]:
-    """Run qc several times in a random folder, and return the output of each run.
-
-    `number` is the seed of the folder.
-    """
+    """Run qc several times in the random folder with the seed `number`. Return all outputs."""
     found = []
     with in_folder():
         folder = Folder(number, program)

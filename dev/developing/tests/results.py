@@ -28,7 +28,7 @@ WORDS = frozenset("""description $schema $comment title definitions $ref type co
 ENDS: dict[type, tuple[str, str]] = {
     str: ("minLength", "maxLength"), list: ("minItems", "maxItems"),
     int: ("minimum", "maximum"), float: ("minimum", "maximum")}
-# Number of items that are validated at the start of a list. After them, every 50th item is.
+# Number of items validated at the start of a list. Of the later items, every 50th is validated.
 SOME = 20
 REQUEST = {
     "stl": "one.stl", "recording": "one.ts", "page": "888", "every": 250, "option": "english",
@@ -63,7 +63,6 @@ def make_result(verdict: str = "refused", **more: Any) -> dict[str, Any]:
 
 @functools.lru_cache(maxsize=None)
 def schema() -> dict[str, Any]:
-    """Load docs/verdict.schema.json."""
     with open(SCHEMA, encoding="utf-8") as file:
         known: dict[str, Any] = json.load(file)
     return known
@@ -119,11 +118,7 @@ def is_of_kind(value: Any, kind: str) -> bool:
 
 
 def choice_errors(known: dict[str, Any], lines: Sequence[str]) -> Iterator[object]:
-    """Yield the faults in the choices of a result.
-
-    These are choices that qc did not print, values that are not listed as choices, and choices of
-    options that the user gave.
-    """
+    """Yield choices that qc did not print or list, and choices of options that the user gave."""
     printed = {line.removeprefix("qc: ").removeprefix("! ") for line in lines}
     chosen = {(one["option"], one["value"]) for one in known["choices"]}
     own = {(one["option"], one["value"], one["part"]) for one in known["choices"]}
@@ -157,8 +152,7 @@ def second_validator() -> Any:
 def all_violations(value: Any) -> list[str]:
     """Return the schema violations that two validators find in a result.
 
-    They are `violations` and python3-jsonschema, which is slow and reads only a sample of long
-    lists.
+    They are `violations` and the slow python3-jsonschema, which gets only samples of long lists.
     """
     reader = second_validator()
     others = [error.message for error in reader.iter_errors(sample_of(value))] if reader else []

@@ -76,7 +76,6 @@ def name_of(test: unittest.TestCase) -> str:
 
 
 def flattened(tests: unittest.TestSuite) -> Iterator[unittest.TestCase]:
-    """Yield the tests in a suite and in the suites nested in it."""
     for one in tests:
         if isinstance(one, unittest.TestSuite):
             yield from flattened(one)

@@ -112,7 +112,6 @@ class Scenario:
         return found
 
     def write(self, name: str, subtitles: list[Written]) -> None:
-        """Write a subtitle file to the current folder."""
         blocks = b"".join(one.blocks() for one in subtitles)
         data = make_gsi_block(b"At random", len(blocks) // 128 + self.has_chance(5), len(subtitles),
                               0, self.chance.choice((b"09", b"09", b"08")))

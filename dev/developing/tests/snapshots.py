@@ -35,10 +35,7 @@ def sha(text: str) -> str:
 
 
 def shortened(lines: Iterable[str], head: int = HEAD) -> list[str]:
-    """Return the lines of a list.
-
-    Replace the middle of a long list with a line that gives its number of lines and its hash.
-    """
+    """Replace the middle of a long list with a line that gives its number of lines and its hash."""
     lines = [part if len(part) <= WIDTH else f"{part[:WIDTH]}.. {sha(part)}"
              for line in lines for part in line.splitlines()]
     between = lines[head:-TAIL]
@@ -62,7 +59,7 @@ def members(value: Any, path: str = "") -> Iterator[str]:
 
 
 def json_text(text: str, printed: str, head: int) -> list[str]:
-    """Return a line for each value in a JSON result that is not in `printed`, and a hash of all."""
+    """Return a line for each JSON value that is not in `printed`, and the hash of the text."""
     found = json.loads(text.replace(" SECONDS,", ' "seconds": 0,'))  # see `without_volatile`
     lines = [line for line in members(found) if "=" not in line
              or line.partition(" = ")[2].strip('"') not in printed]
@@ -116,10 +113,7 @@ def report_text(number: int) -> list[str]:
 
 
 def text_of(name: str) -> list[str]:
-    """Return the lines to store for a run of qc.
-
-    The run is named by a text such as `call 17`, `named a list` or `report 3`.
-    """
+    """Return the lines to store for a run of qc: `call 17`, `named a list` or `report 3`."""
     kind, _, rest = name.partition(" ")
     if kind == "call":
         return call_text(random_calls.run_random_call(int(rest), BENCH.program))
@@ -215,8 +209,7 @@ def summary(changed: dict[str, list[tuple[Change, str, str]]]) -> list[str]:
 def compare(group: str, make: Callable[[str], list[str]], is_updated: bool) -> str:
     """Compare all runs in a group with their stored lines.
 
-    Return a message about the changes, or an empty string. If `is_updated` is true, store the lines
-    instead.
+    Return a message about the changes, or an empty string. Store the lines if `is_updated`.
     """
     before = stored(group)
     after = {name: make(name) for name in before}

@@ -117,7 +117,6 @@ class Maker:
         self.packets.append(made)
 
     def put(self, pid: int, data: bytes, is_access: bool = False) -> None:
-        """Add the TS packets of a PES packet."""
         first = 160 if is_access else PACKET - 4
         self.put_packet(pid, BEGINS, data[:first], bytes([RANDOM_ACCESS]) if is_access else b"")
         for at in range(first, len(data), PACKET - 4):
@@ -143,8 +142,8 @@ def with_pictures(pes: bytes, first: int, kind: int = MPEG_2, picture: bytes = b
                   passed: int = 3, leading: int = 2) -> Maker:
     """Make a stream whose first random access picture in display order has the PTS `first`.
 
-    `passed` pictures come before the first random access picture. `leading` pictures follow it and
-    are displayed before it, in a closed group (not with H.264).
+    `passed` pictures precede it. `leading` pictures follow it but are displayed before it. The
+    group is closed, except with H.264.
     """
     maker = Maker(components(kind))
     made = picture or {MPEG_2: mpeg_2_picture(), H_264: h_264_picture(),
@@ -184,7 +183,7 @@ class Programme(NamedTuple):
 def multiplex_programmes(programmes: Sequence[Programme], frames: int) -> Maker:
     """Make a transport stream with several programmes.
 
-    Each frame has a PCR, a picture, and the PES packets of Teletext up to its time.
+    Each frame has a PCR, a picture, and the PES packets whose PTS is not later than the frame.
     """
     maker, waiting = Maker([]), [{pid: [*pes] for pid, pes in one.pes.items()}
                                  for one in programmes]
@@ -211,8 +210,7 @@ def multiplex_frames(pes: list[bytes], begin: int, count: int, rounds: int = 66,
               page: int = 0x88) -> Iterator[bytes]:
     """Yield the frames of a transport stream.
 
-    Each frame has a PCR, PES packets of Teletext, and 16 * `rounds` video packets. 66 rounds make
-    40 Mbit/s.
+    Each frame has a PCR, PES packets, and 16 * `rounds` video packets (40 Mbit/s if 66 rounds).
     """
     maker = Maker(components(descriptor=teletext_descriptor(page=page)))
     filler = b"".join(make_head(VIDEO_PID, 0, PAYLOAD | counter) + b"\x55" * (PACKET - 4)
@@ -336,8 +334,7 @@ def announce_jump(data: bytes) -> bytes:
 
 
 def teletext_places(made: Sequence[Packet], pts: int) -> list[int]:
-    """Return the indexes of the Teletext packets, beginning with the PES packet that has this PTS.
-    """
+    """Return the indexes of Teletext packets, beginning with the PES packet that has this PTS."""
     begin = encode_pts(pts)
     first = next(at for at, one in enumerate(made)
                  if one.pid == TELETEXT_PID and begin in one.data[4:40])
@@ -358,7 +355,7 @@ def with_loss(made: Sequence[Packet], pts: int, count: int, is_announced: bool =
 
 
 def delete_between(made: list[Packet], first: int, count: int) -> list[Packet]:
-    """Delete the packets from Teletext packet `first` to before Teletext packet `first + count`."""
+    """Delete all packets from Teletext packet `first` to the one before `first + count`."""
     own = [at for at, one in enumerate(made) if one.pid == TELETEXT_PID]
     return made[:own[first]] + made[own[first + count]:]
 
@@ -397,10 +394,7 @@ def stream_with_video(pes: bytes, descriptor: bytes = teletext_descriptor(),
 
 
 def stream_of_pids(*of_pids: tuple[int, bytes]) -> bytes:
-    """Make a transport stream with PES packets on several PIDs, in ascending order of PTS.
-
-    The PMT announces page 888 on each PID.
-    """
+    """Make a stream with PES packets of page 888 on several PIDs, in ascending order of PTS."""
     maker = Maker([(VIDEO_PID, MPEG_2, b""), *(
         (pid, PRIVATE, teletext_descriptor()) for pid, _ in of_pids)])
     maker.put_tables()

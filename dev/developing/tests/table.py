@@ -15,11 +15,7 @@ TIMES = 3  # number of test classes chosen for each function
 
 
 class Called(NamedTuple):
-    """What is known about a test class.
-
-    `functions` contains the functions that it calls, such as `stream/gaps.py:late_of`. `seconds` is
-    its run time.
-    """
+    """The functions that a test class calls, such as `stream/gaps.py:late_of`, and its run time."""
 
     functions: AbstractSet[str]
     seconds: float
@@ -40,7 +36,6 @@ def module_of(name: str) -> str:
 
 
 def tests_of(name: str) -> list[str]:
-    """Return the test classes listed for a module or script."""
     return rows().get(module_of(name), [])
 
 
@@ -76,9 +71,9 @@ def lines(classes: Mapping[str, Called], kinds: Collection[Type[object]],
           before: Mapping[str, Sequence[str]]) -> Iterator[str]:
     """Yield the new lines of the table.
 
-    A module keeps its previous test classes if they still exist, since some of them run it in
-    another process. More classes are chosen by the functions that they call. Classes that import
-    the module are preferred. The tests of a script are found by its name in their source.
+    A module keeps its existing test classes, since some test it in another process. Further classes
+    are chosen because they call the module's functions, preferably classes that import it. A
+    script's tests are found by its name in their source.
     """
     names = {name_of(one) for one in kinds}
     standing = {module: {*tests} & names for module, tests in before.items()}

@@ -150,13 +150,11 @@ class Calls(Feeds):
         self.write_schedule(" ".join([f"{date:%Y-%m-%dT%H:%M:%SZ}", "one.stl", *options]))
 
     def judge_command(self, *words: str) -> list[str]:
-        """Return a command that runs `tools/air judge`."""
         return [tool_path("air"), "judge", self.path("schedule"), self.path("segments"), "-o",
                 self.path("out"), "-p", self.bench.program, *words]
 
     def spread(self, begin: float, end: float) -> None:
-        """Rename the segments: the first begins at `begin`. Set their modification times to `end`.
-        """
+        """Rename the segments so that the first begins at `begin`. Set their times to `end`."""
         names = sorted(name for name in os.listdir(self.path("segments")) if name.endswith(".ts"))
         for number, name in enumerate(names):
             path = self.path(f"segments/{segment_name(begin + number)}")

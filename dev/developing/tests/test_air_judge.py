@@ -23,10 +23,9 @@ OTHER = NAME.replace("one", "two")
 
 
 class Trial(NamedTuple):
-    """A test case: what is recorded and sent, and the expected verdict.
+    """A test case: what is recorded and sent, and the expected verdict with its reason.
 
-    All times are in seconds. `missing` contains lost parts of the recording. The verdict is due
-    `after` seconds after the scheduled end, with this reason.
+    Times are in seconds. `missing` was not recorded. The verdict is due `after` the scheduled end.
     """
 
     recorded: tuple[int, int]
@@ -97,7 +96,6 @@ class Judged(Air):
         return judge
 
     def recorded_so_far(self, folder: str, begin: float, end: float) -> list[Segment]:
-        """Return the segments between two times that have been recorded so far."""
         now = DAY + self.now - self.lag
         found = segments_between(folder, begin, min(end, now))
         return [one._replace(end=min(one.end, now)) for one in found]
@@ -273,7 +271,7 @@ class Judged(Air):
             self.write(f"work/{NAME}.{ending}", b'{"verdict": "relative"}')
         found = outcome(NAME, "relative", "relative")
         assert found.result
-        found.result["request"] = {}  # contained in the result of a judged programme
+        found.result["request"] = {}  # only results of judged programmes have a request
         checker.check = lambda *_: found  # type: ignore
 
         def write(path: str, is_stored: bool) -> contextlib.AbstractContextManager[BinaryIO]:

@@ -65,7 +65,7 @@ def possible(sent: Sent, time: int, lost: Lost, is_deleted: bool) -> set[str]:
         return {"not judged"}
     # A loss just before or after a programme may hide the cause of a fault.
     is_near = any(first <= sent.end and last >= sent.begin for first, last in lost)
-    # If the programme ends at the end of its margin, its end is known only without losses.
+    # If the programme begins at the end of its margin, a loss makes its end uncertain.
     is_last = sent.begin == time + MARGIN and bool(lost)
     deserved = "relative" if sent.is_right else "refused"
     is_open = is_deleted or (is_near or is_last) and not sent.is_right

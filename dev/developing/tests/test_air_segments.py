@@ -172,7 +172,6 @@ class Recorded(Air):
         return Recorder(self.path("segments"), Limits(length, kept, free))
 
     def contents(self) -> list[tuple[float, bytes]]:
-        """Return the start time and the contents of each segment."""
         return [(round(begin - DAY, 3), self.read(f"segments/{name}"))
                 for begin, name in names_in(self.path("segments"))]
 

@@ -16,7 +16,6 @@ UNITS = {RECORD: "record", JUDGE: "-o", "subttx-watch.service": "-o"}
 
 
 def read_unit(name: str) -> configparser.ConfigParser:
-    """Parse a systemd unit in the manual."""
     unit = configparser.ConfigParser(interpolation=None, strict=False)
     unit.optionxform = str  # type: ignore
     with open(os.path.join(MANUAL, name), encoding="utf-8") as file:

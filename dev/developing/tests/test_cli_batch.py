@@ -138,10 +138,7 @@ class CompleteBatches(Case):
 
     def batch(self, judged: str, *, is_stopped: bool = False, unwritten: dict[str, Any] = {},
               **more: Any) -> tuple[int, list[str], list[str]]:
-        """Judge a list of pairs with these verdicts. Return the status, the table and the messages.
-
-        `unwritten` has results that could not be written to a file.
-        """
+        """Judge pairs that have the verdicts in `judged`. Return the status, table and messages."""
         words = argparse.Namespace(**{**vars(default_options()),
                                       "batch": self.write("list", "".join(
             f"{self.path(name)}.stl {self.path('one.ts')}\n" for name in ("one", "two", "three")
@@ -277,7 +274,6 @@ class ForkedPairs(Case):
         return BatchItem(name, request_for(stl, self.path("one.ts"), *words), None)
 
     def judge_one(self, calls: PairRunner, item: BatchItem) -> Row:
-        """Judge one pair, and return its row in the table."""
         return calls.start(item) or next(calls.finished_rows(SECONDS))
 
     def test_gives_each_call_its_files_and_options(self) -> None:

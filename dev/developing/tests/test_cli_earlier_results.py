@@ -41,10 +41,7 @@ OTHERS: dict[str, object] = {
 
 class CurrentResults(Case):
     def accepted_pair(self) -> tuple[Any, dict[str, Any]]:
-        """Return the request for a pair with a severity file, and an earlier result of this pair.
-
-        The result is `accepted`.
-        """
+        """Return the request for a pair with a severity file, and its earlier result `accepted`."""
         paths = [self.write(name, data) for name, data in (
             ("one.stl", example_bytes("story.stl")), ("one.pes", example_bytes("story.pes")),
             ("severity", b"72 warning\n"))]
@@ -232,7 +229,6 @@ class StoredResults(Case):
 
 class WatchedFolders(Case):
     def arguments(self, **more: Any) -> argparse.Namespace:
-        """Return the parsed arguments for `qc --watch`."""
         arguments = argparse.Namespace(**vars(default_options()))
         vars(arguments).update({"watch": self.path("in"), "out": self.path("out"), "settled": 0,
                             "is_kept": True, "jobs": 3, "limit": 7, "every": 99,
@@ -240,7 +236,6 @@ class WatchedFolders(Case):
         return arguments
 
     def write_pair(self) -> None:
-        """Create the watched folder, and write a pair to it."""
         os.mkdir(self.path("in"))
         for name in ("in/a.stl", "in/a.ts"):
             self.write(name, b"1")

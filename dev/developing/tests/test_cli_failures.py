@@ -80,10 +80,7 @@ class CallCase(Case):
 
     def fake_program(self, *lines: str, then: str = "exit 0", alone: Sequence[str] = EMPTY,
                then_alone: str = "exit 1") -> str:
-        """Write a script that replaces subttx.
-
-        It prints `lines` for a recording, and `alone` for a subtitle file alone.
-        """
+        """Write a fake subttx that prints `lines` for a recording, `alone` for a subtitle file."""
         text = PROGRAM.replace("{program}", self.bench.program)
         for place, some, end in (("{said}", lines, then), ("{alone}", alone, then_alone)):
             quoted = " ".join(f"'{line}'" for line in some)
@@ -91,7 +88,6 @@ class CallCase(Case):
         return self.write_program("program", text)
 
     def qc(self, *words: str) -> Ended:
-        """Run qc in the test's folder. Return its status and output."""
         before = os.getcwd()
         received = [(one, signal.getsignal(one)) for one in SIGNALS]
         os.chdir(self.folder)
@@ -110,11 +106,10 @@ class CallCase(Case):
             return Ended(status, lines, [line for line in output if not line.endswith(FEW)])
         finally:
             os.chdir(before)
-            for one, handler in received:  # qc ignores signals at its end
+            for one, handler in received:  # qc ignores signals while it exits
                 signal.signal(one, handler)
 
     def judge(self, program: str, *words: str) -> Ended:
-        """Run qc on the example files `HELLO`."""
         return self.qc(*HELLO, "--origin", "0", "-p", program, *words)
 
 

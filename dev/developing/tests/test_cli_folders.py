@@ -31,7 +31,6 @@ def control_bytes(data: bytes) -> list[int]:
 
 
 def in_folder(case: Case, folder: str, *words: str) -> Done:
-    """Run qc in a folder of the test."""
     return case.call([tool_path("qc"), "-p", case.bench.program, *words], folder=folder)
 
 

@@ -279,16 +279,12 @@ def count_judged(case: Case) -> int:
 
 
 def reaches_pair(case: Case, folder: str, count: int) -> bool:
-    """Wait until a folder has `count` results and the check of the next pair has begun.
-
-    Return whether this happened in time.
-    """
+    """Return whether a folder gets `count` results and the next check begins before the limit."""
     return wait_until(lambda: os.path.isdir(case.path(folder)) and count_judged(case) == count + 1
                  and len(results_in(case, folder)) == count)
 
 
 def results_in(case: Case, folder: str) -> dict[str, Any]:
-    """Return the JSON results in a folder by their names."""
     found = {}
     for name in os.listdir(case.path(folder)):
         if name.endswith(".json") and not name.startswith("."):
@@ -297,10 +293,7 @@ def results_in(case: Case, folder: str) -> dict[str, Any]:
 
 
 def write_slowly(case: Case, name: str) -> float:
-    """Write a recording slowly, for longer than the settle time.
-
-    Return the longest pause between writes in seconds.
-    """
+    """Write a recording for longer than the settle time. Return the longest pause in seconds."""
     data, longest = example_bytes("recording.ts"), 0.0
     case.write(f"{name}.stl", example_bytes("story.stl"))
     last = time.monotonic()

@@ -53,7 +53,7 @@ ROWS: list[tuple[list[Shown], dict[int, str], tuple[int, int], list[int], list[i
     ([ONE], {80: "a", 90: "", 100: "a", 150: ""}, (0, 999), [], [0], ["begins 20 frames"]),
     ([ONE], {70: "a", 76: "", 100: "a", 150: ""}, (0, 999), [], [0], ["begins 30 frames"]),
     ([ONE], {70: "a", 75: "", 100: "a", 150: ""}, (0, 999), [0], [0], []),
-    # If the same text is sent again, its cues are measured only after more than a second.
+    # If the same text is sent again, its in-cue is measured only if the pause exceeds a second.
     ([ONE, (176, 220, "a")], {100: "a", 150: "", 178: "a", 220: ""}, (0, 999), [0, 2], [0, 0], []),
     ([ONE, (175, 220, "a")], {100: "a", 150: "", 178: "a", 220: ""}, (0, 999), [0], [0, 0], []),
     ([ONE, (160, 220, "b")], {100: "a", 150: "", 163: "b", 220: ""}, (0, 999), [0, 3], [0, 0], []),
@@ -61,7 +61,7 @@ ROWS: list[tuple[list[Shown], dict[int, str], tuple[int, int], list[int], list[i
     ([ONE, (150, 200, "b")], {100: "a", 152: "b", 200: ""}, (0, 999), [0, 2], [0], []),
     ([ONE, (151, 200, "b")], {100: "a", 150: "", 152: "b", 200: ""}, (0, 999), [0, 1], [0, 0], []),
     ([ONE, (150, 200, "a")], {100: "a", 201: ""}, (0, 999), [0], [1], []),
-    # If a subtitle is erased and sent again, its last end counts, within a limit.
+    # If a subtitle is sent again within two seconds of its TCO, its out-cue is the last erasure.
     ([ONE], {100: "a", 110: "", 120: "a", 150: ""}, (0, 999), [0], [0], []),
     ([ONE], {100: "a", 200: ""}, (0, 999), [0], [50], []),
     ([ONE], {100: "a", 150: "", 200: "a", 210: ""}, (0, 999), [0], [60], []),
@@ -207,7 +207,8 @@ ACCEPTED = "# With this profile, qc refuses none of these recordings."
 
 class Profiles(Case):
     def profile(self, *made: Programme) -> tuple[list[str], list[str]]:
-        """Measure programmes, and return the lines of the profile and the recordings' paths."""
+        """Measure recordings with qc. Return the lines of the profile, and the recordings' paths.
+        """
         paths = [self.write(f"{one.number}.pes", pes_file(one.sent())) for one in made]
         lines = [f"{one.stl} {path} --origin 0" for one, path in zip(made, paths)]
         listed = self.write("list", "\n".join(lines).encode())
@@ -221,10 +222,7 @@ class Profiles(Case):
             self.measure(seed)
 
     def measure(self, seed: int) -> bool:
-        """Measure one or two random programmes, and judge them with their profile.
-
-        Return whether all are accepted.
-        """
+        """Measure one or two random programmes. Return whether their profile accepts all."""
         chance = random.Random(seed)
         inserter = chance.choice(INSERTERS)
         made = [Programme(self, 10 * seed + number, inserter)
@@ -278,10 +276,7 @@ class Profiles(Case):
 
 
 def main(program: str, first: int, last: int) -> None:
-    """Measure programmes with the seeds `first` to `last - 1`.
-
-    Print how many profiles accept their recordings.
-    """
+    """Print how many profiles for the seeds `first` to `last - 1` accept their recordings."""
     BENCH.chosen = program
     case = Profiles("test_accepts_its_own_recordings_or_says_which_not")
     case.setUp()

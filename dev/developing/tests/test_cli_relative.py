@@ -96,7 +96,6 @@ class Clocks(Feeds):
                 one: not one.endswith(".stl")) if one.startswith(f"{name}.")]
 
     def qc(self, *words: str) -> tuple[int, list[str]]:
-        """Run qc in this process. Return its status and output lines."""
         status, out, _ = in_process(lambda line: qc("", "tools/qc", line), [
             "tools/qc", *words, "-p", self.bench.program])
         return status, out.splitlines()
@@ -131,7 +130,6 @@ class Clocks(Feeds):
         return known
 
     def single(self, name: str, chance: random.Random, origins: dict[str, int]) -> None:
-        """Judge one pair, and check its result."""
         one = chance.choice([*origins])
         words, given = self.options(chance, origins[one])
         status, lines = self.qc(*self.paths(one), *words, "-o", self.path("out"))

@@ -65,7 +65,6 @@ class Inputs(Case):
 
 class ListLines(Case):
     def judge(self, list_name: str) -> Done:
-        """Run `qc --batch` on a list of pairs."""
         return self.call([tool_path("qc"), "--batch", list_name, "-p", self.bench.program],
                          b"--page 888\n")
 

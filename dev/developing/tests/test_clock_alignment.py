@@ -128,10 +128,7 @@ class EstimatedClocks(unittest.TestCase):
 
     def clock_delay(self, delays: Sequence[int], within: int, shares: Lateness | None = None
               ) -> tuple[int, EarlyCues | None]:
-        """Return the frames from the earliest in-cue to the chosen clock, and the early cues.
-
-        The in-cues have the delays `delays`.
-        """
+        """Return by how many frames the clock is later than the first cue, and the early cues."""
         frames = [100 * at + at * at for at in range(1, len(delays) + 1)]
         cues = [ExpectedCue(frame, b"%d" % at, True) for at, frame in enumerate(frames)]
         base = find_time_bases([], packets_of([(TICKS * (frame + by), cue.letters) for frame, by,

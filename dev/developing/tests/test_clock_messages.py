@@ -212,7 +212,7 @@ class OriginLines(unittest.TestCase):
         self.assertEqual(list(format_breaks(parts[:1])), [])
 
     def shift_texts(self, *frames: int, bases: tuple[int, ...] = ()) -> list[str]:
-        """Return the lines printed about minutes that are delayed by these numbers of frames."""
+        """Return the lines printed about programme parts of a minute that have these delays."""
         parts = [part_at(one, 1500 * at, (*bases, *[0] * 99)[at]) for at, one in enumerate(frames)]
         cues = [SimpleNamespace(frame=1500 * at) for at in range(len(parts))]
         tracks: list[Any] = [SimpleNamespace(cues=cues, start=one, base=part.base)

@@ -30,7 +30,6 @@ FIRST, COUNT = 1_000_000, 12  # first TCI in frames; number of subtitles
 
 def evenly_spaced(count: int, step: int, lasts: int, text: bytes = b"Number %d", begin: int = 0
          ) -> list[Shown]:
-    """Return evenly spaced subtitles with their texts."""
     return [(begin + step * at, begin + step * at + lasts, text % at if b"%" in text else text)
             for at in range(count)]
 
@@ -43,7 +42,6 @@ class Origins(Case):
                                    name, 0, 20)
 
     def find(self, stl: str, pes: Sequence[bytes], *words: str) -> OriginEstimate:
-        """Estimate the origin of PES packets, with options for qc."""
         request = request_for(stl, "one.pes", *words)
         return estimate_origin(OriginSearch(stl, "one.pes", request.page, request.option,
                                             request.origin,
@@ -195,7 +193,6 @@ class Origins(Case):
                 for number, by in enumerate(late) for frame in (0, 40)]
 
     def own_stl(self) -> str:
-        """Write the programme's subtitle file. Return its path."""
         return self.stl(evenly_spaced(COUNT, 70, 40, begin=FIRST))
 
     def test_prints_no_part_if_one_is_unclear(self) -> None:
@@ -402,15 +399,14 @@ class Tracks(unittest.TestCase):
                 (first[2], [0] * 7 + [3] * 5, 7), ([3] * 7 + [0] * 5, second, 6),
                 ([3] * 5 + [0, 1] + [0] * 5, [0] * 5 + [3, 0] + [3] * 5, 5)):
             self.assertEqual(row((0, 0, before), (0, -40, own)), [(0, end), (-40, 12)], own)
-        # A change to another track must gain more than four points, and needs a next cue that is
-        # later.
+        # A change to another track must gain more than four points, and the next cue must be later.
         half, rest = [3] * 7 + [0] * 5, [0] * 7 + [3] * 5
         for before, place, wanted in (
                 ([3] * 8 + [2] * 4, (0, -40), [(0, 12)]), ([3] * 7 + [2] * 5, (0, -40), [
                     (0, 7), (-40, 12)]), (half, (0, 50), [(0, 12)]),
                 (half, (0, 49), [(0, 7), (49, 12)]), (half, (0, 100), [(0, 12)])):
             self.assertEqual(row((0, 0, before), (*place, rest)), wanted, (before, place))
-        # Matching cues before the first five consecutive matches count, too.
+        # Matching cues before the first five consecutive matches also count.
         self.assertEqual(row((0, 0, [3] * 4 + [0] + [3] * 5 + [0, 0]), (0, 5000, [0] * 6 + [
             3] * 6)), [(0, 12)])
 

@@ -37,10 +37,7 @@ def page_changes(cues: Sequence[ExpectedCue], origin: int) -> list[Sending]:
 
 def packets_of(sendings: Sequence[Sending], every: int = 0, chance: random.Random | None = None) \
         -> Packets:
-    """Return the PES packets of page transmissions.
-
-    If `every` is not 0, each page transmission is repeated every `every` frames.
-    """
+    """Return the PES packets of page transmissions, repeated every `every` frames if not 0."""
     made = Packets(0)
     shown: bytes | None = None
     for at, (pts, letters) in enumerate(sendings):
@@ -59,7 +56,6 @@ def packets_of(sendings: Sequence[Sending], every: int = 0, chance: random.Rando
 def find_origin(shown: Sequence[ExpectedSubtitle], packets: Packets, within: int = 0,
                 known: int | None = None,
           breaks: int = 0, run: int | None = None, late: Lateness | None = None) -> OriginEstimate:
-    """Estimate the origin of subtitles from PES packets."""
     request = OriginSearch("", "", origin=known, breaks=breaks)
     origin, bases = OriginEstimate(), find_time_bases(shown, packets, within)
     runs = find_airings(bases)

@@ -1,4 +1,4 @@
-"""Test, with tables, the search for a clock: time bases, matching cues, parts and repeats."""
+"""Table-driven tests of the search for a clock: time bases, matching cues, parts and repeats."""
 from __future__ import annotations
 
 import itertools
@@ -24,7 +24,7 @@ SHIFTS = (0, CLOCK - 2 * TICKS - 7)  # first PTS: without a wrap, and shortly be
 
 
 def changes_at(several: Sequence[tuple[int, bytes]], shift: int = 0) -> list[PageChange]:
-    """Return page changes to these texts, each with its ticks after the PTS `shift`."""
+    """Return page changes to these texts, each at its time in ticks after the PTS `shift`."""
     return [PageChange((shift + ticks) % CLOCK, letters, at, ((20, letters),) if letters else ())
             for at, (ticks, letters) in enumerate(several)]
 
@@ -136,8 +136,7 @@ class Fits(unittest.TestCase):
 
     def fit(self, sent: Sequence[tuple[int, bytes]], offs: Sequence[int] = (0,) * 9,
                length: int = 50, within: int = 0, shift: int = 0, start: int = 10) -> Any:
-        """Return the match of the cues with page changes, if the programme starts at frame `start`.
-        """
+        """Return the match of cues with page changes if the programme starts at frame `start`."""
         return base_with(self.cues, [(TICKS * frame + off, letters) for (frame, letters), off in
                                      zip(sent, offs)], length, within, shift).compare(start)
 

@@ -20,7 +20,7 @@ from .test_clock_delays import EARLIER, FIRST_PTS, STARTED, STORY
 from .test_judging_losses import large, lost
 from .test_stream_pace import without_pid, filled
 
-# Members of a result that depend on the file.
+# Members of a result that depend on the recording's file, not on its contents.
 OF_FILE = {"inputs", "files_at_start", "program", "date", "seconds", "request"}
 OF_PTS = re.compile(r'(--origin |PTS |origin": |_pts": |origin", "value": ")\d+( and \d+(?= \())?')
 PCR_FLAG, FIELD, PTS_FLAG, DTS_FLAG = 0x10, 0x20, 0x80, 0x40

@@ -97,10 +97,7 @@ def late_inserter(kind: str, count: int, is_adjoining: bool) -> Callable[[Case],
 
 
 def inserters() -> Iterator[Recording]:
-    """Yield recordings made by each inserter, with 12, 24 and 80 subtitles, adjoining or not.
-
-    They are judged without a clock.
-    """
+    """Yield recordings by each inserter, of programmes of three lengths, judged without a clock."""
     for kind, (begins, ends) in SHARES.items():
         within = max([1, *begins, *ends])
         for count in (12, 24, 80):
@@ -149,8 +146,7 @@ DISTANCES: dict[str, Callable[[random.Random, int], list[int]]] = {
 def paced_sent(case: Case, name: str, count: int, each: int) -> tuple[str, Sent]:
     """Return a subtitle file and its transmission.
 
-    `each` PES packets are sent in each frame with a page, and in each frame that the kind `name`
-    selects.
+    `each` PES packets are sent in each frame that has a page or is selected by the kind `name`.
     """
     chance, times = random.Random(f"{name} {count}"), evenly(count)
     stl = write_programme(case, times)
@@ -174,10 +170,7 @@ def paced(name: str, count: int, each: int) -> Callable[[Case], tuple[str, str]]
 
 
 def paces() -> Iterator[Recording]:
-    """Yield recordings with one or two PES packets per frame.
-
-    Each kind in DISTANCES selects the frames that have PES packets.
-    """
+    """Yield recordings with one or two PES packets in the frames that DISTANCES selects."""
     for kind, each, names in ((ONE_A_FRAME, 1, [*DISTANCES, "alone"]),
                               (TWO_A_FRAME, 2, [*DISTANCES])):
         for name in names:
@@ -188,10 +181,7 @@ def paces() -> Iterator[Recording]:
 
 
 class Service(NamedTuple):
-    """A programme in a transport stream: its number, and the pages that its PMT announces.
-
-    A page is given by PID, type and page number.
-    """
+    """A programme in a stream: its number, and its announced pages (PID, type, page number)."""
 
     number: int
     pages: Sequence[tuple[int, int, int]]
@@ -377,7 +367,7 @@ LARGEST = 9  # maximum size of a PES packet in TS packets
 
 
 def lossy(sent: Sent, each: int) -> bytes:
-    """Return a stream after a loss of all PES packets that are not in `sent`.
+    """Return a stream that has lost all PES packets not in `sent`.
 
     Before the loss, the stream had `each` PES packets in every frame.
     """
@@ -403,7 +393,7 @@ def lossy(sent: Sent, each: int) -> bytes:
 
 
 def is_bounded(kind: str, words: Sequence[str]) -> bool:
-    """Return whether no more recordings than allowed were refused or not judged."""
+    """Return whether the numbers of refused and of unjudged recordings are within their limits."""
     bound = LOST[kind]
     refused = sum(word not in ("accepted", "not judged") for word in words)
     return refused <= bound.refused and \

@@ -38,7 +38,7 @@ def left_out(folder: str, names: list[str]) -> set[str]:
 
 
 class Clone:
-    """A copy of the repository in a test's folder, with a program in dist/ and its PROVED."""
+    """A copy of the repository in a test's folder, with a program and its file PROVED in dist/."""
 
     def __init__(self, case: Case) -> None:
         self.case, self.top = case, case.path("clone")
@@ -57,7 +57,7 @@ class Clone:
         return os.path.join(self.top, *names)
 
     def tool(self, name: str, *words: str) -> list[str]:
-        """Run a tool of the copy. Return its output lines."""
+        """Run a tool in the copied repository. Return its output lines."""
         return self.case.call([self.path("tools", name), *words]).out.decode().splitlines()
 
     def put(self, folder: str, program: str, line: str = LINE) -> None:
@@ -90,7 +90,7 @@ class Clone:
         self.case.write_program(self.path("bin", name), text)
 
     def give_toolchain(self, text: str = TOOLCHAIN) -> str:
-        """Write the script `rt` to the copy. Return a PATH with it."""
+        """Write the script `rt` to the copied repository. Return a PATH with its folder."""
         self.give("rt", text)
         return os.pathsep.join([self.path("bin"), path_without_rt()])
 
@@ -109,7 +109,7 @@ class Clone:
         return self.call([self.path("dev", "release"), *words], self.give_toolchain())
 
     def check_runs(self, name: str, done: Done | None = None) -> None:
-        """Check that ./subttx runs the program and prints nothing else."""
+        """Check that ./subttx runs the program and prints only the program's output."""
         done = done or self.run(*PACKET)
         self.case.must(name, done == self.case.call([self.case.bench.program, *PACKET]), done)
 

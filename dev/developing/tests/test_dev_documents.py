@@ -29,7 +29,6 @@ CODE = re.compile(r"`[^`\n]*`")
 
 
 def documents() -> Iterator[tuple[str, str]]:
-    """Yield the path and text of each document."""
     for form in NAMES:
         for path in sorted(glob.glob(os.path.join(TOP, form))):
             yield path, read(path) or ""
@@ -208,10 +207,7 @@ LINE = re.compile(r"^([a-z_]+) +\S", re.M)  # line of the module list in __init_
 
 
 def entries(folder: str) -> list[str]:
-    """Return the names in a folder, as in the documents' lists.
-
-    Modules have no ending, and folders have a slash.
-    """
+    """Return the names in a folder, modules without extension and folders with a slash."""
     return sorted(name.removesuffix(".py") + "/" * os.path.isdir(os.path.join(folder, name))
                   for name in os.listdir(folder) if not name.startswith("__"))
 
@@ -276,7 +272,7 @@ class ModuleLists(Case):
 
 
 STORED = "dev/bodies-to-read.txt"
-# The first line of each function or impl in STORED. They call the system without a contract.
+# First lines of the functions and impls in STORED, which make system calls without a contract.
 HELD = [
     "fn main(rt: HostRuntime)",
     "impl<'a, R: Files + Eprint> FileSystem for SystemFiles<'a, R>",

@@ -212,7 +212,6 @@ def is_python(path: str) -> bool:
 
 
 def modules(folder: str) -> list[str]:
-    """Return the paths of all Python modules in a folder and its subfolders."""
     found: list[str] = []
     for name in sorted(os.listdir(folder)):
         path = os.path.join(folder, name)

@@ -75,7 +75,7 @@ class NationalOptions(unittest.TestCase):
                     whole = encode_line(text, option)
                     if (option.word, text) not in known and len(whole) == 1:
                         self.assertEqual(whole, [None], (option.word, text))
-                    if (option.word, text) not in known:  # each byte has its own cell
+                    if (option.word, text) not in known:  # here each byte has its own cell
                         self.assertEqual(whole, [code for byte in text for code in encode_line(
                             bytes([byte]), option)], (option.word, text))
 
@@ -153,10 +153,7 @@ def character_texts(option: NationalOption) -> list[tuple[Text, str]]:
 
 
 def texts(option: NationalOption) -> list[tuple[Text, str]]:
-    """Return the texts of vectors.tsv for a national option, each with its error message.
-
-    The message is an empty string if the text can be drawn.
-    """
+    """Return each text of vectors.tsv for an option, and its error message or an empty string."""
     found = []
     for line in rows_of("vectors.tsv"):
         cells, message = b"", line["prepared line or refusal"]
@@ -224,10 +221,7 @@ class Transmissions(Case):
                             option.word)[1][-1]
 
     def transmit(self, option: NationalOption, several: list[Text]) -> list[list[bytes]]:
-        """Return the Teletext packets that a transmission has for each text.
-
-        The list is empty for a text that repeats the previous page.
-        """
+        """Return the Teletext packets sent for each text, none if it repeats the previous page."""
         line = self.schedule_of(option, several)
         self.must(f"{option.word}: a schedule", line.startswith("written "), line)
         line = self.program("check", "a.stl", "a.pes", "--every", "1500", "--option",
@@ -325,10 +319,7 @@ def with_bits(data: bytes, *bits: int) -> bytes:
 
 
 def check_warnings(case: Case, name: str, done: Done, kinds: list[str]) -> list[Any]:
-    """Check the kinds of the warnings in one.json, and that each warning is printed and reported.
-
-    Return the warnings.
-    """
+    """Check the kinds of the warnings in one.json, and that all are reported. Return them."""
     verdict = json.loads(case.read("one.json"))
     check_schema(case, verdict, f"{name}: the schema")
     found: list[Any] = verdict["warnings"]

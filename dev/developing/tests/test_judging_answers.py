@@ -53,7 +53,7 @@ LISTS: list[tuple[list[str], int, str | None]] = [
     # The list is truncated, or the number of faults is wrong.
     ([FIRST], 1, None), ([FIRST, ENDED], 1, None), ([FIRST, "2 faults"], 1, None),
     ([FIRST, SECOND, "1 faults"], 1, None), ([FIRST, "1 faults", FIRST], 1, None),
-    # The output accepts and refuses the recording, or accepts it before the last line.
+    # The output has lines for both verdicts, or `accepted` is not in the last line.
     ([FIRST, GOOD], 0, None), ([FIRST, GOOD, "1 faults"], 0, None),
     ([GOOD, FIRST, "1 faults"], 1, None), ([GOOD, "0 faults"], 0, None),
     ([GOOD, "0 faults"], 1, None), ([GOOD, TRUSTED], 0, None),

@@ -163,8 +163,7 @@ def fake_answer(spans: list[tuple[int, int]], *edges: tuple[int, int]) -> Any:
 
 
 class RandomRow:
-    """A row of dev/vectors/causes.tsv, made from a seed: a random programme and its decoded pages.
-    """
+    """A row of dev/vectors/causes.tsv from a seed: a random programme and its decoded pages."""
 
     def __init__(self, number: int) -> None:
         self.chance = chance = random.Random(number)
@@ -191,8 +190,7 @@ class RandomRow:
     def wrong(self, due: dict[int, str], texts: list[str]) -> dict[int, str]:
         """Return the pages in `due` with one random fault.
 
-        `due` gives the page that each frame changes to. `texts` contains the pages of all
-        subtitles.
+        `due` maps the first frame of each page to the page. `texts` contains all pages.
         """
         chance = self.chance
         frame = chance.choice(list(due)[1:] or list(due))
@@ -281,7 +279,7 @@ class StoredRows(unittest.TestCase):
 BY_HAND: list[tuple[str, str, list[tuple[int, str, int | None, int | None, str | None]]]] = [
     ("100-150 a", "0:- 100:a 150:-", []), ("100-150 a", "0:- 103:a 150:-", [
         (0, "late", 3, None, "a")]),
-    # One or all subtitles are moved, some of them to the time of another subtitle.
+    # All subtitles are moved, or one is sent at the time of another subtitle.
     ("100-200 a;200-300 b", "0:- 200:a 300:b 400:-", [(0, "late", 100, None, "a"),
                                                      (1, "late", 100, None, "b")]),
     ("200-300 a;300-400 b", "0:- 100:a 200:b 400:-", [(0, "early", 100, None, "a"),
@@ -294,8 +292,8 @@ BY_HAND: list[tuple[str, str, list[tuple[int, str, int | None, int | None, str |
     ("100-150 a;300-340 b", "0:- 300:b 340:- 350:a 380:-", [(0, "late", 250, None, "a")]),
     ("100-150 a;300-340 b", "0:- 300:b 340:- 351:a 380:-", [
         (0, "never sent", None, None, None), (1, "unknown", None, None, "a")]),
-    # A text that is not in the file, sent between adjoining subtitles, counts for the subtitle
-    # whose time it takes up longer.
+    # A text that is not in the file and overlaps two subtitles counts for the subtitle that it
+    # overlaps longer.
     ("100-203 a;203-260 b", "0:- 100:a 200:z 260:-", [(1, "wrong text", None, None, "z")]),
     ("100-190 a;203-260 b", "0:- 100:a 195:- 200:z 260:-", [
         (0, "not erased", None, None, "a"), (1, "wrong text", None, None, "z")]),

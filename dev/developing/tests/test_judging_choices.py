@@ -182,10 +182,7 @@ class ForeignPackets(ProgrammeCase):
         self.pes += [make_pes_packet(last + 90_000 * at, blank) for at in range(1, 5)]
 
     def make_stream(self, first: int, number: int) -> bytes:
-        """Return a stream in which PES packets from `first` on are faulty.
-
-        The fault `number` is 31 (wrong stream_id) or 32 (wrong length).
-        """
+        """Return a stream with wrong stream_ids (31) or lengths (32) from PES packet `first` on."""
         def carried(at: int) -> list[tuple[int, bytes]]:
             one = self.pes[at]
             if at >= first:

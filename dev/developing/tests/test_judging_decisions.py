@@ -1,4 +1,4 @@
-"""Test, with tables, how qc handles folders, watched pairs, subtitles and pages."""
+"""Table-driven tests of how qc handles folders, watched pairs, subtitles and pages."""
 from __future__ import annotations
 
 import contextlib
@@ -108,7 +108,7 @@ class Folders(Case):
             self.must(f"{first} {second}", (item.request is not None) == is_pair, item)
         wrong = default_options("--origin", "5")
         wrong.start = "tcp"
-        for options in (default_options(), wrong):  # valid and invalid options
+        for options in (default_options(), wrong):
             [item] = find_folder_pairs(self.path("0"), options)
             self.must("files", ((item.request is None) == (options is wrong), {*item.files} -
                                 {None})

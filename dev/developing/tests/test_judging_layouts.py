@@ -58,10 +58,7 @@ def texts_of(some: random.Random, has_codes: bool, between: bytes, count: int
 class OtherLayouts(Case):
     def judge(self, texts: list[tuple[bytes, int]], drawn: str, *words: str,
               sent: list[tuple[bytes, int]] | None = None) -> JudgedPair:
-        """Judge a subtitle file with a recording that is drawn in the layout `drawn`.
-
-        The recording contains the texts `sent` if given, otherwise `texts`.
-        """
+        """Judge a file of `texts` with a recording of `sent`, by default `texts`, in a layout."""
         number = str(len(os.listdir(self.folder)))
         stl = file_of(self, texts, f"{number}.stl")
         other = file_of(self, sent or texts, f"{number}.sent.stl")
@@ -172,10 +169,7 @@ Said = tuple[bytes, int]  # subtitle text and justification code
 
 
 def altered(printed: Said, kind: int) -> Said:
-    """Return a text with one difference from the sent text.
-
-    `kind` selects a difference in control codes, characters, lines or justification.
-    """
+    """Return a text with a difference in codes, characters, lines or justification (`kind`)."""
     text, justify = printed
     return [(b"\x03" + text, justify), (b"\x08" + text, justify), (b"\x0d" + text, justify),
             (b"  " + text, justify), (text.replace(b"\x8a", b"\x8a\x8a\x8a", 1), justify),
@@ -250,10 +244,7 @@ def programme_of(seed: int) -> Programme:
 
 
 def with_fault(one: Programme, sent: Sent) -> Sent:
-    """Return the transmission after adding the faults of a programme.
-
-    The subtitle `early` is sent a frame early, and the subtitle `missing` lacks its last row.
-    """
+    """Send the subtitle `early` a frame early, and the subtitle `missing` without its last row."""
     made = []
     for pts, some in sent:
         place, rest = divmod(pts // TICKS - FIRST, EACH)

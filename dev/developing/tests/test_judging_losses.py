@@ -36,10 +36,7 @@ class HiddenPages(ProgrammeCase):
     due = TIMES
 
     def with_wrong(self, every: int = 25) -> Sent:
-        """Return a transmission with a PES packet in each frame. The page in frame AT is wrong.
-
-        `every` is the interval between page transmissions in frames.
-        """
+        """Return a transmission with a wrong page in frame AT, and PES packets in all frames."""
         sent = filled(schedule_pages(self, self.stl, every=every))
         return [*sent[:PLACE], (sent[PLACE][0], WRONG), *sent[PLACE + 1:]]
 

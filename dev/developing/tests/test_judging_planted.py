@@ -114,7 +114,7 @@ class Advice(ProgrammeCase):
             self.check(f"{number}", [one for one in ADVICE if one in words and number != 79], [])
 
 
-COUNT, NAMED = 100, 95  # programmes, and minimum number of faults that must be named
+COUNT, NAMED = 100, 95  # number of programmes, and of faults that must be named at least
 
 
 def sentence_of(case: Case, made: Programme) -> str:
@@ -137,10 +137,7 @@ class PlantedFaults(Case):
 
 
 def main(program: str, first: int, last: int) -> None:
-    """Plant faults with the seeds `first` to `last - 1`.
-
-    Print each fault that qc does not report, and the numbers of faults.
-    """
+    """Print each planted fault that qc does not report, and the numbers of faults."""
     BENCH.chosen = program
     case = PlantedFaults("test_names_at_least_95_of_100_planted_faults")
     counts = collections.Counter[str]()

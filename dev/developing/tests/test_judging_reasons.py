@@ -39,7 +39,7 @@ OTHER_PAGE = make_packet(0, 0, [0, 0, 0, 8, 0, 0, 0, 0], b" " * 32)  # header of
 def changed(one: bytes, at: int, off: int, on: int) -> bytes:
     """Clear the bits `off` and set the bits `on` in the header value at index `at`.
 
-    Return other packets than headers of page 888 unchanged.
+    Return packets other than headers of page 888 unchanged.
     """
     address = decode_address(one)
     numbers = decode_header(one) if address and address[1] == 0 else None

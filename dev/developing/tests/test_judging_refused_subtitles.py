@@ -1,4 +1,5 @@
-"""Test that correct subtitles are judged if others in their file are refused, and long inputs."""
+"""Test long inputs, and that correct subtitles are judged even if others in their file are refused.
+"""
 from __future__ import annotations
 
 import csv
@@ -230,7 +231,7 @@ class RefusedSubtitles(Case):
             f"the other subtitles were not judged: {empty} is empty" in found.verdict.notes and
             " (block 3), the national option " in found.verdict.sentence, found.said)
         odd, mild = bytearray(self.read("good.stl")), self.write("severity", b"others warning\n")
-        odd[11:12] = b"7"  # an invalid DSC refuses all subtitles
+        odd[11:12] = b"7"  # with an invalid DSC, all subtitles are refused
         rows: list[tuple[str, list[str], str]] = [
             (self.write_stl(3), [empty], "not judged"), (self.write_stl(3), [], "waived"),
             (self.write("odd.stl", bytes(odd)), [self.pes], "not judged"),
@@ -317,10 +318,7 @@ class ExpectedPages(unittest.TestCase):
 
 class RandomFiles(Case):
     def random_file(self, chance: random.Random) -> bytes:
-        """Return a file of up to eight subtitles with random characters.
-
-        Some subtitles overlap, are out of order, or have invalid times.
-        """
+        """Return a file of up to eight random subtitles, some overlapping, unordered or invalid."""
         blocks: list[Shown] = []
         frame = chance.randrange(1, 1000)
         for number in range(chance.randrange(1, 9)):

@@ -72,7 +72,6 @@ CLOCKS: Sequence[dict[str, Any]] = (
 
 
 def severity_of(*lines: str, is_loss_allowed: bool = False) -> Severity:
-    """Return the severities read from a severity file with these lines."""
     with tempfile.NamedTemporaryFile("w", suffix=".severity") as file:
         file.write("".join(f"{line}\n" for line in lines))
         file.flush()
@@ -113,10 +112,7 @@ class Decisions(unittest.TestCase):
 
     @staticmethod
     def expected_word(names: Sequence[str]) -> str:
-        """Return the expected verdict on parts without losses.
-
-        `names` contains the name in RIGHT or WRONG of each part's output.
-        """
+        """Return the expected verdict on parts without losses, by the names of their outputs."""
         if set(names) & WRONG.keys():
             return NOT_JUDGED
         if any(name.startswith("refused") for name in names):
@@ -162,8 +158,7 @@ class Decisions(unittest.TestCase):
                        clock: dict[str, Any]) -> None:
         """Check a verdict on parts with losses and warnings.
 
-        `is_allowed` means that losses are accepted, by --allow-lost or by a severity file in which
-        fault 45 is a warning.
+        `is_allowed` means that --allow-lost or a severity file accepts losses (fault 45).
         """
         found, losses, warnings = decide(seen), seen.judged_losses, seen.warnings
         if name in ("refused", "silent"):
@@ -277,7 +272,6 @@ SECOND = 25
 
 
 def answer_with(*lines: str, path: str) -> CheckOutput:
-    """Return output of `check --all` with these fault lines."""
     return make_answer([*lines, f"{len(lines)} faults"], path=path)
 
 

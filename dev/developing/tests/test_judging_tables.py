@@ -1,4 +1,4 @@
-"""Test, with tables, the decisions about pairs and their parts."""
+"""Table-driven tests of the decisions about pairs and their parts."""
 from __future__ import annotations
 
 import itertools
@@ -234,7 +234,7 @@ class FrameGrids(Case):
 
 
 def page_with(*rows: tuple[int, bytes]) -> tuple[bytes, ...]:
-    """Return a blank page except for these rows."""
+    """Return a page that is blank except for these rows."""
     page = list(BLANK_PAGE)
     for number, text in rows:
         page[number - 1] = text.ljust(40)

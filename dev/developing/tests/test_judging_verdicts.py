@@ -294,7 +294,7 @@ class PartDecisions(Case):
             self.must(f"{count} {pes} {lines}", part.is_read() == wanted)
 
         lines = [f"refused {refused}", trusted, "1 faults"]
-        for first, last in ((900_000, 900_024), (900_000, 900_049)):  # lost among 50 clean frames
+        for first, last in ((900_000, 900_024), (900_000, 900_049)):  # lost frames of 50 clean ones
             part = make_part(900_000, 900_050, 0, make_answer(lines), pes=(0, 1), places=[
                 loss_between(first - 1, last + 2, missing=9)])
             self.must(f"a hole from {first} to {last}", part.is_read() == (last < 900_049))

@@ -104,7 +104,7 @@ class Announcements(Case):
         for lines, carriers, wanted in rows:
             self.must(f"{lines} {carriers}",
                       find_silent_pids(announcements(*lines), carriers) == wanted)
-            for pes in (None, (0, 9)):  # if --pes is given, the programme is clear
+            for pes in (None, (0, 9)):  # --pes decides which programme is meant
                 found = self.why_unclear(lines, carriers, pes)
                 pids = [f"--pid 0x{pid:X}" for pid in sorted(carriers | wanted)]
                 self.must(f"{lines} {carriers} {pes}: refused", found == (

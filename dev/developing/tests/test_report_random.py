@@ -170,10 +170,7 @@ def text_of(item: tree.Element) -> str:
 
 
 def report_made(number: int, folder: str) -> tuple[JudgedPair, str]:
-    """Judge the random pair with the seed `number`. Return the judged pair and its report.
-
-    The report is an empty string if qc writes no report.
-    """
+    """Judge the random pair with a seed. Return the pair and its report, or an empty string."""
     out = os.path.join(folder, "out")
     found = judge_files_with(BENCH.program, *RandomPair(number, folder).words(), "-o", out)
     path = os.path.join(out, "one.html")
@@ -196,7 +193,6 @@ class CueRow(NamedTuple):
 
 
 def cue_rows(page: tree.Element) -> list[CueRow]:
-    """Return the rows in the cue list of a report."""
     return [CueRow(int(row.get("id", "")[1:]), set(row.get("class", "").split()),
                    [text_of(cell) for cell in row])
             for row in page.iter(HTML + "tr") if re.fullmatch(r"s\d+", row.get("id", ""))]
@@ -275,7 +271,6 @@ class Reports(unittest.TestCase):
                 self.assertNotEqual(held(request.recording or "", end, *within), page, row)
 
     def check_report(self, number: int, folder: str) -> None:
-        """Judge the random pair with the seed `number`, and check its report."""
         found, page = report_made(number, folder)
         out = os.path.join(folder, "out")
         if not page:

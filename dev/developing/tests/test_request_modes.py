@@ -251,7 +251,6 @@ def tool_module(name: str) -> Any:
 
 
 def call_in_process(name: str, words: Sequence[str]) -> Done:
-    """Run a Python tool in this process, and return its status and output."""
     module, out, errors = tool_module(name), io.StringIO(), io.StringIO()
     with mock.patch.object(sys, "argv", [tool_path(name), *words]), \
             contextlib.redirect_stdout(out), contextlib.redirect_stderr(errors):

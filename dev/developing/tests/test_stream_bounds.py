@@ -1,4 +1,4 @@
-"""Test values at and next to time limits. The PTS wrap at any place."""
+"""Test values at and next to time limits, with the PTS wrap at different places."""
 from __future__ import annotations
 
 import itertools
@@ -26,13 +26,11 @@ ORIGINS = 0, 7, CLOCK - 100 * SECOND - 5, CLOCK - 20 * SECOND, CLOCK - 5
 
 
 def pts_at(seconds: float | None, origin: int = 0) -> int | None:
-    """Return the PTS at `seconds` after `origin`, or `None` if `seconds` is `None`."""
     return None if seconds is None else round(origin + seconds * SECOND) % CLOCK
 
 
 def packets_at(times: Sequence[float | None], origin: int = 0, does: str = "he") -> Packets:
-    """Return PES packets at these seconds after `origin`. `None` stands for a packet without PTS.
-    """
+    """Return PES packets at these seconds after `origin`. A packet at `None` has no PTS."""
     return Packets(257, [PacketRun(number, 1, pts_at(one, origin), 0, does, "")
                          for number, one in enumerate(times)])
 

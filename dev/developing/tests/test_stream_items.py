@@ -28,9 +28,8 @@ class SentText(NamedTuple):
 class Row(NamedTuple):
     """A test case: a programme of 100 subtitles, and the layout that qc proposes for it.
 
-    `times` of the subtitles are transmitted as in `one`. `taken` is the proposed layout. `left` is
-    the layout that qc does not propose, and `more` the number of subtitles that this layout would
-    draw.
+    `times` subtitles are transmitted like `one`. `taken` is the proposed layout. `left` is a layout
+    that qc does not propose, although it would draw `more` subtitles correctly.
     """
 
     name: str
@@ -73,7 +72,7 @@ ITEMS = [
                              ("left=2", "after=0A,fit")]),
     ("", [])]
 OVERRULING = (*range(0x01, 0x08), 0x09, 0x0C)  # codes that override the codes of a line
-# Each layout with the items that hide text from a viewer.
+# Layouts, each with those of its items that may hide text from viewers.
 TAKEN = [
     ("strip=0A0B", ""), ("strip=0D", "strip=0D"), ("strip=0D,before=0D0B0B", ""),
     ("strip=0D,before=0B0B*0D", ""), ("strip=0A0B,before=", "before=,strip=0B"),
@@ -89,14 +88,12 @@ TAKEN = [
 
 
 def meant(text: str) -> Layout:
-    """Parse the text of a valid layout."""
     found = parse_layout(text) if text else PLAIN
     assert found is not None, text
     return found
 
 
 def rows_of(text: bytes, justify: int, layout: Layout, row: int = 18) -> tuple[bytes, ...]:
-    """Return the rows that a layout draws for a text."""
     lines = draw_text(text, row, justify, layout, ENGLISH)
     assert not isinstance(lines, TextFault), text
     return make_page_rows(lines)

@@ -87,10 +87,7 @@ def drawing_of(text: bytes, row: int, justify: int, layout: Layout) -> str:
 
 
 def line(some: random.Random, has_codes: bool) -> bytes:
-    """Return a random line of a subtitle.
-
-    It has all control codes if `has_codes` is true, otherwise at most a colour.
-    """
+    """Return a random line, with any control codes if `has_codes`, otherwise at most a colour."""
     text = " ".join(some.choice(WORDS) for _ in range(some.randrange(1, 5)))[:30].encode()
     colour = some.choice([b"", b"", b"\3", b"\6"])
     return b"\x0d" + colour + b"\x0b\x0b" + text + b"\x0a\x0a" if has_codes else colour + text

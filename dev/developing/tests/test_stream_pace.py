@@ -37,16 +37,13 @@ class Row(NamedTuple):
 
 
 def holed(frames: Sequence[int], *holes: tuple[int, int]) -> list[int]:
-    """Return the frames without those in `holes`.
-
-    A hole is a pair: a frame, and the number of missing frames after it.
-    """
+    """Return frames without `holes`, each a frame and the number of missing frames after it."""
     missing = {frame for first, count in holes for frame in range(first + 1, first + 1 + count)}
     return [frame for frame in frames if frame not in missing]
 
 
 def without_frames(count: int) -> list[int]:
-    """Return the frames of PES packets: two per frame, none in `count` consecutive frames."""
+    """Return frame numbers of PES packets, twice each, without `count` consecutive frames."""
     return [at // 2 for at in range(800) if not 200 <= at // 2 < 200 + count]
 
 
@@ -65,16 +62,16 @@ def repeated(steps: Sequence[int], times: int) -> list[int]:
 
 def regular(name: str, *rows: Sequence[int], frames: int = 2, each: int = 1, every: int = 250,
             pauses: Pauses = (), closer: int = 0) -> Row:
-    """Return a test case in which PES packets of a stream are found to be regular.
+    """Return a test case in which the PES packets of a stream are regularly spaced.
 
-    `frames` and `each` are the expected longest interval in frames and size in TS packets.
+    `frames` is the expected longest interval, `each` the size of a PES packet in TS packets.
     """
     return Row(name, rows, REGULAR, frames, each, every, pauses, closer)
 
 
 def of_pes(name: str, *rows: Sequence[int], frames: int = 1, every: int = 250, pauses: Pauses = (),
            closer: int = 0) -> Row:
-    """Return a test case in which the PES packets of a file are found to be regular."""
+    """Return a test case in which the PES packets of a file are regularly spaced."""
     return Row(name, rows, REGULAR, frames, 1, every, pauses, closer, False)
 
 
@@ -140,8 +137,7 @@ TABLE = [
     regular("before its end", holed(LONG, (999, 100)), pauses=[(0, 500), (1000, None)]),
     Row("before the first", [holed(LONG, (999, 100))], PAUSED, pauses=[(None, 1095), (1500, 1600)]),
     Row("long before it", [holed(LONG, (999, 100))], PAUSED, pauses=[(None, 3000)]),
-    # Streams whose PES packets are regular only before or after a frame, and streams with two
-    # losses.
+    # Streams with few PES packets in a part of the frames, and streams with two losses.
     *(Row(f"seldom at {at}", [[*range(at), *range(at, at + 500, 100), *range(at + 400, 5000)]],
           PAUSED) for at in (1, 2500, 4599)),
     Row("three by three", [[*range(2500), *(2600 + 100 * at + one for at in range(3)
@@ -164,7 +160,7 @@ TABLE = [
     regular("one of two", holed(LONG, (999, 100), (2999, 100)), pauses=[(999, 1100)]),
     Row("two of three", [holed(LONG, (999, 100), (1999, 100), (2999, 100))], PAUSED,
         pauses=[(999, 1100), (2999, 3100)]),
-    # Pauses if the longest allowed interval between PES packets, `every`, is longer.
+    # With a larger `every`, intervals of more than 250 and at most `every` frames are pauses.
     regular("300 frames by the usual bound", holed(LONG, (999, 299))),
     *(Row(f"{count + 1} frames of {every}", [holed(LONG, (999, count))], PAUSED, every=every)
       for count, every in ((299, 300), (250, 1500), (1499, 1500), (1999, 9000))),
@@ -321,7 +317,6 @@ class Losses(ProgrammeCase):
                                                          every=1), times))
 
     def check_faults(self, name: str, told: JudgedPair, word: str, *lines: str) -> None:
-        """Check the verdict and the reported faults of a judged pair."""
         faults = [line for line in told.listed if line.startswith("refused")]
         self.must(name, told.word == word and faults == [f"refused {line}" for line in lines],
                   (told.word, told.listed, told.told))

@@ -131,8 +131,7 @@ def lines_of(steps: Sequence[tuple[float, int]], origin: int = 0, video: int = V
 def survey_with(lines: Sequence[str] = ()) -> Survey:
     """Return a survey of two programmes.
 
-    The first programme has the video that `lines` describes, and a video without jumps. The second
-    has a video that jumps.
+    The first has the video in `lines` and a video without jumps, the second a video that jumps.
     """
     quiet, others = 0x300, 0x302
     survey = Survey()

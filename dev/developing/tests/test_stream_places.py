@@ -1,4 +1,4 @@
-"""Test losses in transport streams, the option --pace, and how lists of specifications are read."""
+"""Test losses in transport streams, the option --pace, and reading lists of specifications."""
 from __future__ import annotations
 
 import argparse
@@ -125,7 +125,6 @@ class StreamLosses(Case):
         return schedule_pes(self, stl, "--every", str(every))
 
     def survey_losses(self, made: list[Packet]) -> tuple[list[LossPlace], list[ClockJump]]:
-        """Return the losses of a multiplex, and its clock jumps."""
         path = self.write("heard.ts", stream_bytes(made))
         found = survey(self.bench.program, path, PAGE).by_pid[TELETEXT_PID]
         return find_loss_places(found), list(find_clock_jumps(found))

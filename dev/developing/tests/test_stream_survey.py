@@ -29,7 +29,6 @@ LATER_PID, OTHER_VIDEO = 0x111, 0x300
 
 
 def lines_of_kinds(case: Case, data: bytes, *kinds: str) -> list[str]:
-    """Return the lines of the given kinds that `survey` prints for a recording."""
     status, lines = case.program("survey", case.write("one.ts", data))
     case.must("status", status == 0, status)
     return [line for line in lines if line.split()[0] in kinds]
@@ -48,7 +47,6 @@ def lead(frame: int, ticks: int = 0, pid: int = TELETEXT_PID, video: int = VIDEO
 
 
 def timed_video(pts: int | None, dts: int | None = None, stream_id: int = 0xE0) -> bytes:
-    """Return a video PES packet with this PTS and DTS, or without them."""
     times = [] if pts is None else [encode_pts(pts)] if dts is None else [
         encode_pts(pts), encode_pts(dts)]
     return b"\0\0\1" + bytes([stream_id, 0, 0, 0x80, (0, 0x80, 0xC0)[len(times)], 5 * len(times)]) \
@@ -195,8 +193,7 @@ class PictureLines(Case):
               ) -> list[bytes]:
         """Split a PES packet at the offsets `cuts`, and return its TS packets.
 
-        `flagged` sets the random_access_indicator in the first TS packet, whose counter is
-        `counter`.
+        `flagged` sets the random_access_indicator in the first TS packet, numbered `counter`.
         """
         maker = Maker([])
         maker.counters[VIDEO_PID] = counter + 15
@@ -637,7 +634,6 @@ def without_second(packets: list[bytes]) -> list[bytes]:
 
 
 def repeat_first_for_second(packets: list[bytes]) -> list[bytes]:
-    """Replace the second TS packet with a copy of the first."""
     return [packets[0], packets[0], *packets[2:]]
 
 
@@ -884,7 +880,6 @@ class SurveyAnswers(Case):
                 before.append(pid)
 
     def fake_survey(self, lines: Sequence[str], status: int = 0) -> str:
-        """Write a program that prints these lines like `survey`, and return its path."""
         path = self.write("program", "\n".join([
             "#!/bin/sh", "echo survey 1", r"printf 'later \377\n'",
             "echo head $(printf %s \"$*\" | od -An -v -tx1 | tr -d ' \\n')",

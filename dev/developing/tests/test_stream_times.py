@@ -1,4 +1,5 @@
-"""Test, with tables, time bases, breaks, PCRs, unusual PTS, losses, and ranges of a recording."""
+"""Table-driven tests of time bases, breaks, PCRs, unusual PTS, losses, and ranges of a recording.
+"""
 from __future__ import annotations
 
 import itertools
@@ -214,7 +215,7 @@ class ClockTables(unittest.TestCase):
                 ([SECOND, SECOND + 1], [("early", 1, SECOND + 1), ("changed", 2, SECOND - 999)]),
                 ([1000 + SECOND // 2], []), ([1001 + SECOND // 2] * 20, [("changed", 20, 45_001)]),
                 ([-45_000, 47_000], [("behind", 1, -45_000), ("changed", 2, -46_000)])]
-        # Begin after the first minute, or before a PTS wrap within it.
+        # The rows begin after the first minute, or before a PTS wrap in the first minute.
         for begin, (more, wanted) in itertools.product((61, -100), rows):
             ahead = [*enumerate([30_000, *[1000] * 8]), *enumerate(more, begin)]
             samples = [(SECOND * (at - 3) % CLOCK, one) for at, one in ahead]
