@@ -1,4 +1,4 @@
-"""Judge a pair, a subtitle file and its recording, step by step."""
+"""Judge a pair (a subtitle file and its recording) step by step."""
 from __future__ import annotations
 
 import contextlib
@@ -37,10 +37,8 @@ from .verdict import DELAYING_FAULTS, Verdict, find_gaps, measure_delay
 
 
 def explain_part(part: Part, verdict: Verdict, listener: Listener, is_result_written: bool) -> Part:
-    """Return a copy of a part with the causes of its faults, its hints and its delays.
-
-    With --within 0, compute the delays only if a result is written, since results contain them.
-    """
+    """Return a copy of a part with the causes of its faults, its hints and its delays. With
+    --within 0, compute the delays only if a result is written, since results contain them."""
     request, numbers = verdict.request, part.check_output.fault_numbers
     causes = find_part_causes(part) if numbers & WITH_CAUSE else None
     if causes:
@@ -114,10 +112,7 @@ class LocatedRecording(NamedTuple):
 
 
 def find_adjoining_end(part: Part) -> int | None:
-    """Return the last TCO of a part if the page decoded at this TCO is its only fault.
-
-    Otherwise return `None`.
-    """
+    """Return the last TCO of a part if the page decoded at this TCO is its only fault."""
     fault, (_, alignment) = part.check_output.first_fault, part.judged_recording
     is_alone = part.check_output.fault_count == 1 and fault is not None and fault.number == CONTENT
     frame = fault.frame if fault else None
@@ -126,10 +121,8 @@ def find_adjoining_end(part: Part) -> int | None:
 
 
 def find_nearest_pauses(subtitles: Sequence[Subtitle], at: int) -> list[int]:
-    """Return the last TCO before frame `at` and the first TCO after it at which a pause begins.
-
-    The end of the file counts as a pause.
-    """
+    """Return the last TCO before frame `at` and the first TCO after it at which a pause begins. The
+    end of the file counts as a pause."""
     ends = [subtitle.end for subtitle, other in zip(subtitles, subtitles[1:])
             if subtitle.end < other.begin]
     ends += [subtitles[-1].end] if subtitles else []
@@ -183,10 +176,8 @@ class PairJudge:
                 self.listener.print_line(line)
 
     def stop(self, now: str) -> str:
-        """Keep the faults that were reported before a signal.
-
-        Return the message `now`, with the time up to which the recording was judged.
-        """
+        """Keep the faults that were reported before a signal. Return the message `now`, with the
+        time up to which the recording was judged."""
         part = self.current_part
         if part is None or any(known.check_output is part.check_output
                                for known in self.verdict.parts):
@@ -197,10 +188,8 @@ class PairJudge:
         return f"{now}, when check had reported {f'all up to {time}' if time else 'nothing yet'}"
 
     def judge_file(self) -> CheckOutput:
-        """Return the faults of the subtitle file.
-
-        If some subtitles are refused, store in the verdict which of the others are judged.
-        """
+        """Return the faults of the subtitle file. If some subtitles are refused, store in the
+        verdict which of the others are judged."""
         request, verdict = self.request, self.verdict
         if self.is_result_written:
             verdict.stl = sum_file(request.stl_path, request.stl)
@@ -235,10 +224,8 @@ class PairJudge:
         return answer
 
     def find_valid_subtitles(self, answer: CheckOutput) -> CheckOutput:
-        """Find the subtitles that can be judged although others are refused.
-
-        Return `answer` without the fault that there is no PES packet.
-        """
+        """Find the subtitles that can be judged although others are refused. Return `answer`
+        without the fault that there is no PES packet."""
         if self.request.recording is not None:
             file = SubtitleFile(self.names.program_stl, self.request.between)
             faults = (fault for fault, _ in answer.read_faults())
@@ -252,10 +239,8 @@ class PairJudge:
             if self.verdict.valid_subtitles else frozenset()
 
     def judge_alone(self, answer: CheckOutput, is_refused: bool) -> None:
-        """Decide the verdict from the subtitle file only.
-
-        `answer` has its faults, if `is_refused` is true. Otherwise there is no recording to judge.
-        """
+        """Decide the verdict from the subtitle file only. `answer` has its faults, if `is_refused`
+        is true. Otherwise there is no recording to judge."""
         report_file_check(self.request, self.command_paths, self.listener)
         answer.move_file(self.names.list_path)
         if is_refused:
@@ -275,10 +260,7 @@ class PairJudge:
                                                        part.open_subtitle_file()))
 
     def find_subtitles(self) -> list[Subtitle]:
-        """Return the subtitles to judge.
-
-        Raise `Unclear` if there is no subtitle between --from and --to.
-        """
+        """Return the subtitles to judge. Raise `Unclear` if --from and --to leave none."""
         between = self.request.between
         if self.verdict.valid_subtitles:
             return self.verdict.valid_subtitles.judged
@@ -291,10 +273,7 @@ class PairJudge:
 
     @functools.cached_property
     def located_recording(self) -> LocatedRecording:
-        """Read the recording once, and find its parts and their clocks.
-
-        Raise `Unclear` if they are ambiguous.
-        """
+        """Read the recording once, and find its parts and their clocks, or raise `Unclear`."""
         request = self.request
         subtitles = self.find_subtitles()
         self.verdict.subtitle_count = len(subtitles)
@@ -340,10 +319,8 @@ class PairJudge:
                           self.format_call("--pes", f"0-{count - 1}"))
 
     def judge_valid_subtitles(self, answer: CheckOutput) -> None:
-        """Judge the transmission of the subtitles that are not refused.
-
-        If this is impossible, refuse the file only, and add a note with the reason.
-        """
+        """Judge the transmission of the subtitles that are not refused. If this is impossible,
+        refuse the file only, and add a note with the reason."""
         try:
             with self.catch_missing_page():
                 self.judge_transmission()
@@ -359,7 +336,6 @@ class PairJudge:
         self.judge_alone(answer, True)
 
     def judge_transmission(self) -> None:
-        """Judge all parts of the recording."""
         recording, clocks, subtitles = self.located_recording
         programme = clocks.search._replace(skipped_positions=self.skipped_positions)
         if self.verdict.valid_subtitles:
@@ -415,10 +391,7 @@ class PairJudge:
 
     def refuse_adjoining_cut(self, part: Part) -> None:
         """Raise `Unclear` if the page at the last TCO is the only fault, and the next subtitle
-        begins there.
-
-        The option --to then cuts the file between two subtitles without a pause.
-        """
+        begins there. The option --to then cuts the file between two subtitles without a pause."""
         at = find_adjoining_end(part) if self.request.to_time and \
             not self.verdict.valid_subtitles else None
         if at is None or part.decoded_pages is None:
@@ -450,10 +423,8 @@ class PairJudge:
         self.listener.add_notes(*notes)
 
     def make_expected_pages(self, request: Request, subtitles: list[Subtitle]) -> ExpectedPages:
-        """Return the expected pages of subtitles.
-
-        If the file has refused subtitles, draw the pages in Python, not with `subttx schedule`.
-        """
+        """Return the expected pages of subtitles. If the file has refused subtitles, draw the pages
+        in Python, not with `subttx schedule`."""
         if self.verdict.valid_subtitles:
             layout = parse_layout(request.layout or "") or PLAIN
             return draw_valid_pages(subtitles, request.page, request.option, layout)
@@ -472,8 +443,7 @@ class PairJudge:
         self.verdict.warn([*warnings, *notices.find_character_set_notices(packets, self.request)])
 
     def add_part_warnings(self, part: Part, subtitles: list[Subtitle]) -> None:
-        """Add warnings about intervals without PES packets, and about an --every that is too long.
-        """
+        """Add warnings about intervals without PES packets, and about too large an --every."""
         origin = part.judged_recording[1].origin
         times = [(subtitle.begin, subtitle.end) for subtitle in subtitles]
         self.verdict.warn([

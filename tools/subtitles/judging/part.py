@@ -35,36 +35,32 @@ def no_expected_pages() -> ExpectedPages:
 
 @dataclasses.dataclass(frozen=True)
 class Part:
-    """A pair, or the part of a pair that has one clock. It is judged separately.
-
-    Each step of judging returns a copy with more fields. `alignment` has the frames and the clock;
-    it is `None` if only the subtitle file is judged. `pes` is the range of PES packets, and
-    `judged_file` the file with them if the recording came through a pipe. `jumps` has the PTS
-    before and after each announced jump of the continuity counter that may hide lost packets.
-    `check_output` has the faults that `check` reports, and the other fields explain them.
-    """
+    """A pair, or the part of a pair that has one clock. It is judged separately. Each step of
+    judging returns a copy with more fields."""
 
     number: int
     request: Request
     names: OutputNames
-    check_output: CheckOutput
-    alignment: TimedPart | None = None
+    check_output: CheckOutput  # faults that `check` reports; the fields below explain them
+    alignment: TimedPart | None = None  # its frames and clock, if it has a recording
     recording: Recording | None = None
     skipped_positions: Collection[int] = ()
-    pes: Range | None = None
-    judged_file: SummedFile | None = None
+    pes: Range | None = None  # PES packets to judge
+    judged_file: SummedFile | None = None  # the judged PES packets of a piped recording
+    # PTS before and after each announced jump of the continuity counter that may hide lost packets
     jumps: Sequence[PTSPair] = ()
     expected_pages: Callable[[], ExpectedPages] = no_expected_pages
     timeline: Callable[[], Timeline | None] = lambda: None
     severity: Severity | None = None
-    causes: Causes | None = None  # the causes of the faults
+    causes: Causes | None = None
     delays: Sequence[int | None] = ()  # frames from each TCI until the subtitle was complete
     is_recording_read: bool = False  # also true if there is no recording
     hint: str = ""  # hint on the fault to report first
     block_subtitle: str = ""  # description of the refused block's subtitle
     transmission_hint: str = ""  # hint on the first fault of the transmission
     header_problem: str = ""  # fault in the headers of PES packets
-    drawing_differences: str = ""  # the different layout of pages with the correct characters
+    # How the layout of pages with the correct characters differs
+    drawing_differences: str = ""
     # Number of headers with C4 clear, if this is their only fault
     keeping_headers: KeepingHeaders | None = None
 
@@ -88,37 +84,31 @@ class Part:
 
     @property
     def judged_recording(self) -> tuple[Recording, TimedPart]:
-        """Return the recording, and the frames and the clock of the part.
-
-        The part must have a recording.
-        """
+        """Return the recording, and the frames and the clock of the part, which must have one."""
         assert self.recording and self.alignment
         return self.recording, self.alignment
 
     @property
     def waived_numbers(self) -> set[int]:
-        """Return the numbers of the faults that the severity file turns into warnings.
-
-        Return an empty set if the part has no other faults: these faults then decide the verdict.
-        """
+        """Return the numbers of the faults that the severity file turns into warnings. Return an
+        empty set if the part has no other faults: these faults then decide the verdict."""
         numbers = {number for number in self.check_output.fault_numbers
                    if self.severity and not self.severity.is_error(number)}
         return numbers if numbers != self.check_output.fault_numbers else set()
 
     @functools.cached_property
     def worst_fault(self) -> WorstFault | None:
-        """Return the fault to report first, or `None` if there is none."""
+        """Return the fault to report first, if there is one."""
         return find_worst_fault(self.check_output, self.causes, self.waived_numbers)
 
     @functools.cached_property
     def worst_transmission_fault(self) -> WorstFault | None:
-        """Return the transmission fault to report first, or `None` if there is none."""
+        """Return the transmission fault to report first, if there is one."""
         return find_worst_fault(self.check_output, self.causes,
                                 STL_FAULTS | {UNDECIDED} | self.waived_numbers)
 
     @property
     def worst_fault_line(self) -> FaultLine | None:
-        """Return the fault line to report first, or `None` if there is none."""
         return self.worst_fault.fault if self.worst_fault else None
 
     @property
@@ -132,8 +122,7 @@ class Part:
         return self.timeline()
 
     def add_packets(self, pes: Range, judged: SummedFile | None = None) -> Part:
-        """Return a copy of the part with the PES packets to judge, and the pages decoded from them.
-        """
+        """Return a copy with the PES packets to judge, and the pages decoded from them."""
         recording, alignment = self.judged_recording
         request = self.request
 
@@ -148,7 +137,6 @@ class Part:
         return SubtitleFile(self.names.program_stl, self.request.between, self.skipped_positions)
 
     def summarize_check(self) -> CheckSummary:
-        """Return the values that decide the verdict on the part."""
         return self.check_output.summarize(self.is_recording_read)
 
     @property
@@ -174,10 +162,8 @@ class Part:
 
     @functools.cached_property
     def unmarked_losses(self) -> list[Span]:
-        """Return the frames with lost packets that `check` can't report.
-
-        These losses have no gap marker; only the PCR shows them.
-        """
+        """Return the frames with lost packets that `check` can't report: these losses have no gap
+        marker, and only the PCR shows them."""
         if self.alignment is None:
             return []
         places = [place for place in self.find_loss_places() if place.gap_marker is None
@@ -190,10 +176,7 @@ class Part:
         return self.check_output.trusted_frames.without(self.unmarked_losses)
 
     def list_pts(self, flags: str = "") -> array.array[int]:
-        """Return the PTS of the PES packets in the part.
-
-        If `flags` is not empty, return only the PTS of packets with at least one of these flags.
-        """
+        """Return the PTS of the PES packets in the part that have all `flags`."""
         return array.array("q", self.packets.pts(self.pes, flags) if self.pes else ())
 
     def find_options(self) -> set[str]:
@@ -223,11 +206,8 @@ class Part:
 
 
 def belongs_to_part(place: LossPlace, part: Part) -> bool:
-    """Return whether missing packets belong to a part.
-
-    They do if their gap marker is among the PES packets of the part. If there is no gap marker,
-    they do unless they are certainly before or after the frames of the part.
-    """
+    """Return whether missing packets belong to a part. They do if their gap marker is among its PES
+    packets or, if there is no gap marker, unless they are certainly outside its frames."""
     if part.alignment is None:
         return False
     if place.gap_marker is not None and part.pes is not None:
@@ -240,11 +220,8 @@ def belongs_to_part(place: LossPlace, part: Part) -> bool:
 
 
 def choose_parts(alignments: Sequence[TimedPart], whole: TimedPart) -> list[TimedPart]:
-    """Return the parts to judge.
-
-    A single part has all subtitles of the file. Each of several parts has the subtitles that begin
-    in its frames.
-    """
+    """Return the parts to judge. A single part has all subtitles of the file. Each of several parts
+    has the subtitles that begin in its frames."""
     if len(alignments) == 1:
         return [whole._replace(clock=alignments[0].clock, packets=alignments[0].packets)]
     return [alignment._replace(between=Between(alignment.begin, alignment.end))
@@ -253,8 +230,7 @@ def choose_parts(alignments: Sequence[TimedPart], whole: TimedPart) -> list[Time
 
 def refuse_missing_subtitles(parts: Sequence[TimedPart], subtitles: Sequence[Subtitle],
                              stl: str) -> None:
-    """Raise `Unclear` unless the parts together have all subtitles of the file, in the same order.
-    """
+    """Raise `Unclear` unless the parts together have all subtitles of the file, in order."""
     own = [subtitle for part in parts for subtitle in subtitles if part.between.has(subtitle.begin)]
     left = len(subtitles) - len(own)
     if left > 0:
@@ -265,7 +241,7 @@ def refuse_missing_subtitles(parts: Sequence[TimedPart], subtitles: Sequence[Sub
 
 
 def find_part_causes(part: Part) -> Causes | None:
-    """Return the causes of the faults in a judged part, or `None` if no fault has a cause."""
+    """Return the causes of the faults in a judged part, if any fault has a cause."""
     request, (recording, alignment) = part.request, part.judged_recording
     lost = part.find_loss_places() if recording.is_stream else []
     held = decode_near(part.packets, request.page, alignment.origin, request.within,
@@ -279,11 +255,8 @@ def find_part_causes(part: Part) -> Causes | None:
 
 
 def find_recorded_span(pts: tuple[int, int] | None, alignment: TimedPart) -> Span | None:
-    """Return the frames that were recorded completely.
-
-    `pts` has the PTS between which all packets were recorded. Return `None` if it is `None`, or if
-    PTS go back somewhere in the recording.
-    """
+    """Return the frames that were recorded completely. `pts` has the PTS between which all packets
+    were recorded, if known. Return `None` if the PTS go back somewhere in the recording."""
     if pts is None or alignment.packets:
         return None
     first, last = (ticks_within(pts_of(alignment.begin, alignment.origin),
@@ -294,10 +267,8 @@ def find_recorded_span(pts: tuple[int, int] | None, alignment: TimedPart) -> Spa
 def find_lost_spans(places: Sequence[LossPlace], origin: int, within: int,
                     is_with_next: bool = True) \
         -> Iterator[Span]:
-    """Yield the frames that may lack packets because of losses.
-
-    If `is_with_next` is true, include the frame of the next PES packet after each loss.
-    """
+    """Yield the frames that may lack packets because of losses. If `is_with_next` is true, include
+    the frame of the next PES packet after each loss."""
     for place in places:
         first, last = (None if pts is None else frame_in(pts, origin, within)
                        for pts in (place.before, place.after))

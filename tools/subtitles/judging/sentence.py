@@ -24,19 +24,17 @@ from .status import ACCEPTED, LOST, NOT_ANSWERED, NOT_JUDGED, REFUSED, RELATIVE,
 
 
 class Rank(enum.IntEnum):
-    """The severity of a fault for viewers. The worst rank has the lowest number.
-
-    Sentences, reports and batch tables begin with a fault of the worst rank.
-    """
+    """The severity of a fault for viewers. The worst rank has the lowest number. Sentences, reports
+    and batch tables begin with a fault of the worst rank."""
 
     FILE = 0  # the subtitle file is refused, so it should not be sent at all
     NEVER = 1  # viewers do not see a subtitle
     WRONG = 2  # viewers see a wrong text, or only part of a text
     MOVED = 3  # viewers see a text late or early
-    COLOUR = 4  # viewers see a text in another colour, height or box
+    COLOUR = 4  # viewers see a text with a wrong colour, height or box
     SOME = 5  # some receivers show the fault
     UNSEEN = 6  # nothing was received at the time of the fault
-    LATER = 7  # may be visible on other receivers, with weak reception, or after switching on
+    LATER = 7  # the fault may show on other receivers, with weak reception, or after switching on
 
 
 CAUSE_RANKS = {
@@ -66,12 +64,12 @@ def find_worst_named_fault(faults: Sequence[NamedFault], than: Rank | None) -> N
 
 
 def rank_number(number: int) -> Rank:
-    """Return the rank of the faults with a fault number."""
+    """Return the rank of faults with the given number."""
     return NUMBER_RANKS.get(number, Rank.LATER)
 
 
 def rank_cause(cause: Cause) -> Rank:
-    """Return the rank of a cause. A cause that may be no fault is less severe."""
+    """Return the rank of a cause. A cause that may not be a fault is less severe."""
     return Rank.UNSEEN if cause.may_be_correct else CAUSE_RANKS[cause.name]
 
 
@@ -93,10 +91,8 @@ class WorstFault(NamedTuple):
 
 def find_worst_fault(answer: CheckOutput, causes: Causes | None,
                      left_out: Collection[int] = ()) -> WorstFault | None:
-    """Return the first fault of the worst rank in a part, or `None` if there is no fault.
-
-    Ignore the fault numbers in `left_out`.
-    """
+    """Return the first fault of the worst rank in a part, if there is a fault. Ignore the fault
+    numbers in `left_out`."""
     is_caused = bool(causes and causes.by_index)
     leads = [WorstFault(rank_number(number), at, told)
              for at, (number, told) in enumerate(answer.first_faults.items())
@@ -109,11 +105,8 @@ def find_worst_fault(answer: CheckOutput, causes: Causes | None,
 
 
 def find_fault_line(answer: CheckOutput, causes: Causes, cause: Cause) -> FaultLine | None:
-    """Return the line of the fault that a cause explains.
-
-    This is the last fault at or before the first frame with a wrong page. If there is none, it is
-    the first fault of the same kind.
-    """
+    """Return the line of the fault that a cause explains. This is the last fault at or before the
+    first frame with a wrong page. If there is none, it is the first fault of the same kind."""
     edge = next((number for number in (BEGIN, END)
                  if causes.by_end_fault.get(number) == cause.subtitle_index
                  and number in answer.first_faults), None)
@@ -216,39 +209,32 @@ MAX_NUMBERS = 4  # maximum number of fault numbers listed in a sentence
 
 
 class FaultCount(NamedTuple):
-    """The number of faults with the same fault number."""
-
     number: int
     name: str
     fault_count: int
 
 
 class Facts(NamedTuple):
-    """The facts that the sentence about a verdict reports.
+    """The facts that the sentence about a verdict reports."""
 
-    `word` is the verdict. `first` is the fault to report first, and `hint` explains it. `counts`
-    has the number of faults for each fault number. `lost` has the lines about gaps, `warnings` the
-    kinds of warnings, and `named` the text of the first fault without a number.
-    """
-
-    word: str
+    word: str  # the verdict
     subtitles: int
-    first: FaultLine | None = None
+    first: FaultLine | None = None  # the fault to report first
     is_caused: bool = False
     faults: int = 0
-    counts: Sequence[FaultCount] = ()
-    hint: str = ""
+    counts: Sequence[FaultCount] = ()  # number of faults for each fault number
+    hint: str = ""  # explains the first fault
     of_block: str = ""
     causes: Causes | None = None
     option: str = "english"
-    lost: Sequence[str] = ()
-    warnings: Sequence[str] = ()
+    lost: Sequence[str] = ()  # lines about gaps
+    warnings: Sequence[str] = ()  # kinds of warnings
     reason: str | None = None
     is_file: bool = False  # whether only a subtitle file was judged
     refused: str = ""  # description of refused subtitles, if the others are judged
     within: int = 0
-    named: str = ""
-    waived: Sequence[FaultCount] = ()  # set only if other faults are not waived
+    named: str = ""  # text of the first fault without a number
+    waived: Sequence[FaultCount] = ()  # empty unless there are also faults that are not waived
     parts: int = 1  # number of parts, each with its own clock
     delay: int = 0  # delay of all subtitles in frames, if the operator gave the clock
     has_picture: bool = False  # whether the operator may use --start
@@ -284,10 +270,8 @@ def describe_waived_faults(seen: Facts) -> str:
 
 
 def describe_relative_match(seen: Facts) -> str:
-    """Return a clause for the verdict `relative`.
-
-    It says what matches if the clock is estimated, and which delay was not checked.
-    """
+    """Return a clause for the verdict `relative`. It says what matches if the clock is estimated,
+    and which delay was not checked."""
     within = f" within {counted(seen.within, 'frame')}" if seen.within else ""
     if seen.faults or seen.refused:
         found, delay = describe_waived_faults(seen), "a delay that all subtitles share"
@@ -303,7 +287,7 @@ def describe_relative_match(seen: Facts) -> str:
 
 
 def describe_success(seen: Facts) -> str:
-    """Return the clause that the subtitles have no fault."""
+    """Return the clause that says that the subtitles have no fault."""
     subtitles = counted(seen.subtitles, "subtitle")
     if seen.is_file:
         return f"{subtitles} without a fault"
@@ -374,10 +358,8 @@ def describe_first_fault(seen: Facts) -> str:
 
 
 def describe_other_faults(seen: Facts) -> str:
-    """Describe the faults whose number differs from that of the first fault.
-
-    Leave out faults that may have a cause.
-    """
+    """Describe the faults whose number differs from that of the first fault. Leave out the fault
+    numbers that can have a cause (`WITH_CAUSE`)."""
     first = seen.first.number if seen.first else None
     others = [count for count in seen.counts
               if count.number not in WITH_CAUSE and count.number != first]
@@ -385,10 +367,8 @@ def describe_other_faults(seen: Facts) -> str:
 
 
 def describe_counts(several: Sequence[FaultCount]) -> str:
-    """Describe how many faults have each fault number, worst first.
-
-    After `MAX_NUMBERS` fault numbers, describe only how many fault numbers are left.
-    """
+    """Describe how many faults have each fault number, worst first. After `MAX_NUMBERS` fault
+    numbers, describe only how many fault numbers are left."""
     rising = sorted(several, key=lambda count: (rank_number(count.number), count.number))
     words = [f"{count.number} {count.name}" +
              (f" ({count.fault_count:,})" if count.fault_count > 1 else "") for count in rising]

@@ -1,5 +1,4 @@
-"""Decide the verdict, its exit status, and which faults are errors. No other module decides them.
-"""
+"""Decide the verdict, its exit status, and which faults are errors. Only this module does."""
 from __future__ import annotations
 
 from typing import Collection, Iterable, NamedTuple, Sequence
@@ -83,53 +82,42 @@ NOTHING_READ = "none of the recording was read, and --severity makes all faults 
 
 
 class CheckSummary(NamedTuple):
-    """The result of `check` for one part.
+    """The result of `check` for one part."""
 
-    `exit_status` is negative if a signal ended `check`, and `None` while `check` is running.
-    `is_accepted` is true if the last line accepts the part. `fault_count` is the number of reported
-    faults, and `printed_total` the number on the last line. `is_read` is true if `check` read any
-    PES packet, or if there is no recording.
-    """
-
-    exit_status: int | None
-    is_accepted: bool = False
-    fault_count: int = 0
-    printed_total: int | None = None
+    exit_status: int | None  # negative after a signal; `None` while `check` is running
+    is_accepted: bool = False  # whether the last line accepts the part
+    fault_count: int = 0  # number of reported faults
+    printed_total: int | None = None  # number of faults on the last line
     fault_numbers: Collection[int] = ()
+    # Whether `check` read any PES packet, or there is no recording
     is_read: bool = True
 
 
 class Grounds(NamedTuple):
-    """The values that decide a verdict.
-
-    `judged_losses` has an entry for each loss that only the PCR shows. The entry is true if packets
-    of judged frames are lost. (`check` itself reports the other losses.) `reasons` says why the
-    pair was not judged. `failed_outputs` names the outputs that could not be written, or that would
-    describe other files. `has_clock` is true if the clock was given, or if there is no recording.
-    Without a clock, a delay that all subtitles share can't be detected, so the best verdict is
-    `relative`.
-    """
+    """The values that decide a verdict."""
 
     parts: Sequence[CheckSummary]
     severity: Severity
+    # For each loss that only the PCR shows, whether packets of judged frames are lost (`check`
+    # itself reports the other losses)
     judged_losses: Sequence[bool] = ()
     warnings: Sequence[str] = ()
     is_strict: bool = False
-    reasons: Sequence[str] = ()
+    reasons: Sequence[str] = ()  # why the pair was not judged
+    # Outputs that could not be written, or that would describe other files
     failed_outputs: Sequence[str] = ()
     named_faults: Sequence[str] = ()
+    # Whether the clock was given, or there is no recording. Without a clock, a delay that all
+    # subtitles share can't be detected, so the best verdict is `relative`.
     has_clock: bool = False
     is_relative_allowed: bool = False  # value of --relative
 
 
 class Decision(NamedTuple):
-    """A verdict in one word.
-
-    `reason` says why the pair is not judged. It is `None` if `Grounds.reasons` says why.
-    """
+    """A verdict in one word."""
 
     word: str
-    reason: str | None = None
+    reason: str | None = None  # why the pair is not judged, unless `Grounds.reasons` says why
     is_relative_allowed: bool = False
 
     @property
@@ -139,10 +127,8 @@ class Decision(NamedTuple):
 
 
 def decide_part(summary: CheckSummary) -> str:
-    """Return the verdict on one part.
-
-    The part is not judged unless the last line, the faults and the exit status of `check` agree.
-    """
+    """Return the verdict on one part. The part is not judged unless the last line, the faults and
+    the exit status of `check` agree."""
     if summary.exit_status == 0 and summary.is_accepted and not summary.fault_count and \
             not summary.fault_numbers:
         return ACCEPTED
@@ -180,18 +166,14 @@ def decide(grounds: Grounds) -> Decision:
 
 
 def matches_exit_status(word: str, status: int, exit_status: int) -> bool:
-    """Return whether a run of qc ended with `status`, the exit status in its JSON result.
-
-    `exit_status` is the exit status of the run. The verdict `word` must also allow it.
-    """
+    """Return whether a run of qc ended with `status`, the exit status in its JSON result, and the
+    verdict `word` permits this status."""
     return status == exit_status and (word, status) in POSSIBLE_RESULTS
 
 
 def combine_statuses(statuses: Iterable[int], is_stopped: bool = False) -> int:
-    """Return the exit status for several verdicts, which is the worst of their statuses.
-
-    Return 2 if there is no verdict, or if `is_stopped` is true because pairs are missing.
-    """
+    """Return the exit status for several verdicts, which is the worst of their statuses. Return 2
+    if there is no verdict, or if `is_stopped` is true because pairs are missing."""
     found = {*statuses}
     if is_stopped or not found or not found <= {*WORST_FIRST}:
         return 2

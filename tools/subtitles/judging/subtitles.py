@@ -27,10 +27,7 @@ AT_MIDNIGHT = "the file runs past midnight: split it there"
 
 
 def advise_on_midnight(fault: FaultLine, subtitles: SubtitleFile) -> str:
-    """Return the advice to split a file whose times pass midnight at a fault.
-
-    Return an empty string for other faults.
-    """
+    """Return the advice to split the file if the fault is that its times pass midnight, else ""."""
     if fault.block is None or fault.number not in (EMPTY_TIME, OUT_OF_ORDER):
         return ""
     if fault.number == EMPTY_TIME:
@@ -44,11 +41,8 @@ def advise_on_midnight(fault: FaultLine, subtitles: SubtitleFile) -> str:
 
 
 def advise_on_title(subtitles: SubtitleFile) -> str:
-    """Return advice on the first subtitle if it is probably a title that is not sent.
-
-    Such a subtitle is at 00:00:00:00, and an hour before all others. Otherwise return an empty
-    string.
-    """
+    """Return advice on the first subtitle if it is probably a title that is not sent, because it is
+    at 00:00:00:00, and an hour before all others. Otherwise return an empty string."""
     rest = min((frame for frame in subtitles.begins if frame), default=0)
     if not rest >= HOUR or subtitles.begins[0]:
         return ""
@@ -84,10 +78,8 @@ class OptionAdvice:
 
 
 def advise_on_character(letter: bytes, complete_options: list[NationalOption]) -> str:
-    """Return advice on a character that the national option lacks.
-
-    `complete_options` has the options that contain all characters of the file.
-    """
+    """Return advice on a character that the national option lacks. `complete_options` has the
+    options that contain all characters of the file."""
     if complete_options:
         verb = "has" if len(complete_options) == 1 else "have"
         return f"use {format_options(complete_options, 'or')}, which {verb} all characters of " \
@@ -117,19 +109,14 @@ PAGE_FLAGS, ERASE_FLAGS = "heo", "heb"  # flags of a PES packet with a page, or 
 
 
 class SubtitleCounts(NamedTuple):
-    """The number of judged subtitles, and the number of refused subtitles.
-
-    The latter includes the subtitles that are skipped because the next subtitle is refused.
-    """
+    """The number of judged subtitles, and the number of refused subtitles and of those that are
+    skipped because the next subtitle is refused."""
 
     judged: int
     refused: int
 
     def describe(self) -> str:
-        """Return text such as `7 subtitles judged, 2 refused`.
-
-        Return an empty string if no subtitle is refused.
-        """
+        """Return text such as `7 subtitles judged, 2 refused`, or "" if none is refused."""
         return f"{counted(self.judged, 'subtitle')} judged, {self.refused:,} refused" \
             if self.refused else ""
 
@@ -160,16 +147,13 @@ class RefusedSubtitle(NamedTuple):
 
 
 class ValidSubtitles(NamedTuple):
-    """The subtitles that are judged although others in the file are refused.
-
-    `check --all` judges the transmission from each correct subtitle to the next one. A subtitle is
-    correct if it has no fault and the next subtitle is neither out of order nor overlaps it.
-    `skipped_positions` has the positions of the subtitles that are not judged.
-    """
+    """The subtitles that are judged although others in the file are refused.  `check --all` judges
+    the transmission from each correct subtitle to the next one. A subtitle is correct if it has no
+    fault and the next subtitle is neither out of order nor overlaps it."""
 
     judged: list[Subtitle]
     refused: list[RefusedSubtitle]
-    skipped_positions: frozenset[int]
+    skipped_positions: frozenset[int]  # of the subtitles that are not judged
 
     def format_lines(self) -> Iterator[str]:
         """Yield a line about each refused subtitle, up to a maximum number of lines."""
@@ -190,11 +174,9 @@ class ValidSubtitles(NamedTuple):
 
 
 def has_valid_subtitles(numbers: set[int]) -> bool:
-    """Return whether `check` judges some subtitles although others are refused.
-
-    `numbers` has the fault numbers for the subtitle file alone. If `check` judges subtitles, it
-    also reports that there is no PES packet.
-    """
+    """Return whether `check` judges some subtitles although others are refused. `numbers` has the
+    fault numbers for the subtitle file alone. If `check` judges subtitles, it also reports that
+    there is no PES packet."""
     return EMPTY in numbers and bool(numbers & STL_FAULTS)
 
 
@@ -245,10 +227,8 @@ def make_refused_subtitle(file: SubtitleFile, fault: FaultLine, advice: OptionAd
 def draw_valid_pages(subtitles: Sequence[Subtitle], page: Page, option: str,
                      layout: Layout = PLAIN) \
         -> ExpectedPages:
-    """Return the expected pages of the judged subtitles.
-
-    They are drawn in Python, because `subttx schedule` refuses a file with refused subtitles.
-    """
+    """Return the expected pages of the judged subtitles. They are drawn in Python, because `subttx
+    schedule` refuses a file with refused subtitles."""
     pages = [draw_page(one, option, layout) for one in subtitles]
     packets = Packets(PES)
     for place, (subtitle, rows) in enumerate(zip(subtitles, pages)):

@@ -33,18 +33,15 @@ CLOCK_PREFIX = "clock: "
 
 
 class PartSearch(NamedTuple):
-    """A request to find the parts of a recording.
-
-    `full_range` has the first and the last frame of the subtitles, and the clock if one was given.
-    `allowed_packets` is the range of PES packets that may be judged. `skipped_positions` has the
-    positions of subtitles to skip. `is_continued` is true if the first judged subtitle directly
-    follows a subtitle that has the same text and is not judged.
-    """
+    """A request to find the parts of a recording."""
 
     request: Request
+    # The first and the last frame of the subtitles, and the clock if one was given
     full_range: TimedPart
-    allowed_packets: Range | None
-    skipped_positions: frozenset[int] = frozenset()
+    allowed_packets: Range | None  # PES packets that may be judged
+    skipped_positions: frozenset[int] = frozenset()  # of subtitles to skip
+    # Whether the first judged subtitle directly follows a subtitle that has the same text and is
+    # not judged
     is_continued: bool = False
 
 
@@ -57,10 +54,8 @@ class PartClocks(NamedTuple):
 
 
 def find_parts(search: PartSearch, recording: Recording, listener: Listener) -> PartClocks:
-    """Find the parts of a recording and their clocks.
-
-    The first part has the clock from --origin or --start, if given.
-    """
+    """Find the parts of a recording and their clocks. The first part has the clock from --origin or
+    --start, if given."""
     request, whole = search.request, search.full_range
     given = get_given_clock(request) or find_start_clock(search, recording, listener)
     origin = report_estimated_origin(search, recording, given, listener)
@@ -77,12 +72,12 @@ def find_parts(search: PartSearch, recording: Recording, listener: Listener) -> 
 
 
 def get_given_clock(request: Request) -> Clock | None:
-    """Return the clock from --origin, or `None` if it was not given."""
+    """Return the clock from --origin, if given."""
     return None if request.origin is None else Clock(request.origin, GIVEN)
 
 
 def find_start_clock(search: PartSearch, recording: Recording, listener: Listener) -> Clock | None:
-    """Return the clock from --start and the first picture, or `None` if --start was not given."""
+    """Return the clock from --start and the first picture, if --start was given."""
     request, whole = search.request, search.full_range
     if request.start is None:
         return None
@@ -101,10 +96,7 @@ def find_start_clock(search: PartSearch, recording: Recording, listener: Listene
 
 def report_estimated_origin(search: PartSearch, recording: Recording, clock: Clock | None,
                             listener: Listener) -> OriginEstimate:
-    """Estimate the origin of a recording, and print it.
-
-    If `clock`, a given clock, is not `None`, also print the difference.
-    """
+    """Estimate the origin of a recording, and print it and its distance from a given `clock`."""
     request = search.request
     origin_search = OriginSearch(request.stl_path, recording.display_name, request.page,
                                  request.option,
@@ -137,10 +129,7 @@ def make_estimated_clock(part: PartOrigin) -> Clock:
 
 
 def add_delay(clock: Clock, origin: OriginEstimate) -> tuple[Clock, list[str]]:
-    """Store the delay of the first part's cues in a given clock.
-
-    Return the clock, and notes about the delay.
-    """
+    """Return a given clock with the delay of the first part's cues, and notes about it."""
     if origin.ticks_late is None or origin.status:
         return clock, []
     frames, ticks = divmod(abs(origin.ticks_late), TICKS)
@@ -160,11 +149,8 @@ def add_delay(clock: Clock, origin: OriginEstimate) -> tuple[Clock, list[str]]:
 
 
 def refuse_wrong_clock(search: PartSearch, recording: Recording, part: TimedPart) -> None:
-    """Raise `Unclear` if the given clock is wrong.
-
-    It is wrong if nothing was recorded at the time of the subtitles, although the recording
-    contains them at another time.
-    """
+    """Raise `Unclear` if the given clock is wrong: nothing was recorded at the time of the
+    subtitles, although the recording contains them at another time."""
     clock = part.clock
     if not clock.delay_frames or cut_packets(search, recording, part,
                                              search.request.within).range is not None:
@@ -208,8 +194,7 @@ def suggest_options(recording: Recording, origin: OriginEstimate) -> Iterator[st
 
 def cut_packets(search: PartSearch, recording: Recording, alignment: TimedPart,
                 within: int) -> PacketRange:
-    """Find the PES packets that were sent during the subtitles, or at most `within` frames later.
-    """
+    """Find the PES packets sent during the subtitles, or at most `within` frames later."""
     return find_range(recording.packets, alignment.begin, alignment.end, alignment.origin,
                       search.request.every, within, alignment.packets or search.allowed_packets,
                       search.is_continued and alignment.begin == search.full_range.begin)
@@ -242,12 +227,9 @@ UNCHECKED = "not checked for"  # the beginning of a note
 
 
 def measure_part_pace(part: Part, times: Sequence[tuple[int, int]], listener: Listener) -> Part:
-    """Set the longest allowed interval between PES packets (--pace) from the usual intervals.
-
-    Return a copy of the part. Leave --pace as it is if it is given, or if the intervals are
-    irregular. Add notes about losses that can't be detected. `times` has the TCI and TCO of each
-    subtitle.
-    """
+    """Return a copy of the part in which --pace is the longest usual interval between PES packets,
+    unless it was given or the intervals are irregular. Add notes about losses that can't be
+    detected. `times` has the TCI and TCO of each subtitle."""
     number, request, (recording, _) = part.number, part.request, part.judged_recording
     pace, unseen = measure_pace(part, times)
     jumps, count = find_late_jumps(part, pace)
@@ -259,7 +241,7 @@ def measure_part_pace(part: Part, times: Sequence[tuple[int, int]], listener: Li
         if pace.frames:
             listener.add_selection(make_pace_selection(pace, recording.is_stream, number))
             request = dataclasses.replace(request, pace_word=str(pace.frames))
-        elif note:  # printed with the verdict
+        elif note:
             listener.add_selection(Selection(PACE_CHOICE, None, note, part=number),
                                    is_printed=False)
     listener.add_notes(*notes)
@@ -267,11 +249,8 @@ def measure_part_pace(part: Part, times: Sequence[tuple[int, int]], listener: Li
 
 
 def measure_pace(part: Part, times: Sequence[tuple[int, int]]) -> tuple[Pace, int | None]:
-    """Measure the intervals between the PES packets of a part.
-
-    Also return the length, in frames, of the shortest loss that the continuity counter may not
-    show.
-    """
+    """Measure the intervals between the PES packets of a part. Also return the length, in frames,
+    of the shortest loss that the continuity counter may not show."""
     request, (recording, alignment), pes = part.request, part.judged_recording, part.pes or NO_RANGE
     size = None if recording.is_stream else os.path.getsize(recording.path)
     rows = frame_rows(recording.packets, pes, alignment.origin, request.within)
@@ -281,10 +260,8 @@ def measure_pace(part: Part, times: Sequence[tuple[int, int]]) -> tuple[Pace, in
 
 
 def find_late_jumps(part: Part, pace: Pace) -> tuple[list[PTSPair], int]:
-    """Return the announced jumps of the continuity counter that a late PES packet follows.
-
-    Also return the number of the other announced jumps, which may hide a loss of PES packets.
-    """
+    """Return the announced jumps of the continuity counter that are followed by a late PES packet.
+    Also return the number of the other announced jumps, which may hide a loss of PES packets."""
     (recording, _), inside = part.judged_recording, part.pes or NO_RANGE
     if not recording.is_stream:
         return [], 0
@@ -294,10 +271,8 @@ def find_late_jumps(part: Part, pace: Pace) -> tuple[list[PTSPair], int]:
 
 
 def describe_jumps(count: int, recording: Recording) -> str:
-    """Return the note that losses can't be detected at `count` announced jumps of the counter.
-
-    Return an empty string if `count` is 0.
-    """
+    """Return the note that losses can't be detected at `count` announced jumps of the counter, or
+    "" if `count` is 0."""
     return f"{UNCHECKED} losses on {format_pid(recording.packets.pid)} at " \
         f"{counted(count, 'place')} where the stream announces a jump of the counter" \
         if count else ""
@@ -319,10 +294,8 @@ def describe_pace(pace: Pace, is_stream: bool) -> str:
 
 
 def describe_unchecked_losses(pace: Pace, unseen: int | None, recording: Recording) -> str:
-    """Describe the losses that can't be detected.
-
-    Return an empty string if --every or --pace shows all losses.
-    """
+    """Describe the losses that can't be detected. Return an empty string if --every or --pace shows
+    all losses."""
     if pace.kind == BY_EVERY or pace.kind == REGULAR and not pace.hidden_places:
         return ""
     if without := describe_missing_pcr(recording):
@@ -344,26 +317,21 @@ def describe_unchecked_losses(pace: Pace, unseen: int | None, recording: Recordi
 
 
 def describe_missing_pcr(recording: Recording) -> str:
-    """Return the note that there is no PCR to show losses.
-
-    Return an empty string if there is one.
-    """
+    """Return the note that there is no PCR to show losses, or "" if there is one."""
     if not recording.is_stream or recording.survey.clock_of(recording.packets.pid) is not None:
         return ""
     return f"the programme of {format_pid(recording.packets.pid)} has no PCR, so a loss that the " \
         "counter does not show, such as 16 TS packets, is not detected"
 
 
-# Viewers see if pictures drift from the subtitles, but the PTS of Teletext do not show the drift.
+# Viewers notice when pictures drift from the subtitles, but the PTS of Teletext do not show it.
 
 NOT_CHECKED = "not checked whether the video and the subtitles drift apart"
 
 
 class DesyncFindings(NamedTuple):
-    """The faults of pictures that drift from the subtitles.
-
-    `notes` is about drifts that --within allows, and about drifts that could not be checked.
-    """
+    """The faults of pictures that drift from the subtitles, and notes about drifts that --within
+    allows or that could not be checked."""
 
     faults: list[NamedFault]
     notes: list[str]
@@ -386,11 +354,8 @@ def find_desync(survey: Survey, pid: int, alignment: TimedPart, within: int, num
 
 
 def find_departures(several: Sequence[Departure], alignment: TimedPart) -> list[Departure]:
-    """Return the drifts within a part.
-
-    If the clock comes from the first picture, also return the drifts between this picture and the
-    part. If a drift may be outside the part, its `ticks` are `None`.
-    """
+    """Return the drifts within a part and, if the clock comes from the first picture, between this
+    picture and the part. If a drift may be outside the part, its `ticks` are `None`."""
     first = pts_of(alignment.begin, alignment.origin)
     length = TICKS * (alignment.end - alignment.begin)
     is_of_picture = alignment.clock.source in (START, TCP)
@@ -405,10 +370,8 @@ def find_departures(several: Sequence[Departure], alignment: TimedPart) -> list[
 
 
 class Desync(NamedTuple):
-    """The frames `range(first, end)`, in which subtitles are `ticks` early for viewers.
-
-    The subtitles are late if `ticks` is negative.
-    """
+    """The frames `range(first, end)`, in which subtitles are `ticks` early for viewers, or late if
+    `ticks` is negative."""
 
     first: int
     end: int
@@ -451,17 +414,15 @@ def make_desync_faults(several: Sequence[Departure], alignment: TimedPart, withi
 
 
 def make_delay_notes(several: Sequence[Departure], alignment: TimedPart, within: int) -> list[str]:
-    """Return notes about subtitles that are late, but as --within allows."""
+    """Return notes about subtitles whose delay is within the limit of --within."""
     return [f"{away.describe()}, as --within {within} allows"
             for away in find_desync_spans(several, alignment)
             if is_allowed_delay(away.ticks, within)]
 
 
 def make_unclear_notes(is_steady: bool, count: int) -> list[str]:
-    """Return notes about drifts that were not checked.
-
-    If `is_steady` is false, no drift was checked. Otherwise, the drifts at `count` places were not.
-    """
+    """Return notes about drifts that were not checked: all if `is_steady` is false, otherwise those
+    at `count` places."""
     if not is_steady:
         return [f"{NOT_CHECKED}: the video's decoding times have no usual step"]
     return [f"{NOT_CHECKED} at {counted(count, 'place')} where the video's decoding times jump: "

@@ -1,5 +1,4 @@
-"""Find the expected page of each subtitle, the page transmissions that belong to it, and faults in
-their headers."""
+"""Find the expected page of each subtitle, its page transmissions, and faults in their headers."""
 from __future__ import annotations
 
 import bisect
@@ -46,10 +45,7 @@ OTHER_LETTERS = "has other characters"
 
 
 class PageHeader(NamedTuple):
-    """A header of the page, and the previous header.
-
-    `is_open` is true if the page was still open when the header was received.
-    """
+    """A header of the page, the previous header, and whether the page was still open before it."""
 
     header: bytes
     previous: bytes | None = None
@@ -78,10 +74,8 @@ def keeps_page(header: bytes) -> bool:
 
 
 def describe_missing_erase(page_header: PageHeader, request: Request) -> str:
-    """Describe why a header wrongly does not erase the page.
-
-    Return an empty string if the header erases the page, or need not.
-    """
+    """Describe why a header wrongly does not erase the page. Return an empty string if the header
+    erases the page, or need not."""
     if not keeps_page(page_header.header):
         return ""
     if not request.may_keep:
@@ -96,10 +90,7 @@ def describe_missing_erase(page_header: PageHeader, request: Request) -> str:
 
 
 def describe_control_bits(header: bytes, option: str, erase_fault: str = "") -> list[str]:
-    """Return messages about the control bits of a header.
-
-    The message about C4 is passed as `erase_fault`, and is the first.
-    """
+    """Return messages about a header's control bits, first `erase_fault`, the one about C4."""
     faults = [erase_fault] if erase_fault else []
     faults += [words for bit, is_set, words in CONTROL_BIT_FAULTS if has_bit(header, bit) != is_set]
     bits = national_option(header)
@@ -129,11 +120,9 @@ def describe_header_faults(headers: Sequence[PageHeader], request: Request) -> s
 
 
 class KeepingHeaders(NamedTuple):
-    """The number of page headers, and the number of headers with C4 clear.
-
-    These do not erase the page, so a receiver keeps the earlier rows. The decoded page may then be
-    correct although `check` reports fault 72, because a row is missing after the last header.
-    """
+    """The number of page headers, and the number of headers with C4 clear. These do not erase the
+    page, so a receiver keeps the earlier rows. The decoded page may then be correct although
+    `check` reports fault 72, because a row is missing after the last header."""
 
     headers: int
     keeping: int
@@ -144,10 +133,8 @@ class KeepingHeaders(NamedTuple):
 
 
 def count_keeping_headers(headers: Mapping[bytes, int], option: str) -> KeepingHeaders | None:
-    """Count the headers that do not erase the page.
-
-    Return `None` if there are none, or if any header has another fault.
-    """
+    """Count the headers that do not erase the page. Return `None` if there are none, or if any
+    header has another fault."""
     keeping = sum(count for one, count in headers.items() if keeps_page(one))
     if not keeping or any(describe_control_bits(one, option) for one in headers):
         return None
@@ -156,11 +143,9 @@ def count_keeping_headers(headers: Mapping[bytes, int], option: str) -> KeepingH
 
 def find_omitted_rows(timeline: Timeline, expected: Rows, frame: int,
                       output: CheckOutput | None) -> str:
-    """Describe which rows are missing after the last header before a frame.
-
-    Return an empty string if this header erases the page, if the decoded page is not the expected
-    page, or if a row has changed since the page was last erased.
-    """
+    """Describe which rows are missing after the last header before a frame. Return an empty string
+    if this header erases the page, if the decoded page is not the expected page, or if a row has
+    changed since the page was last erased."""
     header = timeline.state_at(frame).header
     at = bisect.bisect_right(timeline.header_frames, frame) - 1
     if header is None or not keeps_page(header) or at < 0 or timeline.page_at(frame) != expected:
@@ -180,10 +165,8 @@ def find_omitted_rows(timeline: Timeline, expected: Rows, frame: int,
 
 
 def describe_omitted_rows(rows: Sequence[int], row: int | None, received: int) -> str:
-    """Describe which rows are missing if only `received` packets followed the header.
-
-    `rows` has the numbers of all rows. `check` reports the fault at row `row`.
-    """
+    """Describe which rows are missing if only `received` packets followed the header. `rows` has
+    the numbers of all rows. `check` reports the fault at row `row`."""
     if not rows:
         return ""
     if received <= 0:
@@ -199,10 +182,8 @@ LONGEST_INTERVAL = "1500"  # value of --every, in frames, that makes the fewest 
 
 
 class ExpectedPages(SubtitleList):
-    """The subtitles of a programme with their expected pages.
-
-    `timeline` has the pages that a receiver should decode. It is `None` if there are no subtitles.
-    """
+    """The subtitles of a programme with their expected pages. `timeline` has the pages that a
+    receiver should decode, if there are any subtitles."""
 
     def __init__(self, subtitles: list[Subtitle], pages: list[Rows],
                  timeline: Timeline | None = None) -> None:
@@ -226,10 +207,8 @@ class ExpectedPages(SubtitleList):
         return by_words
 
     def find_subtitle(self, page: Rows, frame: int) -> int | None:
-        """Return the index of the subtitle with this page that begins nearest to a frame.
-
-        Return `None` for a blank page, or if no subtitle has the page.
-        """
+        """Return the index of the subtitle with this page that begins nearest to a frame. Return
+        `None` for a blank page, or if no subtitle has the page."""
         places = self.by_page.get(page)
         return self.find_nearest(places, frame) if places and page != BLANK_PAGE else None
 
@@ -252,11 +231,8 @@ def run_program(program: str, *arguments: str) -> list[str]:
 
 def read_subtitles(program: str, stl: str, between: Between = ALL_DAY,
                    is_open: bool = False) -> list[Subtitle]:
-    """Return the subtitles of a file that begin in the range `between`.
-
-    Read them from the output of `subttx show`. If it rejects the file, because of refused or open
-    subtitles, parse the file in Python.
-    """
+    """Return the subtitles of a file that begin in the range `between`, from the output of `subttx
+    show`. Parse the file in Python if it has refused or open subtitles."""
     try:
         subtitles = decode_subtitles(read_stl(stl)) if is_open else \
             parse_subtitles(run_program(program, "show", "--", stl))
@@ -271,10 +247,7 @@ def schedule_pages(program: str, stl: str, subtitles: list[Subtitle], page: Page
                    between: Between = ALL_DAY,
                    layout_arguments: Sequence[str] = ()) -> ExpectedPages:
     """Return the expected pages of a file's subtitles, decoded from the output of `subttx
-    schedule`.
-
-    `layout_arguments` has the options for drawing pages.
-    """
+    schedule`. `layout_arguments` has the options for drawing pages."""
     if not subtitles:
         return ExpectedPages([], [])
     with make_temporary_folder("subttx-qc-") as folder:
@@ -317,11 +290,9 @@ class PageTransmissions:
         return [Span(begin, end - 1) for begin, end in zip(rising, [*rising[1:], last + 1])]
 
     def find_owner(self, frame: int) -> int:
-        """Return the index of the subtitle that a wrong page in a frame belongs to.
-
-        This is the last subtitle that begins at or before this frame, or the subtitle whose page
-        was sent at the wrong time.
-        """
+        """Return the index of the subtitle that a wrong page in a frame belongs to. This is the
+        last subtitle that begins at or before this frame, or the subtitle whose page was sent at
+        the wrong time."""
         place = self.expected.find_place(frame)
         number = self.timeline.number_at(frame)
         if place < 0 or number < 0:
@@ -350,10 +321,7 @@ class PageTransmissions:
 
     def is_delayed_page(self, number: int, place: int, frame: int) -> bool:
         """Return whether page `number` was wrong before the TCI of a subtitle, and only remains
-        during the allowed delay of this subtitle.
-
-        A fault of the page then belongs to the previous subtitle.
-        """
+        during its allowed delay. A fault of the page then belongs to the previous subtitle."""
         begin, following = self.subtitles[place].begin, number + 1
         limit = begin + self.timeline.within
         return self.timeline.frames[number] < begin <= frame < limit and \
@@ -361,11 +329,9 @@ class PageTransmissions:
             not self.is_expected_page(begin - 1)
 
     def is_sent_for_next(self, number: int, place: int) -> bool:
-        """Return whether page `number` was sent for the subtitle after `place`.
-
-        It was if it belongs to no subtitle, follows the page of the subtitle at `place`, and lasts
-        longer during the next subtitle.
-        """
+        """Return whether page `number` was sent for the subtitle after `place`. This is so if it
+        belongs to no subtitle, follows the page of the subtitle at `place`, and lasts longer during
+        the next one."""
         if place + 1 >= len(self.subtitles) or not self.is_unknown_page(number, place):
             return False
         one, following = self.subtitles[place], self.subtitles[place + 1]
@@ -381,12 +347,9 @@ class PageTransmissions:
                     max(self.expected.after(place), begin + LEAST))
 
     def find_transmission(self, place: int) -> int | None:
-        """Return the frame nearest to the TCI in which the page of a subtitle was sent.
-
-        Return `None` if it was not sent. A page that was sent at the TCI of another subtitle does
-        not count, because it replaced the page of that subtitle. It counts if both subtitles are
-        early or late by the same number of frames.
-        """
+        """Return the frame nearest to the TCI in which the page of a subtitle was sent, if it was.
+        A page that was sent at the TCI of another subtitle does not count, because it replaced that
+        subtitle's page, unless both subtitles are early or late by the same number of frames."""
         numbers = [frame for frame in self.find_transmissions(place)
                    if self.find_subtitle_at_cue(frame)
                    in (None, place) or self.are_moved_together(place, frame)]
@@ -410,11 +373,9 @@ class PageTransmissions:
         return place if is_in_time else None
 
     def are_moved_together(self, place: int, frame: int) -> bool:
-        """Return whether two subtitles are early or late by the same number of frames.
-
-        One is the subtitle at `place`, whose page was sent in `frame`. The other is the subtitle
-        that is expected in `frame`. Their numbers may differ by the allowed delay.
-        """
+        """Return whether two subtitles are early or late by the same number of frames: the subtitle
+        at `place`, whose page was sent in `frame`, and the subtitle that is expected in `frame`.
+        The two delays may differ by the allowed delay."""
         other = self.expected.find_place(frame)
         begin = self.subtitles[other].begin
         came = find_nearest(self.find_transmissions(other), begin)
@@ -422,11 +383,9 @@ class PageTransmissions:
         return came is not None and abs(came - begin - moved) <= self.timeline.within
 
     def find_unknown_page(self, place: int, came: int | None) -> int | None:
-        """Return the number of the unknown page that was sent for a subtitle, or `None`.
-
-        If there are several, return the one that lasts longest during the subtitle. Ignore pages
-        after frame `came`, in which the subtitle's own page was sent.
-        """
+        """Return the number of the unknown page that was sent for a subtitle, if any. If there are
+        several, return the one that lasts longest during the subtitle. Ignore pages after frame
+        `came`, in which the subtitle's own page was sent."""
         subtitle = self.subtitles[place]
         end = subtitle.end if came is None or came <= subtitle.begin else min(came, subtitle.end)
         least = subtitle.begin if place == 0 and came is not None else 0
@@ -457,11 +416,8 @@ class PageTransmissions:
         return min(stretch.last + 1, end) - max(stretch.first, begin)
 
     def find_other_at_cue(self, place: int) -> int | None:
-        """Return another subtitle whose page was sent at the TCI of the subtitle at `place`.
-
-        The page may be late by the allowed delay. Return `None` if there is no such subtitle, or if
-        both subtitles are early or late by the same number of frames.
-        """
+        """Return another subtitle whose page was sent at the TCI of the subtitle at `place`, or
+        within the allowed delay. Ignore it if both are early or late by the same time."""
         subtitle = self.subtitles[place]
         limit = min(subtitle.begin + self.timeline.within + 1, subtitle.end)
         for number in self.timeline.page_numbers(subtitle.begin, limit):
@@ -473,11 +429,8 @@ class PageTransmissions:
         return None
 
     def find_other_during(self, place: int) -> int | None:
-        """Return another subtitle whose page was sent during the subtitle at `place`.
-
-        Return `None` if there is none. Ignore the page transmissions that belong to the other
-        subtitles.
-        """
+        """Return another subtitle whose page was sent during the subtitle at `place`. Ignore a
+        transmission that is the other subtitle's own (`find_transmission`)."""
         subtitle = self.subtitles[place]
         for number in self.timeline.page_numbers(subtitle.begin, subtitle.end):
             frame = self.timeline.frames[number]
@@ -489,5 +442,5 @@ class PageTransmissions:
 
 
 def find_nearest(frames: list[int], wanted: int) -> int | None:
-    """Return the frame nearest to `wanted`, or `None` if there are no frames."""
+    """Return the frame nearest to `wanted`, if there are any frames."""
     return min(frames, key=lambda frame: abs(frame - wanted)) if frames else None

@@ -29,10 +29,8 @@ DELAYING_FAULTS = {*range(30, 33), 44, 45, 60, 62, 63, 71, 72, 74, 77}
 
 
 class DelaySpread(NamedTuple):
-    """The minimum, the median and the maximum delay until subtitles are complete, in frames.
-
-    `never_complete` is the number of subtitles that were never complete.
-    """
+    """The minimum, the median and the maximum delay until subtitles are complete, in frames, and
+    the number of subtitles that were never complete."""
 
     minimum: int
     median: int
@@ -49,10 +47,8 @@ class DelaySpread(NamedTuple):
 
 
 def summarize_delays(several: Iterable[int | None]) -> DelaySpread | None:
-    """Return the minimum, the median and the maximum of several delays.
-
-    A delay is `None` if the subtitle was never complete. Return `None` if all delays are.
-    """
+    """Return the minimum, the median and the maximum of several delays. A delay is `None` if the
+    subtitle was never complete. Return `None` if all delays are."""
     all_of = list(several)
     known = sorted(frames for frames in all_of if frames is not None)
     if not known:
@@ -62,11 +58,9 @@ def summarize_delays(several: Iterable[int | None]) -> DelaySpread | None:
 
 def measure_delay(subtitle: Subtitle, page: Rows, timeline: Timeline,
                   is_complete: bool) -> int | None:
-    """Return the number of frames from the TCI until the page of a subtitle is complete.
-
-    If `is_complete` is true, the page must also be closed. Return `None` if this never happens, or
-    if nothing was received before the TCI.
-    """
+    """Return the number of frames from the TCI until the page of a subtitle is complete, and also
+    closed if `is_complete` is true. Return `None` if this never happens, or if nothing was received
+    before the TCI."""
     if timeline.first > subtitle.begin:
         return None
     for number in timeline.page_numbers(subtitle.begin, subtitle.end):
@@ -96,8 +90,7 @@ def add_worst_fault(facts: Facts, worst: WorstFault | None) -> Facts:
 
 
 def count_fault_numbers(parts: Sequence[Part], left_out: Collection[int] = ()) -> list[FaultCount]:
-    """Return the number of faults in all parts for each fault number, except those in `left_out`.
-    """
+    """Return the number of faults in all parts by fault number, without those in `left_out`."""
     counts: collections.Counter[int] = collections.Counter()
     names: dict[int, str] = {}
     for part in parts:
@@ -112,16 +105,13 @@ ESTIMATED = "estimated"  # kind of the warning that the clock after a break was 
 
 @dataclasses.dataclass
 class Gap:
-    """A place where packets are missing: the times before and after it, and a description.
-
-    `is_judged` is true if frames between these times were judged.
-    """
+    """A place where packets are missing: the times before and after it, and a description."""
 
     after: str | None
     before: str | None
     description: str
     place: LossPlace
-    is_judged: bool
+    is_judged: bool  # whether frames between these times were judged
 
     def format_line(self) -> str:
         """Return an output line with the times around the gap, and a description of the loss."""
@@ -130,33 +120,23 @@ class Gap:
 
 
 class Unjudged(NamedTuple):
-    """The reason why a pair is not judged, in one or more lines, and commands to suggest.
-
-    `is_temporary` is true after a system error: another run may judge the pair. `is_stopped` is
-    true if a signal stopped the run.
-    """
+    """The reason why a pair is not judged, in one or more lines, and commands to suggest."""
 
     reason: str
     suggestions: tuple[str, ...] = ()
-    is_temporary: bool = False
-    is_stopped: bool = False
+    is_temporary: bool = False  # after a system error, when another run may judge the pair
+    is_stopped: bool = False  # whether a signal stopped the run
 
 
 @dataclasses.dataclass
 class Verdict:
-    """The result of judging a pair.
-
-    `hints` has a hint on the first fault with each number. `notes` has other observations.
-    `files_at_start` has the state of the files when judging began. `seconds` is the duration of
-    judging.
-
-    The texts of a verdict appear here:
+    """The result of judging a pair. Its texts appear here:
 
         word                   JSON, CSV, JUnit, reports; decides the exit status
         line                   the last line on standard output; JSON, CSV
         worst_line             reports, tables of many pairs, JUnit, JSON: with the worst fault
         sentence               standard output, before the last line; reports, JSON, CSV
-        format_part_lines      standard output, at first: a line for each of several parts
+        format_part_lines      standard output, first: a line for each of several parts
         list_notes             reports and JSON; standard error has only `notes`
         estimated_clock_note   standard output; elsewhere in `list_notes`
         unjudged_reason        standard error, reports, JUnit; JSON and CSV as `reason`
@@ -169,20 +149,21 @@ class Verdict:
     parts: list[Part] = dataclasses.field(default_factory=list)
     gaps: list[Gap] = dataclasses.field(default_factory=list)
     warnings: list[Notice] = dataclasses.field(default_factory=list)
-    notes: list[str] = dataclasses.field(default_factory=list)
-    hints: list[str] = dataclasses.field(default_factory=list)
+    notes: list[str] = dataclasses.field(default_factory=list)  # other observations
+    hints: list[str] = dataclasses.field(default_factory=list)  # on the first fault of each number
     commands: list[str] = dataclasses.field(default_factory=list)
     selections: list[Selection] = dataclasses.field(default_factory=list)
     stl: SummedFile | None = None
     recording: SummedFile | None = None
     is_kept: bool = False  # whether the judged files are kept
     unjudged: Unjudged | None = None  # set if the pair is not judged
-    # Outputs that could not be written, or that would describe other files than those judged
+    # Outputs that could not be written, or that would describe files other than the judged ones
     failed_outputs: list[str] = dataclasses.field(default_factory=list)
+    # State of the files when judging began
     files_at_start: dict[str, object] = dataclasses.field(default_factory=dict)
-    seconds: float = 0.0
+    seconds: float = 0.0  # duration of judging
     subtitle_count: int = 0
-    # Only if some subtitles are refused and others are judged
+    # Set only if some subtitles are refused and others are judged
     valid_subtitles: ValidSubtitles | None = None
     # Faults that have a name instead of a number
     named_faults: list[NamedFault] = dataclasses.field(default_factory=list)
@@ -204,10 +185,7 @@ class Verdict:
 
     @property
     def estimated_clock_note(self) -> str | None:
-        """Return the note that the clock, or the clock after a break, was estimated.
-
-        Return `None` if all clocks were given.
-        """
+        """Return the note that the clock, or the clock after a break, was estimated, if it was."""
         if not any(part.clock and part.clock.is_estimated for part in self.parts):
             return None
         return ESTIMATED_LATER_NOTE if self.has_clock else \
@@ -241,10 +219,8 @@ class Verdict:
 
     @property
     def is_final(self) -> bool:
-        """Return whether another run would give the same verdict.
-
-        It may give another verdict after a system error, or if the run was stopped.
-        """
+        """Return whether another run would give the same verdict. It may give another verdict after
+        a system error, or if the run was stopped."""
         known = self.unjudged
         return not (known and (known.is_temporary or known.is_stopped) or self.failed_outputs)
 
@@ -265,10 +241,7 @@ class Verdict:
 
     @property
     def unjudged_reason(self) -> str | None:
-        """Return the reason why the pair is not judged, or `None` if it is judged.
-
-        The reason may have several lines.
-        """
+        """Return the reason, in one or more lines, why the pair is not judged, if it isn't."""
         reasons = [*([self.unjudged.reason] if self.unjudged else []), *self.failed_outputs]
         return "\n".join(reasons) if reasons else self.decision.reason
 
@@ -298,20 +271,15 @@ class Verdict:
 
     @property
     def delay_of_all(self) -> int:
-        """Return the delay in frames that all subtitles have on the given clock.
-
-        Return 0 if their delays differ, or if --within allows delays.
-        """
+        """Return the delay in frames that all subtitles have on the given clock, or 0 if their
+        delays differ, or if --within allows delays."""
         clock = self.parts[0].clock if len(self.parts) == 1 else None
         is_measured = clock and clock.is_delay_of_all and not self.request.within
         return clock.delay_frames or 0 if clock and is_measured else 0
 
     def add_transmission_facts(self, said: Facts, beside: ValidSubtitles) -> Facts:
-        """Return a copy of the facts `said`, with those about the transmission of a file with
-        refused subtitles.
-
-        `beside` has the subtitles that are judged although others are refused.
-        """
+        """Return a copy of `said` with facts about the transmission added, for a file with refused
+        subtitles. `beside` has the subtitles that are judged although others are refused."""
         answers = [part.check_output for part in self.parts]
         parts = [part for part in self.parts if part.worst_transmission_fault]
         part = find_worst_part(parts, lambda one: one.worst_transmission_fault)
@@ -343,22 +311,17 @@ class Verdict:
 
     @property
     def fault_count(self) -> int:
-        """Return the number of faults in all parts."""
         return sum(part.check_output.fault_count for part in self.parts) + len(self.named_faults)
 
     @property
     def status(self) -> int:
-        """Return the exit status."""
         return self.decision.status
 
     @property
     def line(self) -> str | None:
-        """Return the last line on standard output.
-
-        This is the line of `check` for the first error. Without errors it is the line for the first
-        waived fault. Without faults it is the `accepted` line; if there are several parts, it has
-        the sum of their frames.
-        """
+        """Return the last line on standard output. This is the line of `check` for the first error.
+        Without errors it is the line for the first waived fault. Without faults it is the
+        `accepted` line; if there are several parts, it has the sum of their frames."""
         faults: list[FaultLine | NamedFault] = [
             fault for part in self.parts for fault in part.check_output.first_faults.values()]
         faults += self.named_faults
@@ -368,17 +331,15 @@ class Verdict:
 
     @property
     def worst_line(self) -> str | None:
-        """Return the first line in reports and batch tables.
-
-        It is like `line`, but about the worst fault, not the first.
-        """
+        """Return the first line in reports and batch tables. It is like `line`, but about the worst
+        fault, not the first."""
         if self.worst_named_fault:
             return self.prefix_verdict(self.worst_named_fault.line)
         return self.prefix_verdict(self.worst_part.first_text if self.worst_part else None)
 
     @property
     def worst_named_fault(self) -> NamedFault | None:
-        """Return the worst fault without a number, or `None` if a numbered fault is worse."""
+        """Return the worst fault without a number, unless a numbered fault is worse."""
         worst = self.worst_part.worst_fault if self.worst_part else None
         errors = [fault for fault in self.named_faults if self.severity.is_error(fault.name)]
         named = errors if errors or self.word == REFUSED else self.named_faults
@@ -394,10 +355,8 @@ class Verdict:
 
     @property
     def waived_numbers(self) -> set[int]:
-        """Return the numbers of the faults that the severity file turns into warnings.
-
-        Return an empty set unless the pair is refused for other faults.
-        """
+        """Return the numbers of the faults that the severity file turns into warnings. Return an
+        empty set unless the pair is refused for other faults."""
         numbers = {number for part in self.parts for number in part.check_output.fault_numbers}
         left_out = STL_FAULTS | {UNDECIDED} if self.valid_subtitles else set[int]()
         return {number for number in numbers - left_out if not self.severity.is_error(number)} \
@@ -405,9 +364,7 @@ class Verdict:
 
     def prefix_verdict(self, refused: str | None) -> str | None:
         """Return a line of `check`, preceded by the verdict, or `None` if the pair is not judged.
-
-        `refused` is the line about a fault. If it is `None`, use the `accepted` line.
-        """
+        Use the line `refused` about a fault or, if it is `None`, the `accepted` line."""
         word = self.word
         if word == NOT_JUDGED:
             return None
@@ -426,11 +383,8 @@ class Verdict:
         return line
 
     def format_good_line(self) -> str:
-        """Return the last line of output for a pair without faults.
-
-        If there are several parts, the line has the sum of their frames. It begins with `relative`
-        if no clock was given.
-        """
+        """Return the last line of output for a pair without faults. If there are several parts, the
+        line has the sum of their frames. It begins with `relative` if no clock was given."""
         answers = [part.check_output for part in self.parts]
         line = answers[0].line if len(answers) == 1 else (
             f"{ACCEPTED} {sum(answer.frames or 0 for answer in answers)} frames "
@@ -439,25 +393,19 @@ class Verdict:
         return line if self.has_clock else f"{RELATIVE}{line.removeprefix(ACCEPTED)}"
 
     def format_part_lines(self) -> list[str]:
-        """Return a line for each of several parts, with its times and its result.
-
-        Return an empty list if there is only one part.
-        """
+        """Return a line with the times and the result of each part, if there are several."""
         return [f"part {part.number}, from {' to '.join(map(str, part.time_codes()))}: "
                 f"{part.check_output.line}" for part in self.parts] if len(self.parts) > 1 else []
 
 
 def find_gaps(recording: Recording, parts: Sequence[Part]) -> list[Gap]:
-    """Return the gaps in a recording, including those that announced jumps of the counter hide."""
+    """Return the gaps in a recording, including those hidden by announced jumps of the counter."""
     return make_gaps(recording.list_losses([jump for part in parts for jump in part.jumps]), parts)
 
 
 def make_gaps(places: Sequence[LossPlace], parts: Sequence[Part]) -> list[Gap]:
-    """Return the gaps at the given places in the recording.
-
-    Their times are on the clock of the first part that contains the place. If no part does, they
-    are on the clock of the first part.
-    """
+    """Return the gaps at the given places in the recording. Their times are on the clock of the
+    first part that contains the place. If no part does, they are on the clock of the first part."""
     gaps = []
     for place in places:
         own = [part for part in parts if belongs_to_part(place, part)]
