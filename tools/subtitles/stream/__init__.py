@@ -1,4 +1,4 @@
-"""Read what a recording transmits, from the output of `subttx survey`. Nothing here judges.
+"""Read the transmission in a recording, from the output of `subttx survey`, without judging it.
 
 packets        PES packets of a Teletext PID, and announced jumps of its continuity counter
 pictures       places where pictures drift from Teletext

@@ -18,20 +18,16 @@ PAUSE = 10  # if a PCR step has less than 1/10 of the usual TS packets, the cloc
 
 @dataclasses.dataclass
 class LossPlace:
-    """A place between two PES packets where packets are missing.
+    """A place between two PES packets where packets are missing."""
 
-    `before` and `after` are the PTS of these PES packets. `lost` is the number of missing TS
-    packets according to the continuity counters, which count modulo 16 and show no loss at an
-    announced jump. `scrambled` TS packets cannot be read. `missing` is the duration of the loss in
-    ticks, according to the PCR. `gap_marker` is the number of the gap marker at this place, if any.
-    """
-
-    before: int | None
-    after: int | None = None
+    before: int | None  # PTS of the PES packet before it
+    after: int | None = None  # PTS of the PES packet after it
+    # Number of missing TS packets according to the continuity counters, which count modulo 16 and
+    # show no loss at an announced jump
     lost: int = 0
-    scrambled: int = 0
-    missing: int = 0
-    gap_marker: int | None = None
+    scrambled: int = 0  # number of TS packets that can't be read
+    missing: int = 0  # duration of the loss in ticks, according to the PCR
+    gap_marker: int | None = None  # number of the gap marker at this place, if any
     is_announced: bool = False
 
 
@@ -128,8 +124,8 @@ def first_lines(lines: Sequence[str]) -> list[str]:
 
 
 def gap_marker_lines(packets: Packets) -> list[str]:
-    """Return a line for each gap marker. If there are too many, the last line gives the number of
-    the rest."""
+    """Return a line for each gap marker. If there are too many, the last line has the number of the
+    omitted ones."""
     first = next(packets.pts(), None)
     lines = [loss_line(place, first) for place in find_loss_places(packets) if place.gap_marker is
              not None]
@@ -161,7 +157,7 @@ def explain_refusal(packets: Packets) -> str | None:
 
 # Anomalies of the distance between PTS and PCR, sampled once a second
 
-MAX_LATE = 60  # number of samples that determine the largest distance
+MAX_LATE = 60  # number of samples, one a second, among which the largest distance is searched
 ANOMALY_TEXTS = {"behind": "are behind the PCR", "early": "are more than a second ahead of the PCR",
                  "changed": "moved against the PCR by more than half a second"}
 

@@ -26,7 +26,7 @@ REFUSED = {code for code in CODES if code not in COMMON}
 BOX_CODES, LINE_CODES = b"\x0a\x0b", b"\x0a\x0b\x0d"
 FEWEST, TENTHS = 10, 9  # at least 10 subtitles, of which 9/10 must be drawn as sent
 MAX_STRIPPED = 5  # maximum number of codes for which all combinations are tried
-MAX_KEPT = 6  # maximum number of candidates to keep
+MAX_KEPT = 6
 Element = TypeVar("Element")
 
 
@@ -100,7 +100,8 @@ def find_beginnings(lines: Counter[tuple[bytes, bytes]],
                     trim: bool) -> list[tuple[bool, bytes, bytes]]:
     """Return the most frequent ways to begin a line: `white` (whether white is added to a line
     without a colour), and the codes to add before and after the line's own leading codes."""
-    line_counts = Counter[tuple[bytes, bytes]]()  # leading codes of lines, and of sent rows
+    # Counts of pairs: the leading codes of a line, and the leading codes of the row sent for it.
+    line_counts = Counter[tuple[bytes, bytes]]()
     for (cells, sent), count in lines.items():
         shown = sent.lstrip(b" ")
         cells = cells.strip(b" ") if trim else cells
@@ -290,13 +291,11 @@ Page = Optional[Rows]  # the page that a layout draws, if it can
 
 
 class ItemEvidence(NamedTuple):
-    """The evidence for some items of a layout, which are given in `text`. `redrawn` is the number
-    of subtitles that are drawn differently without the items. `as_sent` is how many of these are
-    drawn as sent with the items."""
+    """The evidence for the layout items in `text`."""
 
     text: str
-    redrawn: int
-    as_sent: int
+    redrawn: int  # number of subtitles whose drawing changes without the items
+    as_sent: int  # number of these that are drawn as sent with the items
 
     @property
     def has_evidence(self) -> bool:
@@ -305,24 +304,22 @@ class ItemEvidence(NamedTuple):
 
 
 class RejectedItems(NamedTuple):
-    """Items that were not accepted, which are given in `text`. `more` is the number of further
-    subtitles that would be drawn as sent with the layout `whole`, which has these items."""
+    """Items that were not accepted."""
 
     text: str
+    # Number of further subtitles that would be drawn as sent with these items
     more: int
-    whole: str
+    whole: str  # the layout with these items
 
 
 class LayoutChoice(NamedTuple):
-    """A layout that draws `as_sent` of `total` found subtitles as they were sent. `items` is the
-    evidence for its items. `left` has the rejected items with which more subtitles would be drawn
-    as sent."""
+    """A layout with the evidence for its items."""
 
     layout: Layout
-    as_sent: int
-    total: int
+    as_sent: int  # number of found subtitles that it draws as they were sent
+    total: int  # number of found subtitles
     items: tuple[ItemEvidence, ...] = ()
-    left: tuple[RejectedItems, ...] = ()
+    left: tuple[RejectedItems, ...] = ()  # rejected items that would draw more subtitles as sent
 
     @property
     def is_clear(self) -> bool:

@@ -41,8 +41,7 @@ Pauses = Sequence[Tuple[Optional[int], Optional[int]]]
 
 class Silence(NamedTuple):
     """A long interval without a PES packet. `first` and `last` are the frames of the PES packets
-    around it. `is_near_another` is true if only few PES packets separate it from another
-    silence."""
+    around it. `is_near_another` is true if only a few PES packets separate it from another one."""
 
     first: int
     last: int
@@ -50,25 +49,21 @@ class Silence(NamedTuple):
 
 
 class Pace(NamedTuple):
-    """The intervals between PES packets, in frames.
-
-    `interval` is the longest usual interval, or the longest pause if PES packets pause.
-    `loss_interval` is the shortest interval after a loss. If PES packets are regular, `--pace` with
-    one frame less reveals every loss, except at `hidden_places` of `total` places, where the
-    interval would be shorter. `is_dense` is true if an interval with two lost PES packets may be no
-    longer than usual.
-    """
+    """The intervals between PES packets, in frames."""
 
     kind: str
-    interval: int = 0
+    interval: int = 0  # longest usual interval, or the longest pause if PES packets pause
+    # Shortest interval after a loss. If PES packets are regular, `--pace` with one frame less than
+    # this reveals every loss, except at `hidden_places` of `total` places.
     loss_interval: int = 0
     hidden_places: int = 0
     total: int = 0
+    # Whether an interval with two lost PES packets may be no longer than usual
     is_dense: bool = False
 
     @property
     def frames(self) -> int | None:
-        """Return the value for `--pace`, or `None` if PES packets are not regular."""
+        """Return the value for `--pace`, if PES packets are sent at regular intervals."""
         return self.loss_interval - 1 if self.kind == REGULAR else None
 
 
@@ -78,10 +73,9 @@ def compute_pace(rows: Sequence[Sequence[int]], packets_per_pes: int, every: int
 
     Each of `rows` has the frames of PES packets between which no loss is known. A PES packet has at
     most `packets_per_pes` TS packets. A page header is sent at least every `every` frames. `pauses`
-    are the spans without a subtitle. `is_stream` is false for a PES file.
-
-    A few longer intervals count as losses, so that damage can't change the result. If most longer
-    intervals are caused by the inserter, the PES packets are not regular.
+    are the spans without a subtitle. A few longer intervals count as losses, so that damage can't
+    change the result. If most longer intervals are caused by the inserter, the intervals are not
+    regular.
     """
     distances = count_distances(rows, 1)
     loss_distances = count_distances(rows, TWO_LOST if is_stream else ONE_LOST)
@@ -127,13 +121,14 @@ def find_usual_distance(distances: collections.Counter[int], count: int, few: in
 
 
 def count_loss_steps(packets_per_pes: int) -> int:
-    """Return how many PES packets later the next one is received if 16 TS packets are lost."""
+    """Return the distance in PES packets between the last one received before a loss of 16 TS
+    packets and the first one received after it."""
     return max(TWO_LOST, -(-HOLE // packets_per_pes))
 
 
 def find_hidden_loss(rows: Sequence[Sequence[int]], packets_per_pes: int) -> int | None:
-    """Return the shortest interval, in frames, after a loss of 16 TS packets, which the continuity
-    counter does not show. Return `None` if there are too few PES packets."""
+    """Return the shortest interval, in frames, that may hide a loss of 16 TS packets, since the
+    continuity counter does not show such a loss. Return `None` if there are too few PES packets."""
     return min(count_distances(rows, count_loss_steps(packets_per_pes)), default=None)
 
 
@@ -185,15 +180,14 @@ def number_at_rank(counts: collections.Counter[int], rank: int, is_from_above: b
 
 
 def find_silences(row: Sequence[int], lost: int, steps: int) -> Iterator[Silence]:
-    """Yield the intervals of at least `lost` frames in a sequence of frames. A silence is near
-    another if fewer than `steps` PES packets lie between them."""
+    """Yield the silences in a sequence of frames: intervals of at least `lost` frames without a PES
+    packet. Two silences are near each other if fewer than `steps` PES packets lie between them."""
     places = [] if isinstance(row, range) else [
         at for at, (first, last) in enumerate(zip(row, row[1:])) if last - first >= lost]
     for before, at, after in zip([-steps, *places], places, [*places[1:], len(row) + steps]):
         yield Silence(row[at], row[at + 1], min(at - before, after - at) < steps)
 
 
-# ---- Input from a recording
 
 def frame_rows(packets: Packets, inside: Range, origin: int, within: int) -> list[Sequence[int]]:
     """Return the frames of the PES packets `inside` that `check` reads, in sequences. A sequence

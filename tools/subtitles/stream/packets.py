@@ -19,22 +19,16 @@ Texts = tuple[tuple[int, bytes], ...]  # rows, each with its number
 
 
 class PacketRun(NamedTuple):
-    """Consecutive PES packets with the same contents and a constant step of the PTS.
-
-    `flags` are letters such as `HEADER`, with the state of the page after each PES packet.
-    `control` has the eight four-bit values of each page header, in hexadecimal. `units` counts
-    Teletext packets. If `packets` refuses the PES packets, `fault` is the number of the fault, else
-    0.
-    """
+    """Consecutive PES packets with the same contents and a constant step of the PTS."""
 
     first: int
     length: int
     pts: int | None
     step: int
-    flags: str
-    control: str
-    units: int = 0
-    fault: int = 0
+    flags: str  # letters such as `HEADER`, with the state of the page after each PES packet
+    control: str  # eight four-bit values of each page header, in hexadecimal
+    units: int = 0  # number of Teletext packets
+    fault: int = 0  # number of the fault for which `packets` refuses these, else 0
 
     def pts_of(self, number: int) -> int | None:
         return None if self.pts is None else wrap_pts(self.pts + self.step * (number - self.first))
@@ -46,12 +40,11 @@ class PacketRun(NamedTuple):
         return [wrap_pts(self.pts + self.step * at) for at in range(self.length)]
 
     def part(self, first: int, length: int) -> PacketRun:
-        """Return the `length` PES packets of this run that begin with number `first`."""
+        """Return `length` PES packets of this run, starting with number `first`."""
         return self._replace(first=first, length=length, pts=self.pts_of(first))
 
     @property
     def end(self) -> int:
-        """Return the number of the last PES packet plus one."""
         return self.first + self.length
 
     @property
@@ -87,28 +80,23 @@ class GapMarker(NamedTuple):
 
 
 class PCRStep(NamedTuple):
-    """An unusual step from one PCR to the next, between the PTS `before` and `after` of the PID.
-    The step has `ticks` and TS `packets`; `usual` and `usual_packets` are their usual numbers.
-    `counters` is `whole` if the continuity counters of other PIDs show no loss, and `broken` if
-    they show one."""
+    """An unusual step from one PCR to the next, between the PTS `before` and `after` of the PID."""
 
     before: int | None
     after: int | None
-    ticks: int
-    packets: int
-    usual: int
-    usual_packets: int
-    counters: str
+    ticks: int  # its duration
+    packets: int  # number of TS packets
+    usual: int  # usual duration
+    usual_packets: int  # usual number of TS packets
+    counters: str  # `broken` if the continuity counters of other PIDs show a loss, else `whole`
 
 
 @dataclasses.dataclass
 class Packets:
     """The PES packets and gap markers of a Teletext PID, and the contents of the page.
-
-    `decoded_rows` are the page's rows after each change of a cell; `stray_rows` are rows that were
-    received while the page was not open. Each entry begins with the number of the PES packet.
-    `changes` are the changes of the page's text.
-    """
+    `decoded_rows` are the page's rows after each change of a cell. `stray_rows` are rows that were
+    received outside a transmission of the page. Each entry begins with the number of the PES
+    packet. `changes` are the changes of the page's text."""
 
     pid: int
     runs: list[PacketRun] = dataclasses.field(default_factory=list)
@@ -128,7 +116,7 @@ class Packets:
     damage: str | None = None  # reason why the rest of a PES file can't be read
     refusal: int = 0  # 31 (Start) or 32 (Length) if the next PES packet is not Teletext
     packets: int = 0  # TS packets of the PID
-    scrambled: int = 0  # scrambled TS packets
+    scrambled: int = 0  # number of scrambled TS packets
     is_cut: bool = False
     last_pts: int | None = None  # the last PTS, even if its PES packet is cut off
 
@@ -149,13 +137,13 @@ class Packets:
             begin, end = max(run.first, first), min(run.end, last + 1)
             if run.first > last:
                 return
-            if begin == run.first and end == run.end:  # the usual case
+            if begin == run.first and end == run.end:
                 yield run
             elif begin < end:
                 yield run.part(begin, end - begin)
 
     def pts_at(self, number: int) -> int | None:
-        """Return the PTS of a PES packet, or `None` if it has none."""
+        """Return the PTS of a PES packet, if it has one."""
         return next((run.pts for run in self.runs_between(number, number)), None)
 
     def __iter__(self) -> Iterator[tuple[int, int | None, str]]:
@@ -165,7 +153,7 @@ class Packets:
                 yield number, run.pts_of(number), run.flags
 
     def pts(self, inside: Range | None = None, flags: str = "") -> Iterator[int]:
-        """Yield the PTS of the PES packets `inside` that have all `flags`."""
+        """Yield the PTS of the PES packets in the range `inside` that have all `flags`."""
         for run in self.runs_between(*inside) if inside else self.runs:
             if flags in run.flags:
                 yield from run.list_pts()
@@ -193,7 +181,7 @@ def end_numbers(run: PacketRun) -> Iterable[int]:
 
 # Alternating sub-pages, which a receiver shows in turn
 
-FEWEST = 4  # sub-pages alternate if at least so many changes return to an earlier one
+FEWEST = 4  # sub-pages alternate if at least this many changes return to an earlier sub-page
 
 
 def subcode_of(header: bytes) -> str:
@@ -203,8 +191,7 @@ def subcode_of(header: bytes) -> str:
 
 
 def alternating_subcodes(packets: Packets, inside: Range | None = None) -> list[str]:
-    """Return the sub-codes of the page in ascending order if sub-pages alternate, or else an empty
-    list."""
+    """Return the page's sub-codes in ascending order, or an empty list unless they alternate."""
     subcodes, last, again = set[str](), "", 0
     for run in packets.runs_between(*inside) if inside else packets.runs:
         codes = [*map(subcode_of, parse_headers(run.control))]

@@ -20,7 +20,8 @@ from ..common.times import TICKS, ticks_between, wrap_pts
 
 # Numbers of leads to compare on either side of a step. Use 30 only if 10 are unclear.
 SAMPLE_SIZES = (10, 30)
-FEW = 5  # with fewer leads, include their typical change in the standard error
+# With fewer leads, the estimated error of their mean includes their typical change.
+FEW = 5
 MANY = 20  # minimum number of leads on either side to compare their extremes
 SURE = 2.5  # number of standard errors that a difference of means must exceed
 

@@ -10,9 +10,9 @@ from ..common.times import FRAMES_OF_A_DAY, TICKS, frame_in, pts_of, time_of, wr
 from .packets import BLANK, CLOSED, HEADER, OPEN, PacketRun, Packets, PageChange, Range
 
 
-# A run of more ticks is not skipped, since it may wrap around the clock.
+# A run of at least this many ticks is not skipped, since the PTS may wrap around within it.
 SKIPPED = 1 << 31
-AFTER = 2  # after so many consecutive PES packets behind the last frame the search ends
+AFTER = 2  # number of consecutive PES packets after the last frame at which the search ends
 
 
 class SentPacket(NamedTuple):
@@ -24,21 +24,15 @@ class SentPacket(NamedTuple):
 
 
 class PacketRange(NamedTuple):
-    """The PES packets of a range of frames.
+    """The PES packets of a range of frames."""
 
-    `range` has the numbers of the first and last PES packet, or is `None` if there are none. `read`
-    is the number of PES packets read. `first` and `last` are frames, and `first_packet_frame` is
-    that of the first PES packet, even without the page. `has_end` is true if the last page
-    transmission was found, and `is_over` if no later PES packet can be in the range.
-    """
-
-    range: Range | None
-    read: int
-    first: int | None = None
-    last: int | None = None
-    first_packet_frame: int | None = None
-    has_end: bool = False
-    is_over: bool = False
+    range: Range | None  # the first and last PES packet, if there are any
+    read: int  # number of PES packets read
+    first: int | None = None  # its first frame
+    last: int | None = None  # its last frame
+    first_packet_frame: int | None = None  # frame of the first PES packet, even without the page
+    has_end: bool = False  # whether the last page transmission was found
+    is_over: bool = False  # whether no later PES packet can be in the range
 
     def describe(self) -> str:
         count = counted(self.read, "PES packet")
@@ -121,23 +115,21 @@ class PageTexts:
 
 
 class RangeStart:
-    """Finds the first PES packet of a range.
-
-    This is the first PES packet of the last page transmission before frame `begin` that leaves the
-    page blank. If there is no such transmission, it is the first header from `begin` on. If
-    `within` is greater than 0, all PES packets of a frame belong to one transmission.
-    """
+    """Finds the first PES packet of a range. This is the first PES packet of the last page
+    transmission before frame `begin` that leaves the page blank. If there is no such transmission,
+    it is the first header from `begin` on. If `within` is greater than 0, all PES packets of a
+    frame belong to one transmission."""
 
     def __init__(self, begin: int, within: int, texts: PageTexts) -> None:
         self.begin, self.within, self.texts = begin, within, texts
-        self.transmission: list[SentPacket] = []  # the current transmission
+        self.transmission: list[SentPacket] = []
         # First PES packet of the last transmission that leaves the page blank.
         self.blank: int | None = None
         self.header: int | None = None  # PES packet of the last header
         self.is_blank = True
 
     def take(self, sent: SentPacket) -> None:
-        """Read a PES packet before the range."""
+        """Read a PES packet that precedes the range."""
         if not (self.within and self.transmission and sent.frame in (self.transmission[0].frame,
                                                                      None)):
             self.blank, self.transmission = self.last_blank(), []
@@ -148,16 +140,14 @@ class RangeStart:
             self.is_blank = BLANK in sent.flags
 
     def last_blank(self) -> int | None:
-        """Return the number of the first PES packet of the last page transmission that leaves the
-        page blank, or `None`."""
+        """Return the first PES packet of the last page transmission that leaves the page blank."""
         header = next((sent for sent in self.transmission if HEADER in sent.flags), None)
         leaves_blank = header and BLANK in self.transmission[-1].flags and \
             not self.texts.is_repeat(header)
         return self.transmission[0].number if leaves_blank else self.blank
 
     def find(self, sent: SentPacket) -> int | None:
-        """Return the number of the first PES packet of the range, or `None` if the range has not
-        begun with this PES packet."""
+        """Return the first PES packet of the range, if the range begins at or before `sent`."""
         if sent.frame is None or sent.frame < self.begin:
             return None
         is_shown, is_replaced = not self.is_blank, self.texts.is_replaced(sent)
@@ -170,12 +160,10 @@ class RangeStart:
 
 
 class RangeEnd:
-    """Finds the last PES packet of a range, which lies between the frames `low` and `high`.
-
-    This is the last PES packet in the frame of the first header from `end` on. If pages may be
-    late, it is the first PES packet from `end` on that leaves the page blank (and closed, if the
-    page was closed before), or that is `within` frames later.
-    """
+    """Finds the last PES packet of a range, which lies between the frames `low` and `high`. This is
+    the last PES packet in the frame of the first header from `end` on. If pages may be late, it is
+    the first PES packet from `end` on that leaves the page blank (and closed, if the page was
+    closed before), or that is `within` frames later."""
 
     def __init__(self, low: int, high: int, end: int, within: int, is_bound: bool) -> None:
         self.low, self.high, self.end, self.within = low, high, end, within
@@ -185,11 +173,9 @@ class RangeEnd:
         self.closed = -1  # the last PES packet that closed the page
 
     def take(self, sent: SentPacket, first: int | None) -> bool:
-        """Read a PES packet. `first` is the number of the range's first PES packet, if known.
-
-        Return whether no later PES packet can be in the range. One PES packet after the range
-        usually does not suffice, since its PTS may be wrong.
-        """
+        """Read a PES packet, and return whether no later one can be in the range. One PES packet
+        after the range usually does not suffice, since its PTS may be wrong. `first` is the number
+        of the range's first PES packet, if known."""
         frame = sent.frame
         if CLOSED in sent.flags:
             self.closed = sent.number
@@ -209,8 +195,7 @@ class RangeEnd:
         return False
 
     def is_last(self, sent: SentPacket, frame: int, first: int) -> bool:
-        """Return whether a PES packet that is not before the last out-cue is the last of the
-        range."""
+        """Return whether a PES packet not before the last out-cue is the last of the range."""
         if not self.within:
             return HEADER in sent.flags
         is_page_over = BLANK in sent.flags and not (OPEN in sent.flags and self.closed >= first)
@@ -219,8 +204,7 @@ class RangeEnd:
 
 def packets_from(packets: Packets, low: int, high: int, origin: int, within: int) \
         -> Iterator[SentPacket]:
-    """Yield the PES packets, starting with the first run that may overlap the frames `low` to
-    `high`."""
+    """Yield the PES packets from the first run that may overlap the frames `low` to `high`."""
     first, last = pts_of(low, origin), pts_of(high, origin)
     for run in itertools.dropwhile(lambda run: is_outside(run, first, last), packets.runs):
         for number in range(run.first, run.end):

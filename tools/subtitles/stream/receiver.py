@@ -27,15 +27,13 @@ OLD_PAGE: Rows = (bytes([OLD]) * 40,) * 24
 
 
 class ReceiverState(NamedTuple):
-    """The state of a receiver. `header` has the eight four-bit values of the page's last header, or
-    is `None`. `rows` is the decoded page. `screen` is the last complete page, which is displayed,
-    and its header."""
+    """The state of a receiver."""
 
     is_received: bool
     is_open: bool
-    header: bytes | None
-    rows: Rows
-    screen: tuple[Rows, bytes] | None
+    header: bytes | None  # eight four-bit values of the page's last header
+    rows: Rows  # the decoded page
+    screen: tuple[Rows, bytes] | None  # the last complete page, which is displayed, and its header
 
 
 INITIAL_STATE = ReceiverState(False, False, None, OLD_PAGE, None)
@@ -185,12 +183,13 @@ LEAST = 250  # minimum number of frames to decode before and after a span
 class Timeline(ReceivedPackets):
     """The pages that a receiver decodes.
 
-    A page of `pages` is decoded from the end of its frame in `frames` on. `states` has the initial
-    state and the state after each PES packet of `state_packets`, which is in a frame of
-    `state_frames`. The page opens or closes at the ends of the frames `open_changes`. The frames
-    `header_frames` have a page header, and those in `erasure_frames` a header that erases the page.
-    If the frame number decreases before frame `begin`, everything received before is forgotten.
-    `first_packet_frame` is the frame of the first PES packet, if known.
+    From the end of each frame in `frames`, the page at the same index in `pages` is decoded.
+    `states` has the initial state, and the state after each PES packet of `state_packets`;
+    `state_frames` has the frames of these packets. `open_changes` has the frames at whose ends the
+    page opens or closes. `header_frames` has the frames with a page header, and `erasure_frames`
+    those with a header that erases the page. If the frame number decreases before frame `begin`,
+    everything received before is forgotten. `first_packet_frame` is the frame of the first PES
+    packet, if known.
     """
 
     def __init__(self, packets: Packets, page: Page, origin: int, within: int = 0,
@@ -212,12 +211,13 @@ class Timeline(ReceivedPackets):
         self.state_frames, self.state_packets = array.array("i"), array.array("q")
         self.open_changes, self.header_frames, self.erasure_frames = (array.array("i") for _
                                                                       in range(3))
-        self.stray_rows: list[tuple[Span, Texts]] = []  # rows for which the page was not open
+        # Rows received outside a transmission of the page
+        self.stray_rows: list[tuple[Span, Texts]] = []
         self.is_outdated = False
 
     def receive_all(self, held: dict[int, Texts], strays: dict[int, Texts]) -> None:
-        """Receive the PES packets `inside`. `held` has the rows decoded after a PES packet,
-        `strays` the rows received while the page was not open."""
+        """Receive the PES packets in the range `inside`. `held` has the rows decoded after a PES
+        packet, `strays` the rows received outside a transmission of the page."""
         first, last = self.inside
         self.is_erased = any(ERASE in run.flags for run in self.packets.runs_between(0, first - 1))
         earlier = [texts for number, texts in self.packets.decoded_rows if number < first]
@@ -231,7 +231,7 @@ class Timeline(ReceivedPackets):
     def receive_run(self, run: PacketRun, texts: Texts | None, stray: Texts = ()) -> None:
         """Receive a run. `texts` are the rows that `survey` printed after the run's first PES
         packet, if any. If that packet is not received, the receiver may not have decoded these
-        rows. `stray` are rows received while the page was not open."""
+        rows. `stray` are rows received outside a transmission of the page."""
         is_told = texts is not None
         self.is_erased = self.is_erased or ERASE in run.flags
         if texts is not None:
@@ -297,7 +297,7 @@ class Timeline(ReceivedPackets):
             self.open_changes.append(frame)
 
     def note_page(self, frame: int, page: Rows) -> None:
-        """Record the page that is decoded from a frame on, if it differs from the page before."""
+        """Record the page decoded from `frame` onwards, if it differs from the previous page."""
         if self.frames and self.frames[-1] == frame:
             self.frames.pop()
             self.pages.pop()
@@ -315,8 +315,7 @@ class Timeline(ReceivedPackets):
         return when
 
     def number_at(self, frame: int) -> int:
-        """Return the index of the page decoded at the end of a frame, or -1 before the first
-        page."""
+        """Return the index of the page decoded at the end of a frame, or -1 if there is none."""
         return bisect.bisect_right(self.frames, frame) - 1
 
     def page_at(self, frame: int) -> Rows:
@@ -346,8 +345,7 @@ class Timeline(ReceivedPackets):
         return Span(self.frames[number], self.last if is_last else self.frames[number + 1] - 1)
 
     def find_closed_frame(self, frame: int) -> int | None:
-        """Return the first frame, not before `frame`, at the end of which the page is closed.
-        Return `None` if there is none."""
+        """Return the first frame, not before `frame`, at the end of which the page is closed."""
         at = bisect.bisect_right(self.open_changes, frame)
         if at % 2 == 0:
             return frame

@@ -59,15 +59,13 @@ RARE = 20  # longer intervals are exceptions if they are less than 1/20 of all i
 
 
 class Repeats(NamedTuple):
-    """The repeats of a page: the number of its headers, the longest interval in frames, that
-    interval's first frame, and the usual interval. `exceptions` are longer intervals, each with its
-    first frame and its length."""
+    """The repeats of a page."""
 
-    headers: int
-    longest: int
-    longest_start: int
-    usual: int | None
-    exceptions: Sequence[tuple[int, int]] = ()
+    headers: int  # number of page headers
+    longest: int  # longest interval in frames
+    longest_start: int  # first frame of this interval
+    usual: int | None  # usual interval
+    exceptions: Sequence[tuple[int, int]] = ()  # longer intervals: first frame and length
 
 
 def measure_repeats(pts: Sequence[int], last: int | None, origin: int,

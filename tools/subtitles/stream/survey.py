@@ -13,7 +13,7 @@ from .packets import GapMarker, PCRStep, PES, PacketRun, Packets, PageChange, Te
 from .pictures import VideoLead
 
 
-# The manual describes each line of the output; unknown lines of a later program are skipped.
+# The manual describes each output line. Unknown lines of a later version are skipped.
 
 VERSION = "1"
 MAX_PAGES = 12  # maximum number of pages in a line
@@ -39,28 +39,25 @@ class Announced(NamedTuple):
 
 @dataclasses.dataclass
 class ProgramMap:
-    """A PMT: the stream_type of each PID, and its Teletext pages. `after` is the last PCR of the
-    programme before this PMT."""
+    """A PMT: the stream_type of each PID, and its Teletext pages."""
 
     number: int
     pcr_pid: int
     kinds: dict[int, int] = dataclasses.field(default_factory=dict)
     pages: dict[int, list[Announced]] = dataclasses.field(default_factory=dict)
-    after: int | None = None
+    after: int | None = None  # the programme's last PCR before this PMT
 
 
 @dataclasses.dataclass
 class Video:
-    """The pictures of a video PID from the first random access point to the next, or to the end of
-    the recording if `is_cut`. `pictures` has their PTS. `form` is the form of this group of
-    pictures: closed, open, unknown, or an empty string if it was not printed."""
+    """The pictures of a video PID from the first random access point to the next."""
 
     skipped: int = 0
-    pictures: list[int | None] = dataclasses.field(default_factory=list)
+    pictures: list[int | None] = dataclasses.field(default_factory=list)  # their PTS
     lost: int = 0
     scrambled: int = 0
-    is_cut: bool = False
-    form: str = ""
+    is_cut: bool = False  # whether the recording ends before the next random access point
+    form: str = ""  # closed, open or unknown group of pictures; empty if it was not printed
 
 
 def pid_line(packets: Packets, programmes: Iterable[ProgramMap]) -> str:
@@ -93,7 +90,7 @@ class Survey:
         self.head = b""
         self.skipped = 0
         self.is_complete = False
-        self.unexpected_line = ""  # the line with another version or a failure, if any
+        self.unexpected_line = ""  # the line that reports a wrong version or a failure, if any
         self.programmes: list[ProgramMap] = []
         self.pcr_pids: dict[int, list[int]] = {}  # PCR PIDs of each programme, most recent last
         self.by_pid: dict[int, Packets] = {}
@@ -243,8 +240,7 @@ class Survey:
         return [program_map for program_map in self.programmes if pid in program_map.kinds]
 
     def clock_of(self, pid: int) -> tuple[int, int] | None:
-        """Return the first and last PCR of the programme of a PID, or `None` if they are
-        unknown."""
+        """Return the first and last PCR of the programme of a PID, if they are known."""
         known = self.programmes_of(pid)
         return self.clocks.get(known[-1].pcr_pid) if known else None
 
@@ -295,8 +291,7 @@ def survey_runs(program: str, name: str, page: Page) -> Iterator[tuple[PacketRun
 
 
 def pop_first_run(packets: Packets) -> tuple[PacketRun, Texts | None]:
-    """Remove the first run. Return it with the rows printed after its first PES packet, or
-    `None`."""
+    """Remove the first run. Return it, and the rows printed after its first PES packet, if any."""
     run, held = packets.runs.pop(0), dict(packets.decoded_rows)
     packets.decoded_rows.clear()
     del packets.changes[:-1]
