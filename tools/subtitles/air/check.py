@@ -32,19 +32,18 @@ SPARE = 1 << 20  # bytes of disk space to leave free
 QUIET = 1.0  # maximum seconds until the next PMT, which is needed to find PES packets
 PTS_SECOND = FRAMES_A_SECOND * TICKS
 CORRECT = {ACCEPTED, WAIVED, RELATIVE}  # verdicts without errors
-# Exit statuses of the judging process, in addition to 0 to 3 of qc: a system error occurred; the
-# pair is refused, but the recorded part ends before the programme.
+# Exit statuses of the judging process besides qc's 0 to 3. FAILED: a system error occurred.
+# UNFINISHED: the pair is refused, but the recorded part ends before the programme does.
 FAILED, UNFINISHED = 101, 102
 
 
 class Outcome(NamedTuple):
-    """The outcome of one attempt to judge a programme. `result` is its JSON result, or `None` after
-    a system error. `reason` is the system error, the reason why it was not judged, or the line with
-    the verdict. `is_finished` is false if a refusal may only mean that the programme continues
-    after the recorded part."""
+    """The outcome of one attempt to judge a programme."""
 
-    result: dict[str, Any] | None
+    result: dict[str, Any] | None  # its JSON result, or `None` after a system error
+    # The system error, the reason why it was not judged, or the line with the verdict
     reason: str
+    # False if a refusal may only mean that the programme continues after the recorded part
     is_finished: bool = True
 
     @property
@@ -112,7 +111,8 @@ def exit_status(verdict: Verdict) -> int:
     """Return the exit status of the judging process for a verdict."""
     if not verdict.is_final:
         return FAILED
-    part = verdict.parts[-1] if verdict.parts else None  # if PES packets follow, it is finished
+    # The last part is finished if PES packets follow it.
+    part = verdict.parts[-1] if verdict.parts else None
     is_finished = part and (part.pes is None or part.packets.count > part.pes[1] + 1)
     return UNFINISHED if verdict.status == 1 and not is_finished else verdict.status
 

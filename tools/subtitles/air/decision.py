@@ -15,13 +15,12 @@ MAX_GAPS = 3  # maximum number of gaps listed in a result
 
 
 class Window(NamedTuple):
-    """The scheduled period of a programme. The programme is searched from `margin` seconds before
-    `begin` to `margin` seconds after `end`. `length` is the duration of its subtitle file in
-    seconds."""
+    """The scheduled period of a programme. The programme is searched for from `margin` seconds
+    before `begin` to `margin` seconds after `end`."""
 
     begin: float
     end: float
-    length: float
+    length: float  # duration of its subtitle file in seconds
     margin: float
     more: float = 0.0  # extra seconds for a programme that began in time but has not ended yet
 
@@ -69,6 +68,6 @@ def decide(name: str, outcomes: Sequence[Outcome], gaps: Sequence[str], has_pass
 
 
 def seconds_to_next_try(window: Window, now: float) -> float:
-    """Return the seconds until the next attempt to judge a programme that may still be on air. Each
-    attempt doubles the time since its scheduled end, until the window has passed."""
+    """Return the seconds until the next attempt to judge a programme that may still be on air. The
+    time since its scheduled end doubles with each attempt, until the window has passed."""
     return min(max(now - window.end, SOON), max(window.last + SOON - now, 0.0))

@@ -28,7 +28,7 @@ HOOK_SECONDS = 10  # time limit of the command of --on-result
 
 class Tries:
     """The time of the next attempt to judge a programme, the number of system errors, and the
-    reason of the last error."""
+    reason for the last error."""
 
     def __init__(self) -> None:
         self.next, self.failures, self.reason = 0.0, 0, ""
@@ -103,8 +103,8 @@ class Judge:
         return True
 
     def window(self, programme: Programme) -> Window:
-        """Return the window in which a programme is searched. Its length is 0 if the subtitle file
-        is missing. An END earlier than the end of the subtitle file is ignored."""
+        """Return the window in which to search for a programme. Its length is 0 if the subtitle
+        file is missing. An END earlier than the end of the subtitle file is ignored."""
         length = 0.0
         with contextlib.suppress(OSError):
             length = length_of(programme.request)

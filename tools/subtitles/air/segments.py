@@ -165,12 +165,10 @@ def is_usual(before: Sequence[int], after: Sequence[int]) -> bool:
 
 
 def stretches_in(segments: Iterable[Segment], longest_pause: float) -> Iterator[Unbroken]:
-    """Divide segments into continuous parts of the feed.
-
-    A part ends where TS packets are missing. It also ends where a segment's name or a pause of more
-    than `longest_pause` seconds shows a gap, unless the TS packets clearly continue. If only the TS
-    packets show the gap, the segment before it was cut, and is omitted.
-    """
+    """Divide segments into continuous parts of the feed. A part ends where TS packets are missing.
+    It also ends where a segment's name or a pause of more than `longest_pause` seconds shows a gap,
+    unless the TS packets clearly continue. If only the TS packets show the gap, the segment before
+    it was cut, and is omitted."""
     stretch = list[Segment]()
     for one in segments:
         is_next = is_continued(stretch[-1], one) if stretch else None

@@ -179,8 +179,8 @@ GRACE_SECONDS = 10  # seconds from SIGTERM to SIGKILL, so that a process can wri
 
 
 def default_limit(files: Mapping[str, Any]) -> int:
-    """Return the CPU time limit of a pair in seconds, which depends on the sizes of its files.
-    RLIMIT_CPU is not used, since it would not show which limit ended a program."""
+    """Return the CPU time limit of a pair in seconds, from the sizes of its files. RLIMIT_CPU would
+    not show which limit ended a program."""
     size: int = sum(about["size"] for about in files.values() if about)
     return LEAST_SECONDS + size // BYTES_PER_SECOND
 
@@ -207,7 +207,7 @@ class PairRunner:
         self.running: dict[ForkedProcess, RunningPair] = {}
         self.over_limit: set[ForkedProcess] = set()
         self.inputs = NO_INPUTS  # inputs of all pairs
-        self.unwritten_results: dict[str, dict[str, Any]] = {}  # results that could not be written
+        self.unwritten_results: dict[str, dict[str, Any]] = {}
         self.in_use: set[str] = set()  # names of pairs whose files another run of qc was writing
         self.is_stopped = False
         describe_program(command_paths.program_path)  # caches the checksum for forked processes
@@ -315,7 +315,8 @@ def judge_batch(args: argparse.Namespace, program_name: str) -> int:
         raise Stop("--resume needs -o, the folder with the results of an earlier call")
     if args.line is None:
         items, more, folder_of_all = read_pairs(args.batch, args), list[str](), args.out
-    else:  # other runs of qc judge the other lines, so no page over all pairs is written
+    # Other runs of qc judge the other lines, so no page listing all pairs is written.
+    else:
         item, more = read_line_pair(args.batch, args.line, args)
         items, folder_of_all = [item], None
     inputs = collect_inputs(items, args.batch, *more)
@@ -399,8 +400,8 @@ DONE_SUFFIX = ".done"  # suffix of a file that marks both files of a pair as com
 
 
 class Sighting(NamedTuple):
-    """The state of a pair's files and the time when this state was first seen. If the files are not
-    a valid pair, the state is the reason."""
+    """The state of a pair's files and the time when it was first seen. If the files are not a valid
+    pair, the state says why."""
 
     file_state: object
     seen_at: float
@@ -466,7 +467,7 @@ def watch(args: argparse.Namespace, program_name: str) -> int:
     results = collection.FolderRows(args.out)
 
     def handle_row(row: Row) -> None:
-        if row.name in calls.in_use:  # reported once, and judged in a later scan
+        if row.name in calls.in_use:  # report this once, and judge the pair in a later scan
             watching.handled.pop(row.name, None)
             if results.rows.get(row.name) == row:
                 return

@@ -241,8 +241,8 @@ class FolderRows:
 
 def refuse_output_names(args: argparse.Namespace, inputs: Inputs = NO_INPUTS,
                         folder: str | None = None) -> None:
-    """Raise `Stop` if an output file can't be written or is an input. Do the same for the page in a
-    folder."""
+    """Raise `Stop` if an output file can't be written or is an input, or if the index page or lock
+    file of `folder` would replace such a file."""
     for path in (args.json, args.csv, args.junit):
         if path is not None:
             refuse_output_name(path)

@@ -112,15 +112,13 @@ def propose_pace(paces: Sequence[Pace]) -> Finding:
 
 
 class Delays(NamedTuple):
-    """The delays of cues. `begins` and `ends` count the in-cues and out-cues with each delay in
-    frames. `early` and `unseen` describe early cues and subtitles that were never sent. `late` has
-    the late cues with their delays."""
+    """The delays of cues."""
 
-    begins: collections.Counter[int]
-    ends: collections.Counter[int]
-    early: list[str]
-    unseen: list[str]
-    late: Sequence[tuple[int, str]] = ()
+    begins: collections.Counter[int]  # number of in-cues with each delay in frames
+    ends: collections.Counter[int]  # number of out-cues with each delay
+    early: list[str]  # descriptions of early cues
+    unseen: list[str]  # subtitles that were never sent
+    late: Sequence[tuple[int, str]] = ()  # delays and descriptions of late cues
 
 
 def measure_delays(stl: str, subtitles: Sequence[Subtitle], held: Timeline,
@@ -165,7 +163,7 @@ def add_delays(counts: collections.Counter[int], early: list[str], late: list[tu
 
 
 def remove_unusual(delays: collections.Counter[int]) -> collections.Counter[int]:
-    """Return the delays without the longest ones, which are removed if they are rare."""
+    """Return the delays, leaving out the longest ones if they are rare."""
     usual, rest = collections.Counter(delays), 0
     for delay in sorted(delays, reverse=True):
         rest += delays[delay]
@@ -195,11 +193,9 @@ def find_text_end(held: Timeline, subtitle: Subtitle, letters: bytes, first: int
 
 def propose_lateness(several: Sequence[Delays], without: Sequence[str],
                off_frame: tuple[int, int] = (0, 0)) -> Iterator[Finding]:
-    """Propose --within and --late from the recordings whose clock was given.
-
-    `without` are the recordings without a clock. `off_frame` has the number of PTS that are not on
-    a frame, and the number of all PTS. If the PTS off a frame are not rare, --within is at least 1.
-    """
+    """Propose --within and --late from the recordings whose clock was given. `without` are the
+    recordings without a clock. `off_frame` has the number of PTS that are not at the start of a
+    frame, and the number of all PTS. If such PTS are not rare, --within is at least 1."""
     off, count = off_frame
     least = int(off * RARE >= count > 0)
     lines = [f"within: {off} of {count} PTS differ from their frames, which check "
@@ -250,8 +246,8 @@ def named_lines(what: str, names: Sequence[str]) -> list[str]:
 
 
 def propose_keeping(headers: int, keeping: int, is_alone: bool) -> Finding:
-    """Propose --keeping if many headers keep the page. `is_alone` is true if no header has any
-    other fault."""
+    """Propose --keeping if many headers keep the page. `is_alone` is true if no header has a wrong
+    control bit other than C4."""
     lines = [f"keeping: C4 (erase page) is clear in {keeping} of {counted(headers, 'header')}"]
     is_habit = keeping > 0 and keeping * RARE >= headers
     if keeping and not is_habit:
@@ -398,23 +394,19 @@ class SilentPrinter(Printer):
 
 
 class Measured(NamedTuple):
-    """Measurements of one recording.
-
-    `pid` is its PID and `lines` describe this choice. `repeats` and `paces` are the intervals of
-    page headers and of PES packets. `headers` has the number of all headers, and of headers that
-    keep the page. `is_alone` is true if no header has any other fault.
-    """
+    """Measurements of one recording."""
 
     pid: str | None
-    lines: Sequence[str]
-    repeats: Sequence[Repeats]
-    paces: Sequence[Pace]
+    lines: Sequence[str]  # explain the choice of the PID
+    repeats: Sequence[Repeats]  # intervals of page headers
+    paces: Sequence[Pace]  # intervals of PES packets
     delays: Sequence[Delays]
-    headers: tuple[int, int]
-    is_alone: bool
+    headers: tuple[int, int]  # number of all headers, and of headers that keep the page
+    is_alone: bool  # whether no header has a wrong control bit other than C4
     options: set[str]
     sendings: Sequence[ReceivedSubtitle]
-    off_frame: tuple[int, int] = (0, 0)  # number of PTS off a frame, and number of all PTS
+    # Number of PTS that are not at the start of a frame, and number of all PTS
+    off_frame: tuple[int, int] = (0, 0)
     option: str = "english"  # national option used to decode the text
 
 

@@ -57,8 +57,8 @@ def refuse_pair_files(folder: str, name: str, inputs: Inputs, parts: PartFiles |
 
 
 def refuse_folder_files(folder: str, inputs: Inputs) -> None:
-    """Raise `Stop` if the page or the lock of a folder would replace an input, or a file that these
-    tools did not write."""
+    """Raise `Stop` if a folder's index page or lock file would replace an input, or a file that
+    these tools did not write."""
     for path in (index_path(folder), lock_path(folder, "")):
         refuse_file(path, inputs)
 
@@ -176,13 +176,7 @@ def now(seconds: float | None = None) -> str:
 
 
 class PairOptions(NamedTuple):
-    """The program and the output files for a pair.
-
-    `name` overrides the name from the subtitle file. Files are written into `staging_folder` if the
-    caller moves them later. `is_claimed` is true if the caller has locked the files. `examine` is
-    called with the verdict before it is written. If `examine` raises `Unclear`, the pair is not
-    judged.
-    """
+    """The program and the output files for a pair."""
 
     program: str | None
     out: str | None = None
@@ -190,10 +184,11 @@ class PairOptions(NamedTuple):
     json: str | None = None
     csv: str | None = None
     junit: str | None = None
-    name: str | None = None
-    staging_folder: str | None = None
-    is_claimed: bool = False
+    name: str | None = None  # overrides the name from the subtitle file
+    staging_folder: str | None = None  # where to write files that the caller moves later
+    is_claimed: bool = False  # whether the caller has locked the files
     is_quiet: bool = False
+    # Called with the verdict before it is written. If it raises `Unclear`, the pair is not judged.
     examine: Callable[[Verdict], None] = lambda _: None
 
 
@@ -365,14 +360,13 @@ def reference_text(verdict: Verdict, page: str | None) -> str:
 
 
 class Output(NamedTuple):
-    """A requested file, and the function that makes its contents. `is_result` is true for files in
-    the output folder, `is_raw` for files that do not contain the verdict."""
+    """A requested file, and the function that makes its contents."""
 
     path: str
     make_chunks: Callable[[], Iterator[bytes]]
-    is_result: bool = False
+    is_result: bool = False  # whether it is in the output folder
     is_json: bool = False
-    is_raw: bool = False
+    is_raw: bool = False  # whether it does not contain the verdict
 
     @property
     def is_replaced(self) -> bool:
@@ -387,7 +381,7 @@ class OutputFiles:
                  names: OutputNames, stamps: Mapping[str, Stamp | None] = {}) -> None:
         self.call, self.verdict, self.names = call, verdict, names
         self.command_paths = command_paths
-        self.stamps = stamps  # from the time when judging began
+        self.stamps = stamps  # state of the input files when judging began
         self.written: list[Output] = []
 
     @property
@@ -401,8 +395,8 @@ class OutputFiles:
 
     def write(self, recording: Recording | None = None) -> None:
         """Write all outputs. If an output can't be written, the verdict becomes `not judged`, and
-        earlier outputs are written again if possible. The JSON result in the folder is the last of
-        these; only outputs that can't be written again follow."""
+        earlier outputs are written again if possible. The JSON result in the folder is written
+        last, except for outputs that are written again."""
         for output in sorted(self.list_outputs(recording), key=lambda one: not one.is_replaced):
             self.find_changes()
             if self.try_to_write(output):

@@ -102,7 +102,7 @@ def decode_page(text: str) -> tuple[int, int] | None:
 
 
 def parse_page(text: str) -> tuple[int, int]:
-    """Parse a page such as 888. Return its magazine (0 means 8) and its number."""
+    """Parse a page number such as 888. Return the magazine (0 means 8) and the page in it."""
     page = decode_page(text)
     if page is None:
         raise argparse.ArgumentTypeError(f"{text} is not a page: give a digit 1 to 8 and two "
@@ -283,8 +283,8 @@ def format_frame_range(least: int, most: int) -> str:
 
 
 def escape_hidden(text: str) -> str:
-    """Escape characters that are not safe in terminals and text files: control characters,
-    characters that change the writing direction, and bytes that are not UTF-8 (as \\x1b)."""
+    """Escape, in the form \\x1b, characters that are not safe in terminals and text files: control
+    characters, characters that change the writing direction, and bytes that are not UTF-8."""
     return HIDDEN.sub(lambda found: escape_character(found[0]), text)
 
 
@@ -388,5 +388,5 @@ def locate_error(reason: BaseException) -> str:
 def discard_output(out: TextIO | None) -> None:
     """Redirect a failed stream to /dev/null, because Python writes to it again at exit."""
     with contextlib.suppress(OSError):
-        if out is not None:  # standard output was closed when the tool started
+        if out is not None:  # false if standard output was closed when the tool started
             os.dup2(os.open(os.devnull, os.O_WRONLY), out.fileno())

@@ -86,8 +86,8 @@ def describe_kind(mode: int) -> str | None:
 
 class File(Input):
     """A regular file to read, or a pipe if that is allowed. Anything else is refused. The file is
-    opened without blocking and then checked, since the name may get another file at any time. If it
-    is a pipe, wait until a program writes to it."""
+    opened without blocking and then checked, since its name may come to refer to another file at
+    any time. If it is a pipe, wait until a program writes to it."""
 
     def __init__(self, name: str, may_be_pipe: bool = False, is_followed: bool = True) -> None:
         self.flags = os.O_RDONLY | os.O_NONBLOCK | os.O_NOCTTY | os.O_CLOEXEC
@@ -243,10 +243,7 @@ def refuse_output_name(name: str) -> None:
 @contextlib.contextmanager
 def open_output(path: str) -> Iterator[BinaryIO]:
     """Open an output file that the user named, following links. Replace an earlier file only after
-    all data are written without an error.
-
-    Write directly to a pipe, a device or standard output, `-`.
-    """
+    all data are written without an error. Write directly to a pipe, a device or standard output."""
     if path in STANDARD_OUTPUTS:
         with open_standard_output() as file:
             yield file
@@ -283,8 +280,8 @@ def open_standard_output() -> Iterator[BinaryIO]:
 
 
 def open_replacement(path: str, target: str, is_stored: bool = False) -> Iterator[BinaryIO]:
-    """Open a temporary file and finally rename it to `target`. Error messages contain `path`
-    instead. If `is_stored`, ensure that the file survives a power failure."""
+    """Open a temporary file, and rename it to `target` when it is complete. Error messages name
+    `path`. If `is_stored`, ensure that the file survives a power failure."""
     name = make_temporary_name(os.path.dirname(target), TEMPORARY_PREFIX)
     try:
         with name_errors(path):
@@ -299,7 +296,7 @@ def open_replacement(path: str, target: str, is_stored: bool = False) -> Iterato
         if is_stored:
             sync_folder(os.path.dirname(target))
     finally:
-        with contextlib.suppress(OSError):  # after the rename it no longer exists
+        with contextlib.suppress(OSError):  # after the rename, the temporary file no longer exists
             os.unlink(name)
 
 
@@ -344,7 +341,7 @@ def close_after_writing(file: BinaryIO, path: str) -> Iterator[None]:
         raise
 
 
-BUFFER_SIZE = 1 << 18  # size of the buffer in bytes, to compute the SHA-256 of a file
+BUFFER_SIZE = 1 << 18  # size in bytes of the buffer used to compute a file's SHA-256
 
 
 class SummedFile(NamedTuple):

@@ -57,9 +57,7 @@ def escape(text: str) -> str:
 
 def markup(template: str, *values: Value) -> Markup:
     """Return a template with each `{}` replaced with markup, a number, or text, which is escaped.
-
-    The template must be a literal; a test checks this. A `{}` in a tag must be in quotes.
-    """
+    The template must be a literal; a test checks this. A `{}` in a tag must be in quotes."""
     return Markup(template.format(*map(format_value, values)))
 
 

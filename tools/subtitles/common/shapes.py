@@ -20,7 +20,6 @@ class Shape:
     name, meaning = "", ""
 
     def to_json(self, value: Any) -> Any:
-        """Convert a value to its JSON form."""
         return value
 
     def find_misfit(self, value: object) -> str | None:
@@ -30,7 +29,6 @@ class Shape:
         raise NotImplementedError
 
     def schema(self) -> Schema:
-        """Return the JSON schema of this type."""
         raise NotImplementedError
 
     def inner_shapes(self) -> Iterator[Shape]:
@@ -86,7 +84,7 @@ class Number(Shape):
     def find_misfit(self, value: object) -> str | None:
         if isinstance(value, bool) or not isinstance(value, (int, float)):
             return ""
-        return None if 0 <= value <= self.most else ""  # false for NaN and infinity
+        return None if 0 <= value <= self.most else ""  # NaN and infinity fail this test
 
     def schema(self) -> Schema:
         return {"type": "number", "minimum": 0, "maximum": self.most}
@@ -233,7 +231,7 @@ class Rules(NamedTuple):
     rows: Sequence[dict[str, Shape | Rules]]
 
     def find_misfit(self, value: Any) -> str | None:
-        """Return `None` if an alternative fits, else the path of the first member in the rules."""
+        """Return `None` if any of the rows fits, else the path of the first member in `rows`."""
         is_one = any(all(shape.find_misfit(value[name]) is None for name, shape in row.items())
                      for row in self.rows)
         return None if is_one else f".{next(iter(self.rows[0]))}"

@@ -222,6 +222,6 @@ class Spans:
 
 
 def join_spans(several: Iterable[Spans]) -> Spans:
-    """Join several lists of spans to one list in ascending order."""
+    """Join several lists of spans into one list in ascending order."""
     rising = [each if each.is_rising() else Spans(sorted(each)) for each in several]
     return Spans(heapq.merge(*rising))

@@ -30,10 +30,11 @@ FAULT_LINE = re.compile(
     r"| frame (?P<time>[\d:]+)(?: packet (?P<packet>\d+)"
     r"| row (?P<row>\d+) column (?P<column>\d+))?)?")
 EMPTY = 60  # there is no PES packet
-DISPLAY = 13  # display standard code (DSC)
+DISPLAY = 13  # fault of the display standard code (DSC)
 EMPTY_TIME, OUT_OF_ORDER = 21, 56  # empty or decreasing times in a subtitle file
 OFF_FRAME, GAP = 61, 73
-UNDECIDED = 78  # frames next to refused subtitles, whose expected page is unknown
+# Fault of frames next to refused subtitles, where the expected page is unknown
+UNDECIDED = 78
 STL_FAULTS = {*range(10, 26), *range(50, 58)}
 SKIPPED_PACKETS = {*range(33, 41), 45, 61}  # PES packets that are unreadable or have no frame
 ENDS_READING = {30, 31, 32, 44}  # faults after which `check` stops reading the recording
@@ -130,7 +131,7 @@ def is_check_line(line: str) -> bool:
                                                      parse_accepted_line, parse_count_line))
 
 
-# These functions are faster, since a list may have a line for each frame of a day.
+# These functions are written for speed, since a list may have a line for each frame of a day.
 
 def split_line(line: str) -> list[str]:
     """Split a line into keyword, fault number, fault name, kind of place, place, and rest."""
@@ -217,7 +218,7 @@ def read_named_meanings() -> dict[str, Meaning]:
 
 
 def remove_markup(text: str) -> str:
-    """Remove links and backquotes of Markdown from a cell of the manual."""
+    """Remove Markdown links and backquotes from a table cell of the manual."""
     return re.sub(r"\[([^]]*)\]\([^)]*\)", r"\1", text).replace("`", "")
 
 
@@ -230,6 +231,6 @@ def make_cell_markup(text: str) -> Markup:
 
 
 def make_number_link(line: str) -> Markup:
-    """Return a line `refused NUMBER Name PLACE` as HTML, in which number and name are a link."""
+    """Return a line `refused NUMBER Name PLACE` as HTML, with a link on number and name."""
     _, number, name, *place = line.split(" ")
     return join_markup([markup('<a href="#n{}">{} {}</a>', number, number, name), *place], " ")

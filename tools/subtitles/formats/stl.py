@@ -218,8 +218,7 @@ class SubtitleList:
         return FRAMES_OF_A_DAY if is_last else self.begins[place + 1]
 
     def find_nearest(self, places: Sequence[int], frame: int) -> int:
-        """Return the index, out of those in `places`, of the subtitle that begins nearest to a
-        frame."""
+        """Return the index, one of `places`, of the subtitle that begins nearest to a frame."""
         at = count_until(places, lambda place: self.begins[place] >= frame)
         return min(places[max(at - 1, 0):at + 1], key=lambda one: abs(self.begins[one] - frame))
 

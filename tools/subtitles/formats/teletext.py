@@ -90,19 +90,15 @@ COMMON = (*range(0x01, 0x0E), 0x1C, 0x1D, *range(0x20, 0x23), *range(0x25, 0x40)
 
 
 class NationalOption(NamedTuple):
-    """A national option.
-
-    `bits` is C12 + 2 C13 + 4 C14. `cells` has the bytes of a text for each of `NATIONAL_CODES`, or
-    `-`. `languages` are the codes in a GSI block (LC), `tracks` those in a PMT.
-    """
+    """A national option."""
 
     word: str
     name: str
-    bits: int
+    bits: int  # C12 + 2 C13 + 4 C14
     characters: str
-    cells: str
-    languages: str
-    tracks: str
+    cells: str  # bytes of a text for each of `NATIONAL_CODES`, or `-`
+    languages: str  # codes in a GSI block (LC)
+    tracks: str  # codes in a PMT
 
 
 ENGLISH = NationalOption(
@@ -136,7 +132,7 @@ RESERVED = 7  # value of C12 to C14 that no option of the default region uses
 # Languages in a PMT whose characters are not in the default region.
 OTHER_REGIONS = ("ara bul ell est gre heb hrv lit pol ron rum rus scc scr slv srp ukr").split()
 UNKNOWN_CHARACTER = "\u25a1"  # shown for a character of an unknown option
-ACCENT_BYTES = {byte for byte, mark in ACCENTS.items() if mark != " "}  # diacritical marks
+ACCENT_BYTES = {byte for byte, mark in ACCENTS.items() if mark != " "}
 
 def option_for_language(language: bytes) -> NationalOption:
     """Return the national option for the language of a GSI block (LC). The default is English."""

@@ -1,7 +1,5 @@
-"""Warn about anomalies of a recording, and refuse one whose announced page is never sent.
-
-The warnings are about anomalies that break no rule of `check`. They don't change the exit status.
-"""
+"""Warn about anomalies of a recording that break no rule of `check`, without changing the exit
+status. Refuse a recording whose announced page is never sent."""
 from __future__ import annotations
 
 import array
@@ -108,10 +106,8 @@ def find_page_notices(page_announcements: list[Announced], request: Request) -> 
 
 
 def find_option_notices(languages: list[str], request: Request) -> Iterator[Notice]:
-    """Yield a warning if none of the announced languages uses the national option.
-
-    Receivers may choose the character set by the language in the PMT.
-    """
+    """Yield a warning if none of the announced languages uses the national option. Receivers may
+    choose the character set by the language in the PMT."""
     options = [option_for_track(one) for one in languages]
     is_other = [bool(option and option.word != request.option) or language in OTHER_REGIONS
                 for language, option in zip(languages, options)]
@@ -125,8 +121,7 @@ def find_option_notices(languages: list[str], request: Request) -> Iterator[Noti
 
 
 def find_character_set_notices(packets: Packets, request: Request) -> Iterator[Notice]:
-    """Yield warnings about packets that select another character set than that of the national
-    option."""
+    """Yield warnings about packets whose character set is not that of the national option."""
     for number, designation, region, option in packets.character_sets:
         if region is None or option is None:
             named = "an unreadable character set"
@@ -149,11 +144,9 @@ def read_language_code(stl: str) -> str:
 
 
 def find_count_notices(subtitles: SubtitleFile) -> Iterator[Notice]:
-    """Yield warnings if the numbers of TTI blocks and subtitles differ from those in the GSI block.
-
-    The file may then be cut off. The number of subtitles (TNS) may include comments. Ignore a field
-    that is not a number.
-    """
+    """Yield warnings if the numbers of TTI blocks and subtitles differ from those in the GSI block:
+    the file may be cut off. The number of subtitles (TNS) may include comments. Ignore a field that
+    is not a number."""
     expected = read_count(subtitles.data[TNB])
     there = subtitles.count()
     if expected is not None and expected != there:
@@ -213,11 +206,8 @@ class NeverSent(Exception):
 
 
 class Announcement(NamedTuple):
-    """The PIDs on which a PMT announces a page, and the programme number.
-
-    The PMT applies from the PCR `begin` to the PCR `end`. These are `None` at the beginning and at
-    the end of the recording.
-    """
+    """The PIDs on which a PMT announces a page, and the programme number. The PMT applies from the
+    PCR `begin` to the PCR `end`, or from the beginning or to the end of the recording."""
 
     number: int
     pids: frozenset[int]
@@ -250,11 +240,9 @@ def find_announcements(records: Sequence[ProgramMap], page: Page) -> Iterator[An
 
 def find_unsent(announced: Sequence[Announcement], carriers: Collection[int], begin: int,
               end: int) -> Announcement | None:
-    """Return the first announcement between two PTS whose page is sent only on other PIDs.
-
+    """Return the first announcement between two PTS whose page is sent only on other PIDs, if any.
     `carriers` has the PIDs that send the page. If programmes announce the page on one of these
-    PIDs, consider only the announcements of these programmes. Return `None` if there is none.
-    """
+    PIDs, consider only the announcements of these programmes."""
     carrying_programmes = {announcement.number for announcement in announced if announcement.pids &
                            {*carriers}}
     return next((announcement for announcement in announced
@@ -264,10 +252,8 @@ def find_unsent(announced: Sequence[Announcement], carriers: Collection[int], be
 
 
 def find_silent_pids(announced: Sequence[Announcement], carriers: Collection[int]) -> set[int]:
-    """Return the PIDs on which programmes announce the page but never send it.
-
-    Return an empty set if no other programme announces the page and sends it.
-    """
+    """Return the PIDs on which programmes announce the page but never send it. Return an empty set
+    if no other programme announces the page and sends it."""
     carrying_programmes = {announcement.number for announcement in announced if announcement.pids &
                            {*carriers}}
     others = {pid for announcement in announced if announcement.number not in carrying_programmes
@@ -277,11 +263,9 @@ def find_silent_pids(announced: Sequence[Announcement], carriers: Collection[int
 
 def is_page_expected(clock: tuple[int, int] | None, times: Sequence[tuple[int, int]],
               origin: int | None) -> bool:
-    """Return whether a page is expected between the two PCRs `clock`.
-
-    If the origin is known, a complete subtitle must lie between them. Otherwise they must be as far
-    apart as the first TCI and the last TCO.
-    """
+    """Return whether a page is expected between the two PCRs in `clock`. If the origin is known, a
+    complete subtitle must lie between them. Otherwise they must be at least as far apart as the
+    first TCI and the last TCO."""
     if clock is None or not times:
         return False
     length = wrap_pts(clock[1] - clock[0])
@@ -292,10 +276,8 @@ def is_page_expected(clock: tuple[int, int] | None, times: Sequence[tuple[int, i
 
 
 def has_unreadable(survey: Survey, pids: Collection[int]) -> bool:
-    """Return whether any of these PIDs has TS packets but no readable PES packet.
-
-    Such a PID may be scrambled.
-    """
+    """Return whether any of these PIDs has TS packets but no readable PES packet, for example
+    because it is scrambled."""
     packets = [survey.by_pid[pid] for pid in pids if pid in survey.by_pid]
     return any(not one.count and one.packets and explain_refusal(one) for one in packets)
 
@@ -316,11 +298,8 @@ def explain_never_sent(survey: Survey, page: Page, pids: Collection[int],
 
 
 def refuse_unsent(request: Request, survey: Survey, times: Sequence[tuple[int, int]]) -> None:
-    """Raise `NeverSent` if the page is announced but never sent.
-
-    Do so only if a subtitle is expected in the recording. If --pid is given, consider only that
-    PID.
-    """
+    """Raise `NeverSent` if the page is announced but never sent, and a subtitle is expected in the
+    recording. If --pid is given, consider only that PID."""
     announced = find_announcements(survey.programmes, request.page)
     named = {pid for announcement in announced for pid in announcement.pids
              if request.pid in (None, pid)}
@@ -331,10 +310,7 @@ def refuse_unsent(request: Request, survey: Survey, times: Sequence[tuple[int, i
 
 
 def find_origin(request: Request, survey: Survey, pid: int) -> int | None:
-    """Return the origin from --start and the first picture, or from --origin.
-
-    Return `None` if neither is given.
-    """
+    """Return the origin from --start and the first picture, or from --origin, if given."""
     if request.start is not None:
         with contextlib.suppress(NoFirstPicture, Unclear):
             return wrap_pts(find_first_picture(survey, pid).pts - TICKS * read_start_frame(request))
@@ -343,12 +319,12 @@ def find_origin(request: Request, survey: Survey, pid: int) -> int | None:
 
 def refuse_dead_source(request: Request, survey: Survey, packets: Packets,
                 times: Sequence[tuple[int, int]]) -> None:
-    """Raise `NeverSent` if no row of the page is sent before the last TCO.
+    """Raise `NeverSent` if no row of the page is sent before the last TCO, and a subtitle is
+    expected in the recording.
 
-    Do so only if a subtitle is expected in the recording. If the origin is unknown, consider the
-    whole recording. Do not raise it if no header of the page is sent, since the page may be the
-    wrong one, or if some PES packets can't be read. `times` has the TCI and TCO of each subtitle
-    with text.
+    If the origin is unknown, consider the whole recording. Do not raise it if no header of the page
+    is sent, since the page may be the wrong one, or if some PES packets can't be read. `times` has
+    the TCI and TCO of each subtitle with text.
     """
     origin, clock = find_origin(request, survey, packets.pid), find_recorded_time(survey, packets)
     if not packets.has_page or not is_all_read(packets) or \
@@ -389,10 +365,8 @@ def find_recorded_time(survey: Survey, packets: Packets) -> tuple[int, int] | No
 
 
 def refuse_other_pid(request: Request, survey: Survey, begin: int, end: int) -> None:
-    """Raise `NeverSent` if the PMT announces the page on a PID that never sends it.
-
-    Consider only announcements between the PTS `begin` and `end`. If --pid is given, do nothing.
-    """
+    """Raise `NeverSent` if the PMT announces the page on a PID that never sends it. Consider only
+    announcements between the PTS `begin` and `end`. If --pid is given, do nothing."""
     carriers = {pid for pid, packets in survey.by_pid.items() if packets.has_page}
     announced = [*find_announcements(survey.programmes, request.page)]
     announcement = find_unsent(announced, carriers, begin, end) if request.pid is None else None

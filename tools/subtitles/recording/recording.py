@@ -48,15 +48,14 @@ def copy_piped(name: str, path: str, printer: Printer) -> SummedFile:
     return SummedFile(name, count, digest.hexdigest())
 
 
-OUTPUT = "/dev/stdout"  # the name of standard output for the program
+OUTPUT = "/dev/stdout"  # file name with which the program writes to standard output
 # In Teletext, a PES header has 45 bytes (EN 300 472): the `FIXED` bytes up to and including
 # PES_header_data_length, which is at index `LENGTH_AT`, and the `TELETEXT` bytes that it counts.
 LENGTH_AT, FIXED, TELETEXT = 8, 9, 0x24
 
 
 def read_pes_header(program: str, path: str, pid: int, size: int) -> bytes:
-    """Return the first nine bytes of the first PES packet of a PID, as `subttx extract` writes it.
-    """
+    """Return the first nine bytes of a PID's first PES packet, as `subttx extract` writes it."""
     arguments = [program, "extract", *stream_options(pid, size), "--", path, OUTPUT]
     with subprocess.Popen(arguments, stdin=subprocess.DEVNULL, stdout=subprocess.PIPE,
                           stderr=subprocess.DEVNULL) as call:
@@ -67,10 +66,7 @@ def read_pes_header(program: str, path: str, pid: int, size: int) -> bytes:
 
 
 def check_pes_header(header: bytes, pid: int) -> str:
-    """Return a message if a PES header has the wrong length for Teletext.
-
-    Otherwise return an empty string.
-    """
+    """Return a message if a PES header has the wrong length for Teletext, else an empty string."""
     if not header.startswith(START[:3]) or header[LENGTH_AT:FIXED] in (b"", bytes([TELETEXT])):
         return ""
     length, whose = header[LENGTH_AT], f" of {format_pid(pid)}" if pid != PES else ""
@@ -86,10 +82,8 @@ def is_recording(path: str) -> bool:
 
 
 def refuse_files(request: Request) -> None:
-    """Raise `Unclear` if the subtitle file is missing or is a recording.
-
-    Raise `OSError` if the recording is missing.
-    """
+    """Raise `Unclear` if the subtitle file is missing or is a recording. Raise `OSError` if the
+    recording is missing."""
     if not os.path.isfile(request.stl_path):
         name = request.stl.removeprefix("./") if request.stl.startswith("./-") else request.stl
         raise Unclear(f"{name or 'an empty name'} does not exist or is not a file")
@@ -114,18 +108,14 @@ def refuse_stream(survey: Survey, name: str) -> None:
 
 
 def find_unreadable_packets(survey: Survey) -> list[Packets]:
-    """Return the packets of the PIDs without a readable PES packet, in ascending order of the PID.
-    """
+    """Return the packets of the PIDs without a readable PES packet, in order of the PIDs."""
     return [packets for _, packets in sorted(survey.by_pid.items())
             if not packets.count and packets.packets]
 
 
 class Recording:
-    """A recording to judge.
-
-    `packets` has the packets of the PID with the page. `path` is the path of the recording, or of
-    its copy if it comes from a pipe.
-    """
+    """A recording to judge. `packets` has the packets of the PID with the page. `path` is the path
+    of the recording, or of its copy if it comes from a pipe."""
 
     def __init__(self, request: Request, command_paths: CommandPaths, names: OutputNames,
                  listener: Listener, times: Sequence[tuple[int, int]] = ()) -> None:
@@ -184,10 +174,8 @@ class Recording:
                       *(self.suggest_call("--pid", f"0x{one.pid:X}") for one in pids))
 
     def refuse_silent(self, carriers: Collection[int]) -> None:
-        """Raise `Unclear` if several programmes announce the page but some never send it.
-
-        Only the operator knows which programme to judge.
-        """
+        """Raise `Unclear` if several programmes announce the page but some never send it. Only the
+        operator knows which programme to judge."""
         announced = [*find_announcements(self.survey.programmes, self.request.page)]
         silent = find_silent_pids(announced, carriers)
         if silent and self.request.pes is None:
@@ -212,10 +200,7 @@ class Recording:
                 for words in (explain_refusal(packets), self.header_problem(packets)) if words]
 
     def header_problem(self, packets: Packets) -> str:
-        """Return a message if the first PES header of a PID has the wrong length.
-
-        Otherwise return an empty string.
-        """
+        """Return a message if a PID's first PES header has the wrong length, or else ""."""
         if packets.pid != PES and not packets.packets:
             return ""
         header = self.survey.head if packets.pid == PES else read_pes_header(
@@ -262,11 +247,9 @@ class Recording:
 
     @property
     def kept_ending(self) -> str | None:
-        """Return the file name extension of the copy that --keep makes.
-
-        The copy has all data from a pipe, or the PES packets of a transport stream. Return `None`
-        for a file of PES packets, which needs no copy.
-        """
+        """Return the file name extension of the copy that --keep makes: all data from a pipe, or
+        the PES packets of a transport stream. Return `None` for a file of PES packets, which needs
+        no copy."""
         if self.is_piped and self.is_stream:
             return KEPT_TS
         return KEPT_PES if self.is_piped or self.is_stream else None
@@ -286,17 +269,13 @@ class Recording:
         yield from read_chunks(pes_path)
 
     def list_losses(self, jumps: Iterable[PTSPair] = ()) -> list[LossPlace]:
-        """Return the places where packets are missing.
-
-        Include the announced jumps of the continuity counter, `jumps`, which may hide a loss.
-        """
+        """Return the places where packets are missing, including the announced jumps of the
+        continuity counter, `jumps`, which may hide a loss."""
         return find_loss_places(self.packets, jumps)
 
     def recorded_range(self) -> tuple[int, int] | None:
-        """Return the PTS between which the PCR shows that all packets of the PID were recorded.
-
-        Return `None` if there is no PCR.
-        """
+        """Return the first and last PTS of the range in which, according to the PCR, all packets of
+        the PID were recorded. Return `None` if there is no PCR."""
         return find_recorded_range(self.survey, self.packets)
 
     def find_last_time(self) -> int | None:
@@ -337,10 +316,8 @@ class Recording:
         return make_qc_command(self.request, self.command_paths, *more)
 
     def other_pages(self, several: Iterable[Packets]) -> Iterator[str]:
-        """Return suggested commands for the other pages on these PIDs.
-
-        The page with the largest number of headers is the first.
-        """
+        """Return suggested commands for the other pages on these PIDs. The page with the most
+        headers comes first."""
         counts = collections.Counter[str]()
         for one in several:
             counts.update(one.header_counts)

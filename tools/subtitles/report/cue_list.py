@@ -71,7 +71,6 @@ class CueList:
         return SubtitleFile(self.part.names.program_stl, self.part.request.between)
 
     def make_judged_rows(self) -> Iterator[CueRow]:
-        """Yield the rows of the judged subtitles."""
         last: object = None
         for cue in self.cues:
             verdict = self.judge.judge(cue)
@@ -89,7 +88,6 @@ class CueList:
                     time_of(subtitle.end), "", "", "", text, RIGHT])
 
     def cells(self, cue: Cue, verdict: CueVerdict) -> list[Value]:
-        """Return the cells of the row for a cue."""
         subtitle, late = cue.subtitle, [format_signed(cue.delay_in), format_signed(cue.delay_out)]
         return [make_number_cell(subtitle.index, subtitle.number),
                 self.format_offset(subtitle.begin), time_of(subtitle.begin), time_of(subtitle.end),
@@ -317,7 +315,7 @@ MAX_PLACES = 20
 
 
 def find_places(part: Part) -> dict[int, list[tuple[FaultLine, str]]]:
-    """Return the first faults with each fault number, and the time at which each fault ends."""
+    """Return the first faults of each fault number, each with the text of the time when it ends."""
     places: dict[int, list[tuple[FaultLine, str]]] = {}
     for fault, end in part.check_output.read_faults():
         fault_places = places.setdefault(fault.number, [])

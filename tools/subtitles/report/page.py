@@ -240,8 +240,8 @@ class PartView:
 
 
 def format_fault_place(part: Part, fault: FaultLine) -> Value:
-    """Return the place of a fault. For the GSI block, return the lines of `check` with the faulty
-    field marked."""
+    """Return the place of a fault. For a fault in the GSI block, return the lines of `check` with
+    the faulty field marked."""
     if fault.block == 0:
         return make_fault_lines(part.open_subtitle_file(), [fault])
     return fault.time or " ".join(fault.line.split(" ")[3:]) or fault.name

@@ -73,7 +73,8 @@ def style_row(row: bytes, number: int, option: int, is_boxed_page: bool) -> list
     last = SPACE
     for part in PARTS.findall(row):
         code = part[0] & 0x7F
-        # These act on their own cell. The second of two equal codes begins or ends a box.
+        # These spacing attributes act on their own cell. The second of two equal box codes begins
+        # or ends a box.
         if code >= SPACE:
             pass
         elif code == 0x09:
@@ -89,7 +90,7 @@ def style_row(row: bytes, number: int, option: int, is_boxed_page: bool) -> list
         text = decode_cells(part, option, mosaic)
         spans.append(CellStyle(text, ink, paper, flash, boxed, double))
         last = code
-        # These act on the next cell.
+        # The other spacing attributes act on the next cell.
         if code >= SPACE:
             pass
         elif code < 8 or 0x10 <= code < 0x18:
@@ -103,8 +104,7 @@ def style_row(row: bytes, number: int, option: int, is_boxed_page: bool) -> list
 
 def group_cells(spans: Iterable[CellStyle], key: Callable[[CellStyle], Key]) \
         -> Iterator[tuple[Key, int, str]]:
-    """Yield the key, first column and text of each group of neighbouring cells with the same key.
-    """
+    """Yield the key, first column and text of each group of neighbouring cells with one key."""
     column = 0
     for value, several in itertools.groupby(spans, key):
         text = "".join(map(get_characters, several))

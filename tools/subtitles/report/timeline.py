@@ -16,7 +16,7 @@ MINUTE = 60 * FRAMES_A_SECOND
 STEPS = [seconds * FRAMES_A_SECOND for seconds in (1, 2, 5, 10, 30)] + [
     minutes * MINUTE for minutes in (1, 2, 5, 10, 30, 60, 120, 240)]
 MAX_TIMES = 10  # maximum number of time labels below the lanes
-# A label within this percentage of the width of an end is aligned with that end.
+# A label less than this percentage of the lane's width from an end is aligned with that end.
 EDGE = 8
 
 

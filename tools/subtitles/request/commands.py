@@ -19,10 +19,8 @@ from .request import OPTIONS, Profile, Request, Selection, list_arguments
 
 
 class CommandPaths:
-    """The paths with which an operator can run the tools and the program.
-
-    `program_name` is the path of the running tool.
-    """
+    """The paths with which an operator can run the tools and the program. `program_name` is the
+    path of the running tool."""
 
     def __init__(self, program_name: str, program: str | None) -> None:
         folder, name = os.path.split(program_name)
@@ -73,8 +71,8 @@ PAIR_ENDINGS = (*PART_ENDINGS, KEPT_PES, KEPT_TS, "json")
 LOCK = "lock"  # suffix of the lock file of a pair that is being judged
 INDEX = "index"  # name of the page with all pairs of a folder
 ESCAPE = "%"
-# What to escape in names: a leading dot, control characters, and suffixes that look like the number
-# of a second pair, of a part or of a line.
+# Parts of names that are escaped: a leading dot, control characters, and suffixes that look like
+# the number of a second pair, of a part or of a line.
 ESCAPED = re.compile(rf"^\.|{ESCAPE}|{HIDDEN.pattern}|[.~](?=[0-9]+$)|(?<=^line) (?=[0-9]+$)"
                      r"|^i(?=ndex$)")
 MAX_NAME_BYTES, KEPT_NAME_BYTES = 180, 120  # a longer name is cut, and a digest is appended
@@ -121,10 +119,8 @@ PART_FILE = re.compile(rf"(.*)\.[1-9][0-9]*\.({'|'.join(map(re.escape, PART_ENDI
 
 
 class PartFiles:
-    """The result files of parts in a folder.
-
-    The folder is listed only once, since listing it for each pair would take quadratic time.
-    """
+    """The result files of parts in a folder. The folder is listed only once, since listing it for
+    each pair would take quadratic time."""
 
     def __init__(self, folder: str) -> None:
         self.folder = folder
@@ -134,8 +130,7 @@ class PartFiles:
                 self.files_by_pair[match[1]].add(file)
 
     def list_files(self, name: str) -> list[str]:
-        """Return the files of a pair's parts, including files written since the folder was listed.
-        """
+        """Return the files of a pair's parts, also those written since the folder was listed."""
         names = {*self.files_by_pair.get(name, ())}
         for number in itertools.count(1):
             candidates = {f"{part_name(name, number)}.{ending}" for ending in PART_ENDINGS}
@@ -259,7 +254,7 @@ class Progress:
             sys.stderr.flush()
 
 
-MAX_LIST_LINES = 40  # maximum number of printed lines per list
+MAX_LIST_LINES = 40
 class Printer:
     """Prints lines on standard output, or on standard error if an output file is `-`."""
 
@@ -268,7 +263,7 @@ class Printer:
         self.out = sys.stderr if is_output_taken else sys.stdout
         self.last_line, self.list_length = "", 0
         self.is_quiet = False  # print only the verdict
-        self.before_last_line: Callable[[], None] = lambda: None  # called before the last line
+        self.before_last_line: Callable[[], None] = lambda: None
 
     def print_line(self, line: str) -> None:
         """Print a line, unless only the verdict is printed."""

@@ -160,13 +160,13 @@ def resolve_setting_path(setting: Setting, folder: str) -> Setting:
 def read_options(parser: ToolParser, line: Sequence[str], defaults: Mapping[str, Any],
                  own_defaults: Mapping[str, Any], folder: str = "", is_typed: bool = False) \
         -> argparse.Namespace:
-    """Return the options of a line. For options that it lacks, use the values in `defaults`.
+    """Return the options of a line, including `own_defaults`.
 
-    `defaults` are the options of the command line and its profile, `own_defaults` are those without
-    this profile. If the line has its own profile, use `own_defaults` and the options of that
-    profile instead of `defaults`. The returned options include `own_defaults`. If `is_typed`, the
-    line is the command line itself. Only then may the profile be a pipe, since a list could name a
-    pipe to which nothing is written.
+    `defaults` are the options of the command line and its profile; `own_defaults` are those without
+    this profile. For options that the line lacks, use `defaults`. If the line has its own profile,
+    use the options of that profile and `own_defaults` instead. `is_typed` is true if the line is
+    the command line itself. Only then may the profile be a pipe, since a list could name a pipe to
+    which nothing is written.
     """
     typed = {word.partition("=")[0] for word in line}
     defaults = remove_replaced_clock(defaults, typed)

@@ -53,38 +53,30 @@ NOT_TAKEN = object()  # `check` does not take the option
 
 
 class Option(NamedTuple):
-    """An option of the command line or of a line in a list.
-
-    `metavar` is the name of its value, or `None` for a flag. `description` is in the imperative and
-    may have Markdown links. `field` is its field in `Request` or in the parsed arguments. `read`
-    parses the value and may raise `ArgumentTypeError`; `write` formats it. A flag sets the field to
-    `flag_value`. `check_default` is the default in `check`. `changes_pages` is true if the option
-    is also passed to `schedule`, `is_in_profile` if profiles may contain it. `shape`, `note` and
-    `result_value` define its member in a JSON result.
-    """
+    """An option of the command line or of a line in a list."""
 
     name: str
-    metavar: str | None
-    description: str
+    metavar: str | None  # name of its value, or `None` for a flag
+    description: str  # in the imperative; may have Markdown links
     modes: Sequence[Mode]
     default_text: str = ""
-    field: str = ""
+    field: str = ""  # field in `Request` or in the parsed arguments
     default: Any = None
-    read: Callable[[str], Any] = str
-    write: Callable[[Any], str] = str
-    flag_value: Any = True
+    read: Callable[[str], Any] = str  # parses the value; may raise `ArgumentTypeError`
+    write: Callable[[Any], str] = str  # formats the value
+    flag_value: Any = True  # value of the field if the flag is given
     choices: Sequence[str] = ()
     nargs: str | None = None
-    check_default: Any = NOT_TAKEN
-    changes_pages: bool = False
-    is_in_profile: bool = False
+    check_default: Any = NOT_TAKEN  # default in `check`
+    changes_pages: bool = False  # whether `schedule` takes it too
+    is_in_profile: bool = False  # whether profiles may contain it
+    # The option's member in a JSON result
     shape: Shape | None = None
     note: str = ""
     result_value: Callable[[Any], Any] = lambda value: value
 
     @property
     def help(self) -> str:
-        """Return the help text of the option."""
         default = f" (default: {self.default_text})" if self.default_text and self.metavar else ""
         return remove_markup(self.description + default)
 
@@ -105,7 +97,6 @@ class Option(NamedTuple):
                           self.get_value(request)))
 
     def get_value(self, request: Any) -> Any:
-        """Return the option's value in a request."""
         return getattr(request, self.field)
 
     def format_arguments(self, value: Any, default: Any) -> list[str]:
@@ -315,12 +306,11 @@ COPY_NAME = "subtitles.stl"  # file name of the copy in the temporary folder
 
 @dataclasses.dataclass
 class Request:
-    """A pair with its options. `page` is the magazine (0 is 8) and the page number, `start` is the
-    time code of the first picture, or `tcp`."""
+    """A pair with its options."""
 
     stl: str
     recording: str | None
-    page: tuple[int, int]
+    page: tuple[int, int]  # magazine (0 is 8) and page number
     every: int
     option: str
     origin: int | None
@@ -330,15 +320,15 @@ class Request:
     severity: str | None
     breaks: int
     pes: tuple[int, int] | None
-    start: str | None
-    is_relative_allowed: bool = False  # exit with status 0 if the verdict is `relative`
+    start: str | None  # time code of the first picture, or `tcp`
+    is_relative_allowed: bool = False  # whether `relative` has exit status 0
     within: int = 0  # frames from a cue until its page must be complete
-    is_strict: bool = False  # treat warnings as faults
+    is_strict: bool = False  # whether warnings are treated as faults
     from_time: str | None = None
     to_time: str | None = None
     layout: str | None = None
-    is_open: bool = False  # accept open subtitles
-    may_keep: bool = False  # accept repeated headers with C4 clear
+    is_open: bool = False  # whether open subtitles are accepted
+    may_keep: bool = False  # whether repeated headers with C4 clear are accepted
     pace_word: str | None = None  # maximum PES interval in frames, or `none`
     late: Lateness | None = None  # usual delays of the inserter
     profile: Profile | None = None  # the other fields contain its values
@@ -472,16 +462,14 @@ CHOICES = (PID_CHOICE, ORIGIN_CHOICE, PES_CHOICE, PACE_CHOICE, OPTION_CHOICE)
 
 
 class Selection(NamedTuple):
-    """A choice made by qc. `option` is the option with which the operator can replace the choice,
-    and `value` the chosen value, or `None`. `line` is printed. `match_count` of `total_count` items
-    match the value. `part` is `None` for all parts."""
+    """A choice made by qc."""
 
-    option: str
-    value: str | None
-    line: str
-    match_count: int | None = None
-    total_count: int | None = None
-    part: int | None = None
+    option: str  # the option that replaces the choice
+    value: str | None  # the chosen value, if any
+    line: str  # the line to print
+    match_count: int | None = None  # number of items that match the value
+    total_count: int | None = None  # number of all items
+    part: int | None = None  # `None` for all parts
 
 
 class Unclear(Exception):

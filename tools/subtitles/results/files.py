@@ -79,14 +79,10 @@ NO_CLOCK, LATER_CLOCK = "no clock was given", "the clock after a break was estim
 
 
 class Row(NamedTuple):
-    """The row of a pair in a table.
-
-    `title` names its two files, and `hint` explains its worst fault. If some subtitles are refused,
-    `counts` has the number of judged subtitles. `clock` is the reason why a delay was not checked.
-    """
+    """The row of a pair in a table."""
 
     name: str
-    title: str
+    title: str  # names of its two files
     verdict: str
     status: int
     line: str
@@ -94,10 +90,10 @@ class Row(NamedTuple):
     causes: dict[str, int]
     lines: Sequence[str]
     seconds: float
-    hint: str
-    counts: str = ""
+    hint: str  # explains its worst fault
+    counts: str = ""  # text such as `7 subtitles judged, 2 refused`, if some are refused
     sentence: str = ""
-    clock: str = ""
+    clock: str = ""  # why a delay was not checked
 
     @property
     def is_judged(self) -> bool:
@@ -129,7 +125,7 @@ def write_file(path: str | None, make_chunks: Callable[[], Iterable[bytes]]) -> 
 
 
 def result_bytes(result: dict[str, Any]) -> bytes:
-    """Encode the result of a pair that was not judged as JSON."""
+    """Return the result of an unjudged pair, encoded as JSON."""
     return json.dumps(result).encode() + b"\n"
 
 
@@ -395,19 +391,15 @@ def column_rows(result: dict[str, Any]) -> Iterator[Columns]:
 
 
 class TestCase(NamedTuple):
-    """A pair as a JUnit test case.
-
-    `line` is its worst fault, or the reason why it was not judged. `lines` are the first lines of
-    its fault list. If some subtitles are refused, `counts` has the number of judged subtitles.
-    """
+    """A pair as a JUnit test case."""
 
     name: str
     verdict: str
     status: int
-    line: str
-    lines: Sequence[str]
+    line: str  # its worst fault, or the reason why it was not judged
+    lines: Sequence[str]  # first lines of its fault list
     seconds: float
-    counts: str = ""
+    counts: str = ""  # text such as `7 subtitles judged, 2 refused`, if some are refused
     sentence: str = ""
 
 

@@ -23,7 +23,7 @@ from ..judging.verdict import Verdict
 from ..request.request import CHOICES, request_members
 
 
-FIRST_FAULT, LAST_FAULT = 10, 79  # fault numbers
+FIRST_FAULT, LAST_FAULT = 10, 79
 
 CODE_TIME = name_shape("code_time", Text(r"[0-9]{2,3}(:[0-9]{2,3}){3}"))
 DATE = name_shape("date", Text(r"[0-9]{4}-[0-9]{2}-[0-9]{2}T[0-9]{2}:[0-9]{2}:[0-9]{2}Z"))
@@ -246,7 +246,7 @@ COUNTS = Record(
            "57."))
 
 FORMAT = 7
-MAX_LISTED = 20_000  # maximum number of items in a list
+MAX_LISTED = 20_000
 MAX_SUBTITLES = 100_000  # maximum number of subtitles; a subtitle file has at most 99,999 blocks
 MAX_SECONDS = 10 ** 9
 Value = object
