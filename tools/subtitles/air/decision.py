@@ -33,15 +33,13 @@ class Window(NamedTuple):
         return self.end + self.margin + self.more
 
     def may_hold(self, stretch: Unbroken) -> bool:
-        """Return whether a recorded part is long enough and begins early enough to contain the
-        programme."""
+        """Return whether a recorded part is long and early enough to contain the programme."""
         has_room = stretch.end - stretch.begin >= self.length - SLACK
         return has_room and stretch.begin < self.begin + self.margin
 
 
 def gaps_in(window: Window, stretches: Sequence[Unbroken], longest_pause: float) -> list[str]:
-    """Return descriptions of the periods of a window that were not recorded or were deleted
-    later."""
+    """Describe the periods of a window that were not recorded or were deleted later."""
     ends = [window.first, *(stretch.end for stretch in stretches)]
     begins = [*(stretch.begin for stretch in stretches), window.last]
     return [f"{date(end)} to {date(begin)}" for number, (end, begin) in enumerate(zip(ends, begins))

@@ -140,8 +140,7 @@ class Judge:
         self.monitor.last_error = f"{programme.name}: {reason}"
 
     def publish(self, name: str, outcome: Outcome) -> None:
-        """Store the result files. Store the JSON result last, since it marks the programme as
-        judged."""
+        """Store the result files, the JSON result last, since it marks the programme as judged."""
         assert outcome.result is not None
         work, main = self.checker.work, name + ENDING
         files = sorted(os.listdir(work)) if "request" in outcome.result else []

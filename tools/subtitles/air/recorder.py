@@ -97,8 +97,7 @@ class Recorder:
 
     def delete_oldest(self, most: int, before: float | None = None) -> bool:
         """Delete up to `most` of the oldest segments, but never the last segment. If `before` is
-        given, delete only segments that begin before that time. Return whether any segment was
-        deleted."""
+        given, delete only segments that begin before that time. Return whether any was deleted."""
         oldest = [name for begin, name in names_in(self.folder)[:-1]
                   if before is None or begin < before][:most]
         for name in oldest:

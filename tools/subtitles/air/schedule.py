@@ -63,8 +63,7 @@ def times_of_air(word: str) -> tuple[float, float | None]:
 
 
 def result_name(begin: float, stl: str) -> str:
-    """Return the name of a result, which consists of the air time and the name of the subtitle
-    file."""
+    """Return the name of a result: the air time and the name of the subtitle file."""
     date = datetime.datetime.fromtimestamp(begin, datetime.timezone.utc)
     return f"{date:%Y%m%dT%H%M%SZ}-{pair_name(stl)}"
 
@@ -119,8 +118,7 @@ def length_of(request: Request) -> float:
 
 @functools.lru_cache(maxsize=10_000)
 def length_in(path: str, _modified: int, _size: int, between: Between) -> float:
-    """Return the length of a subtitle file in seconds. The result is cached until the file
-    changes."""
+    """Return the length of a subtitle file in seconds, cached until the file changes."""
     times = list[tuple[int, int]]()
     with contextlib.suppress(Damaged, Stop):
         for subtitle in read_stored_subtitles(read_stl(path)):

@@ -111,8 +111,7 @@ class Unbroken(NamedTuple):
 
 
 def read_range(path: str, first: int, end: int) -> Iterator[bytes]:
-    """Yield the bytes of a file from one offset to another. Raise `OSError` if the file is too
-    short."""
+    """Yield the bytes of a file between two offsets. Raise `OSError` if the file is too short."""
     with open(path, "rb") as file:
         file.seek(first)
         while first < end:
@@ -126,8 +125,7 @@ def read_range(path: str, first: int, end: int) -> Iterator[bytes]:
 @functools.lru_cache(maxsize=10_000)
 def is_continued(before: Segment, after: Segment) -> bool | None:
     """Return whether the TS packets continue from one segment to the next, according to the
-    continuity counters and the PCR. Return `False` if packets are missing, and `None` if this is
-    unclear."""
+    continuity counters and the PCR, or `None` if this is unclear."""
     middle, data = min(before.size, BLOCK), b""
     with contextlib.suppress(OSError):  # a segment was deleted
         data = b"".join((*read_range(before.path, before.size - middle, before.size),

@@ -112,8 +112,7 @@ class ForkedProcess:
 
 
 def cpu_seconds_of(process: str) -> float:
-    """Return the CPU time in seconds of a process and its ended children, or 0 if it does not
-    exist."""
+    """Return the CPU time in seconds of a process and its ended children, or 0 if it is gone."""
     try:
         with open(f"/proc/{process}/stat", encoding="utf-8", errors="replace") as file:
             times = file.read().rpartition(")")[2].split()[11:15]  # utime, stime, cutime, cstime
@@ -165,8 +164,7 @@ def redirect_files(errors_file: int, alive: int) -> None:
 
 
 def wait_for_any(calls: Collection[ForkedProcess], seconds: float) -> list[ForkedProcess]:
-    """Wait up to `seconds` until at least one process ends. Return the processes that have
-    ended."""
+    """Wait up to `seconds` until at least one process ends. Return the ended processes."""
     calls_by_file, poll = {call.fileno(): call for call in calls}, select.poll()
     for file in calls_by_file:
         poll.register(file, select.POLLIN)
@@ -186,8 +184,7 @@ def default_limit(files: Mapping[str, Any]) -> int:
 
 
 class RunningPair(NamedTuple):
-    """A pair that is being judged, with its CPU time limit in seconds and the lock of its
-    results."""
+    """A pair that is being judged, its CPU time limit in seconds, and the lock of its results."""
 
     item: BatchItem
     limit: int
@@ -218,8 +215,7 @@ class PairRunner:
 
     def start(self, item: BatchItem) -> Row | None:
         """Start judging a pair. Return its row at once if the pair can't be judged: its results
-        would replace input files or foreign files, or another run of qc is writing them. Otherwise
-        return `None`."""
+        would replace input files or foreign files, or another run of qc is writing them."""
         self.unwritten_results.pop(item.name, None)
         self.in_use.discard(item.name)
         claim = contextlib.ExitStack()
@@ -238,8 +234,7 @@ class PairRunner:
             claim.close()  # no effect once `self.running` has the lock
 
     def start_claimed(self, item: BatchItem, claim: contextlib.ExitStack) -> Row | None:
-        """Start judging a pair whose results are locked. Return its row if that fails, else
-        `None`."""
+        """Start judging a pair whose results are locked. Return its row if that fails."""
         if self.out is not None:
             remove_results(self.out, item.name, self.parts)
         if item.request is None:
@@ -383,8 +378,7 @@ def judge_all(calls: PairRunner, items: list[BatchItem], kept: dict[str, Row], j
 
 def judge_next(calls: PairRunner, waiting: collections.deque[BatchItem],
                jobs: int) -> Iterator[Row]:
-    """Start waiting pairs, so that up to `jobs` run at a time. Yield the rows of the pairs that
-    have ended."""
+    """Start waiting pairs, so that up to `jobs` run at a time. Yield the rows of finished pairs."""
     while waiting and len(calls.running) < jobs:
         row = calls.start(waiting.popleft())
         if row:

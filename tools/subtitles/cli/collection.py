@@ -143,8 +143,7 @@ TABLE_HEADS = ("pair", "verdict", "faults", "worst fault")
 
 
 def collect(args: argparse.Namespace) -> int:
-    """Combine the JSON results in a folder into one page and the requested files. Return the exit
-    status."""
+    """Combine the JSON results in a folder into a page and files. Return the exit status."""
     folder = args.collect
     refuse_output_names(args)
     if not os.path.isdir(folder):
@@ -290,8 +289,7 @@ def format_progress(rows: dict[str, Row], count: int, kept: int, began: float) -
 
 
 def worst_fault(row: Row) -> str:
-    """Return in one line the worst fault of a pair with its hint, or the reason why the pair was
-    not judged."""
+    """Describe the worst fault of a pair with its hint, or why the pair was not judged."""
     if row.verdict == ACCEPTED or not row.line:
         return ""
     if row.verdict == RELATIVE and not row.faults:

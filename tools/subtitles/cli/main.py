@@ -21,8 +21,7 @@ OUTPUT_MODES = (PAIR, ALONE, BATCH, COLLECT)
 
 
 def make_number_parser(what: str, least: int, most: int) -> Callable[[str], int]:
-    """Return a parser for numbers from `least` to `most`. `what` names the number in error
-    messages."""
+    """Return a parser for numbers from `least` to `most`. `what` names the number in messages."""
 
     def parse_number(text: str) -> int:
         is_number = text.isascii() and text.isdecimal() and len(text) <= len(str(most))

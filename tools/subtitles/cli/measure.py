@@ -46,8 +46,7 @@ GOOD_STATUSES = {0, 3}  # exit statuses for the verdicts accepted and relative
 
 
 class Finding(NamedTuple):
-    """A proposed option and lines with the evidence. The option is an empty string if none is
-    proposed."""
+    """A proposed option, or an empty string, and lines with the evidence."""
 
     text: str
     lines: Sequence[str]
@@ -338,8 +337,7 @@ def is_spaced(sent: SentSubtitle, _: LayoutChoice, option: NationalOption) -> bo
 
 
 def is_block(sample: SentSubtitle, nearest: LayoutChoice, option: NationalOption) -> bool:
-    """Return whether all sent lines begin in the same column, while the lines that the layout draws
-    do not."""
+    """Return whether all sent lines begin in the same column, unlike the lines of the layout."""
     lines = draw_text(sample.text, sample.row, sample.justify, nearest.layout, option)
     if isinstance(lines, TextFault):
         return False
@@ -353,8 +351,7 @@ KINDS: Sequence[tuple[str, Callable[[SentSubtitle, LayoutChoice, NationalOption]
 
 def find_sendings(stl: str, subtitles: Iterable[Subtitle], held: Timeline, option: NationalOption) \
         -> list[ReceivedSubtitle]:
-    """Return the subtitles whose text was decoded while they were expected, with the decoded
-    pages."""
+    """Return the subtitles whose text was decoded at their time, each with the decoded page."""
     return [ReceivedSubtitle(stl, subtitle, sent) for subtitle in subtitles
             for sent in find_sent_subtitles([subtitle], held, option)]
 

@@ -243,8 +243,7 @@ def new_verdict(request: Request, listener: Listener) -> Verdict:
 
 
 def refuse_outputs(call: PairOptions, request: Request, out: str | None, name: str) -> None:
-    """Raise `Stop` if an output can't be written or is an input. Call this before judging
-    begins."""
+    """Raise `Stop`, before judging begins, if an output can't be written or is an input."""
     inputs = Inputs(request.stl, request.recording, *request.other_files)
     for path in (call.json, call.csv, call.junit):
         if path:
@@ -255,8 +254,7 @@ def refuse_outputs(call: PairOptions, request: Request, out: str | None, name: s
 
 
 def judge_pair(pair: PairJudge, files: OutputFiles) -> None:
-    """Judge a pair and write its output files. If the pair is not judged, the verdict contains the
-    reason."""
+    """Judge a pair and write its output files. The verdict says why a pair is not judged."""
     verdict, began = pair.verdict, time.monotonic()
     try:
         pair.judge()
@@ -297,8 +295,7 @@ def report_pair(verdict: Verdict, printer: Printer, files: OutputFiles) -> None:
 
 
 def handle_signals() -> None:
-    """Make signals interrupt this run, except signals that are already ignored, for example under
-    nohup."""
+    """Make signals interrupt this run, except those that are ignored, for example under nohup."""
     for signal_number in SIGNALS:
         if signal.getsignal(signal_number) != signal.SIG_IGN:
             signal.signal(signal_number, signal.default_int_handler)

@@ -62,8 +62,8 @@ class OriginFit(NamedTuple):
     delays: Sequence[int] = ()  # delay of each match, with --within N
 
     def score(self, counts_erasures: bool = True) -> int:
-        """Return the sum of all matches and the content matches. If `counts_erasures` is false,
-        content matches without a text don't count."""
+        """Return the number of matches. Those with the expected page count twice, but without
+        `counts_erasures` only if this page has text."""
         return self.matches + (self.content_matches if counts_erasures else self.text_matches)
 
 
@@ -157,9 +157,8 @@ class TimeBase:
 
     @functools.cached_property
     def fits(self) -> list[OriginFit]:
-        """Return the most likely origins, best score first. If scores are equal, an origin with
-        more text matches comes first; of equal best origins, the one whose first text match is
-        earliest."""
+        """Return the most likely origins, best score first, then most text matches first. Of the
+        best ones, the origin whose first text match is earliest comes first."""
         if not self.cues or not self.changes:
             return []
         votes = self.votes()

@@ -33,8 +33,7 @@ class Stop(Exception):
 
 
 class ProgramInterrupted(Stop):
-    """Raised if the program ended before its output was complete, for example because it was
-    killed."""
+    """Raised if the program ended, or was killed, before its output was complete."""
 
 
 def version() -> str:
@@ -190,8 +189,7 @@ def format_pid(pid: int) -> str:
 
 
 def stream_options(pid: int | None, packet_size: int = PACKET_SIZE) -> list[str]:
-    """Return the options that select a PID of a transport stream. Return an empty list for a PES
-    file."""
+    """Return the options that select a PID of a transport stream. A PES file needs none."""
     if pid is None:
         return []
     size = ["--packet-size", str(packet_size)] if packet_size != PACKET_SIZE else []
@@ -204,8 +202,7 @@ SHARE = re.compile(r"([0-9]{1,2}):([0-9]{1,7})", re.ASCII)
 
 class Lateness(NamedTuple):
     """How often in-cues (`begins`) and out-cues (`ends`) have each delay in frames, as in the
-    option `--late 0:31,1:40/0:100`. The counts may be percentages. A delay that is not listed never
-    occurred."""
+    option `--late 0:31,1:40/0:100`. The counts may be percentages. Other delays never occurred."""
 
     begins: Mapping[int, int]
     ends: Mapping[int, int]
@@ -217,8 +214,7 @@ class Lateness(NamedTuple):
 
 
 def parse_lateness(text: str) -> Lateness:
-    """Parse a value of --late such as `0:31,1:40/0:100`. In-cues come before the slash, out-cues
-    after it."""
+    """Parse a value of --late such as `0:31,1:40/0:100`: in-cues, then out-cues."""
     kinds = text.split("/")
     if len(kinds) != 2:
         raise argparse.ArgumentTypeError(
@@ -334,8 +330,7 @@ def run(main: Callable[[list[str]], int]) -> NoReturn:
 
 
 def run_main(main: Callable[[list[str]], int], words: Sequence[str]) -> int:
-    """Call `main` and return its status. After an exception, print one line on standard error and
-    return 2."""
+    """Call `main` and return its status. After an exception, print one line and return 2."""
     try:
         if sys.stdout is None:
             raise Stop("standard output is closed")

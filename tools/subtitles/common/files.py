@@ -198,8 +198,7 @@ class OutputIsInput(Stop):
 
 class Inputs:
     """The input files. No output file may replace one of them, or a link to one, under any name.
-    The input files are only examined if an output file exists, since there may be thousands on a
-    remote disk."""
+    There may be thousands on a remote disk, so they are only examined if an output file exists."""
 
     def __init__(self, *names: str | None) -> None:
         self.names = [name for name in names if name]
@@ -259,8 +258,7 @@ def open_output(path: str) -> Iterator[BinaryIO]:
 @contextlib.contextmanager
 def open_result(path: str, is_stored: bool = False) -> Iterator[BinaryIO]:
     """Open an output file in a folder of results. Replace a link instead of following it, since
-    other users may write to the folder. If `is_stored`, ensure that the file survives a power
-    failure."""
+    other users may write to the folder. If `is_stored`, make the file survive a power failure."""
     yield from open_replacement(path, path, is_stored)
 
 
@@ -331,8 +329,7 @@ def make_temporary_folder(begin: str) -> Iterator[str]:
 
 @contextlib.contextmanager
 def close_after_writing(file: BinaryIO, path: str) -> Iterator[None]:
-    """Close a file when the context ends. If an `OSError` has no file name, set its file name to
-    `path`."""
+    """Close a file when the context ends. An `OSError` without a file name gets the name `path`."""
     try:
         with file:
             yield

@@ -115,8 +115,7 @@ LINK = re.compile(r"!?\[([^\]]*)\]\(([^)\s#]+)[^)\s]*\)")
 
 
 def copy(source: str, target: str, mode: int = 0o644) -> None:
-    """Copy a file under a temporary name, then rename the copy. This works even if the target is a
-    running program."""
+    """Copy a file, even onto a running program: rename the copy when it is complete."""
     os.makedirs(os.path.dirname(target), exist_ok=True)
     shutil.copyfile(source, target + ".new")
     os.chmod(target + ".new", mode)

@@ -14,8 +14,7 @@ Schema = dict[str, Any]
 
 
 class Shape:
-    """A type of JSON values. A type with a `name` is defined once in the schema, under this
-    name."""
+    """A type of JSON values. If it has a `name`, the schema defines it once, under this name."""
 
     name, meaning = "", ""
 
@@ -225,8 +224,7 @@ class Record(Shape):
 
 
 class Rules(NamedTuple):
-    """Alternative types for some members of an object. At least one of the alternatives must
-    fit."""
+    """Alternative types for some members of an object, of which at least one must fit."""
 
     rows: Sequence[dict[str, Shape | Rules]]
 

@@ -22,8 +22,7 @@ EARLY_TICKS = TICKS // 4  # maximum ticks by which a PTS may be early, with --wi
 
 
 class Between(NamedTuple):
-    """The frames from `begin` up to, but not including, `end`. A subtitle belongs to the frame of
-    its TCI."""
+    """The frames in `range(begin, end)`. A subtitle belongs to the frame of its TCI."""
 
     begin: int = 0
     end: int = FRAMES_OF_A_DAY
@@ -41,8 +40,7 @@ ALL_DAY = Between()
 
 
 def frame_of(time: str) -> int | None:
-    """Return the frame of the day for a time HH:MM:SS:FF. Return `None` if the text is not
-    valid."""
+    """Return the frame of the day for a time HH:MM:SS:FF, or `None` if it is not valid."""
     if not re.fullmatch(r"\d\d:\d\d:\d\d:\d\d", time, re.ASCII):
         return None
     return frame_of_code(map(int, time.split(":")))
@@ -63,8 +61,7 @@ def time_of_code(code: bytes) -> str:
 
 
 def time_of(frame: int) -> str:
-    """Return the time HH:MM:SS:FF of a frame. The time 24:00:00:00 follows the last frame of the
-    day."""
+    """Return the time HH:MM:SS:FF of a frame. The end of the day is 24:00:00:00."""
     seconds, frames = divmod(frame, FRAMES_A_SECOND)
     return f"{seconds // 3600:02}:{seconds // 60 % 60:02}:{seconds % 60:02}:{frames:02}"
 
@@ -83,8 +80,7 @@ def wrap_pts(ticks: int) -> int:
 
 
 def ticks_between(first: int, second: int) -> int:
-    """Return the ticks from the first PTS to the second. The result is negative if the second is
-    earlier."""
+    """Return the ticks from the first PTS to the second (negative if the second is earlier)."""
     return wrap_pts(second - first + CLOCK // 2) - CLOCK // 2
 
 
@@ -108,9 +104,8 @@ def pts_of(frame: int, origin: int) -> int:
 
 
 def frame_in(pts: int, origin: int, within: int = 0) -> int:
-    """Return the frame of the day that contains a PTS, even if it is after the end of the day.
-    `origin` is the PTS of frame 0. If `within` is greater than 0, frames begin a quarter of a frame
-    earlier."""
+    """Return the frame of the day that contains a PTS, even after the end of the day. `origin` is
+    the PTS of frame 0. If `within` is not 0, frames begin a quarter of a frame earlier."""
     return wrap_pts(pts - origin + EARLY_TICKS * (within > 0)) // TICKS
 
 
@@ -121,15 +116,13 @@ def time_in(pts: int, origin: int) -> str | None:
 
 
 def frame_at(pts: int, origin: int, within: int = 0) -> int | None:
-    """Return the frame of the day to which a PTS belongs. Return `None` if it belongs to no
-    frame."""
+    """Return the frame of the day to which a PTS belongs, or `None` if it belongs to none."""
     frame = frames_at([pts], origin, within)[0]
     return None if frame == NO_FRAME else frame
 
 
 def frames_at(several: Sequence[int], origin: int, within: int = 0) -> Sequence[int]:
-    """Return the frame of the day to which each PTS belongs, or `NO_FRAME` for a PTS that belongs
-    to none."""
+    """Return the frame of the day to which each PTS belongs, or `NO_FRAME` if there is none."""
     early = EARLY_TICKS * (within > 0)
     end, count = TICKS * FRAMES_OF_A_DAY, len(several)
     if count and several[-1] == several[0] + TICKS * (count - 1) and all(

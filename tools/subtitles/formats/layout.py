@@ -124,8 +124,7 @@ def parse_layout(text: str) -> Layout | None:
 
 
 def find_layout_fault(text: str) -> str | None:
-    """Return a message about the first invalid item in a value of `--layout`. Return `None` if it
-    is valid."""
+    """Return a message about the first invalid item in a value of `--layout`, if any."""
     names = set[str]()
     for word in text.split(","):
         name, equals, value = word.partition("=")
@@ -153,8 +152,7 @@ def list_items(layout: Layout) -> list[str]:
 
 
 def format_layout(layout: Layout) -> str:
-    """Return the value of `--layout` for a layout. Return an empty string for the default
-    layout."""
+    """Return the value of `--layout` for a layout, or "" for the default layout."""
     return ",".join(list_items(layout))
 
 
@@ -217,14 +215,12 @@ def find_start_column(cells: bytes, justify: int, layout: Layout) -> int:
 
 
 def find_column(cells: bytes, justify: int, layout: Layout) -> int:
-    """Return the start column of a line of 1 to 40 cells. The line is moved so that it fits the
-    row."""
+    """Return the start column of a line of 1 to 40 cells, moved so that the line fits the row."""
     return min(max(find_start_column(cells, justify, layout), 0), COLUMNS - len(cells))
 
 
 def assign_rows(lines: Sequence[bytes], first: int, layout: Layout) -> list[int]:
-    """Return the row of each line. The lines are results of `prepare_line`. `first` is the vertical
-    position (VP)."""
+    """Return the row of each prepared line. `first` is the vertical position (VP)."""
     places, place = [], 0
     for number, line in enumerate(lines):
         places.append(place if layout.pack else number)
@@ -244,8 +240,7 @@ def draw_text(text: bytes, first: int, justify: int, layout: Layout, option: Nat
 
 def draw_lines(cells: Sequence[bytes], first: int, justify: int, layout: Layout
                 ) -> list[DrawnLine] | TextFault:
-    """Draw lines of cells, omitting empty lines. If a line has a fault, return the first fault
-    instead."""
+    """Draw lines of cells, omitting empty lines. If a line has a fault, return the fault."""
     lines = [prepare_line(one, layout) for one in cells]
     placed: list[DrawnLine] = []
     above = b""  # the previous line

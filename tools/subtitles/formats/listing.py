@@ -49,8 +49,7 @@ INCOMPLETE = 77
 
 
 class FaultLine(NamedTuple):
-    """A line that begins with `refused`, `ended`, `fault` or `usage`, with its fault number, name
-    and place."""
+    """A line `refused`, `ended`, `fault` or `usage`, with its fault number, name and place."""
 
     line: str
     word: str
@@ -119,8 +118,7 @@ def parse_trusted_line(line: str) -> Trusted | None:
 
 
 def parse_count_line(line: str) -> int | None:
-    """Parse the last line of a list, which has the number of faults. Return `None` for any other
-    line."""
+    """Parse the last line of a list, which has the number of faults."""
     match = COUNT.fullmatch(line)
     return int(match[1]) if match else None
 
@@ -139,8 +137,7 @@ def split_line(line: str) -> list[str]:
 
 
 def parse_fault_number(line: str) -> int | None:
-    """Parse the fault number in a line that begins with `refused`. Return `None` for any other
-    line."""
+    """Parse the fault number in a line that begins with `refused`."""
     digits = line.split(" ", 2)[1] if line.startswith(REFUSED + " ") else ""
     return int(digits) if digits.isascii() and digits.isdecimal() else None
 
@@ -223,8 +220,7 @@ def remove_markup(text: str) -> str:
 
 
 def make_cell_markup(text: str) -> Markup:
-    """Return a cell of the manual as HTML. Backquoted text becomes code, and links become plain
-    text."""
+    """Return a cell of the manual as HTML. Backquotes become code, and links plain text."""
     parts = re.sub(r"\[([^]]*)\]\([^)]*\)", r"\1", text).split("`")
     return join_markup(markup("<code>{}</code>", part) if at % 2 else part
                        for at, part in enumerate(parts))

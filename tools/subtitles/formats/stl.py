@@ -152,8 +152,7 @@ def subtitle_name(position: int, number: int) -> str:
 
 
 def parse_subtitles(lines: Sequence[str]) -> list[Subtitle]:
-    """Parse the output of `show`. If the file is refused, the output has only the subtitles before
-    the fault."""
+    """Parse the output of `show`, which ends at the first fault of a refused file."""
     subtitles = [parse_subtitle(index, line) for index, line in enumerate(lines[:-1], 1)]
     last = "".join(lines[-1:])
     fault = parse_fault_line(last)
@@ -192,8 +191,7 @@ class SubtitleList:
         self.begins = [subtitle.begin for subtitle in self.subtitles]
 
     def find_place(self, frame: int) -> int:
-        """Return the index of the last subtitle that begins at or before a frame, or -1 if there is
-        none."""
+        """Return the index of the last subtitle that begins at or before a frame, or -1."""
         return bisect.bisect_right(self.begins, frame) - 1
 
     def count_begun(self, frame: int) -> tuple[int, bool]:
@@ -212,8 +210,7 @@ class SubtitleList:
         return self.subtitles[place - 1].end if place > 0 else 0
 
     def after(self, place: int) -> int:
-        """Return the TCI of the subtitle after index `place`, or the end of the day for the last
-        subtitle."""
+        """Return the TCI of the subtitle after index `place`, or the end of the day."""
         is_last = place + 1 == len(self.subtitles)
         return FRAMES_OF_A_DAY if is_last else self.begins[place + 1]
 
@@ -293,8 +290,7 @@ class SubtitleFile:
         return len(self.first_blocks) - 1
 
     def count_ended(self) -> tuple[int, int]:
-        """Return the number of subtitles with a last block, first without comments, then with
-        comments."""
+        """Return the numbers of subtitles with a last block, without and with comments."""
         own = sum(1 for _ in self.list_last_blocks())
         lasts = sum(self.block(number)[3] == LAST_BLOCK for number in
                     range(1, len(self.first_blocks)))
@@ -313,8 +309,7 @@ class SubtitleFile:
             yield subtitle
 
     def find_by_frame(self, frame: int) -> NamedSubtitle | None:
-        """Return the subtitle that is expected at a frame, or `None`. The subtitles must be in
-        order."""
+        """Return the subtitle expected at a frame, if any. The subtitles must be in order."""
         at = bisect.bisect_right(self.begins, frame) - 1
         if at < 0:
             return None

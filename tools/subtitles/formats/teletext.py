@@ -141,8 +141,7 @@ def option_for_language(language: bytes) -> NationalOption:
 
 
 def option_for_track(language: str) -> NationalOption | None:
-    """Return the national option for the language of a PMT, or `None` if no option has this
-    language."""
+    """Return the national option for the language of a PMT, if an option has this language."""
     return next((option for option in OPTIONS if language.lower() in option.tracks.split()), None)
 
 

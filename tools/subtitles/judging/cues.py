@@ -167,9 +167,8 @@ class CueJudge:
         return CueVerdict(word, words, numbers)
 
     def describe_doubt(self, cue: Cue) -> str:
-        """Explain why a cue without a fault may be wrong, or return an empty string. It is right if
-        the part is accepted and no TS packet was lost during it, or if `check` trusts all its
-        frames."""
+        """Explain why a cue without a fault may be wrong, or return "". It is right if the part is
+        accepted and no TS packet was lost during it, or if `check` trusts all its frames."""
         begin, end = cue.subtitle.begin, cue.subtitle.end
         if self.part.check_output.verdict == ACCEPTED:
             is_lost = any(span.first < end and begin <= span.last

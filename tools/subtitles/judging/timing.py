@@ -279,8 +279,7 @@ def describe_jumps(count: int, recording: Recording) -> str:
 
 
 def make_pace_selection(pace: Pace, is_stream: bool, part: int) -> Selection:
-    """Return the `Selection` that reports the chosen --pace, and at how many places it shows a
-    loss."""
+    """Return the `Selection` that reports the chosen --pace, and how often it shows a loss."""
     return Selection(PACE_CHOICE, str(pace.frames), describe_pace(pace, is_stream),
                      pace.total - pace.hidden_places, pace.total, part)
 

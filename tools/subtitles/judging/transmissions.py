@@ -280,8 +280,7 @@ class PageTransmissions:
         return self.timeline.page_at(frame) == self.expected.page_at(frame)
 
     def split_frames(self, first: int, last: int) -> list[Span]:
-        """Split the frames of a fault into spans in which neither the expected page nor the decoded
-        page changes."""
+        """Split the frames of a fault into spans with the same expected and decoded page."""
         begins = {first, *self.expected.list_cues(first, last)}
         begins.update(self.timeline.frames[number]
                       for number in self.timeline.page_numbers(first, last + 1)

@@ -194,8 +194,7 @@ class Recording:
                                               packets.count))
 
     def unreadable_reasons(self) -> list[str]:
-        """Return the reasons why PIDs can't be read as Teletext, for example that they are
-        scrambled."""
+        """Return why PIDs can't be read as Teletext, for example that they are scrambled."""
         return [words for packets in find_unreadable_packets(self.survey)
                 for words in (explain_refusal(packets), self.header_problem(packets)) if words]
 

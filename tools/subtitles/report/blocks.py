@@ -18,8 +18,7 @@ FIELDS = {11: ("DFC", slice(3, 11)), 12: ("DFC", slice(3, 11)), 13: ("DSC", slic
 
 
 def mark_field(file: SubtitleFile, fault: FaultLine) -> Markup:
-    """Return the field that has a fault, with its bytes marked. If the fault has no field, return
-    empty markup."""
+    """Return the field that has a fault, with its bytes marked, or else empty markup."""
     if fault.number not in FIELDS or fault.block is None:
         return markup("")
     name, place = FIELDS[fault.number]

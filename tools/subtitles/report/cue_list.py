@@ -105,8 +105,7 @@ class CueList:
             markup("{}: {}", WAIVED, words) if verdict.word == WAIVED else words
 
     def make_text_cell(self, cue: Cue) -> Value:
-        """Return the expected text and, if it differs, the decoded text, with the differences
-        marked."""
+        """Return the expected text and a different decoded text, with the differences marked."""
         expected = format_page_text(cue.expected, self.option)
         sent = cue.decoded or (cue.cause.sent_page if cue.cause else None)
         decoded = format_page_text(sent, self.option) if sent else expected

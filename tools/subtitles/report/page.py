@@ -112,8 +112,7 @@ def describe_given_clock(clock: Clock) -> str:
 
 
 def make_folded_list(what: str, lines: Sequence[str]) -> Markup:
-    """Return a titled list of places, folded if it is long. If there are no places, return empty
-    markup."""
+    """Return a titled list of places, folded if long, or empty markup if there are none."""
     if not lines:
         return NO_MARKUP
     listed = markup("<ul>{}</ul>", join_markup(markup("<li>{}</li>", one)
@@ -299,8 +298,7 @@ def list_unchecked(verdict: Verdict) -> Iterator[str]:
 
 
 def list_waived(verdict: Verdict) -> Iterator[str]:
-    """Yield descriptions of the waived faults, which are only warnings according to the severity
-    file."""
+    """Yield descriptions of the faults that the severity file turns into warnings."""
     counts = {number: part.check_output.first_faults[number].name for part in verdict.parts
               for number in part.check_output.counts_by_number}
     for number, name in sorted(counts.items()):

@@ -1,5 +1,4 @@
-"""Draw the timeline of a part. It has lanes for expected pages, decoded pages and each kind of
-fault."""
+"""Draw the timeline of a part, with lanes for expected pages, decoded pages and kinds of fault."""
 from __future__ import annotations
 
 from typing import Iterable, Iterator
@@ -21,8 +20,7 @@ EDGE = 8
 
 
 class Lanes:
-    """The lanes of a timeline: bars for expected pages, for decoded pages and for each kind of
-    fault."""
+    """The lanes of a timeline, with bars for expected pages, decoded pages and faults."""
 
     def __init__(self, cues: CueList, decoded: Timeline | None, lost_spans: Iterable[Span]) -> None:
         self.cues, self.decoded, self.lost_spans = cues, decoded, list(lost_spans)
@@ -101,8 +99,7 @@ class Lanes:
 
 
 def find_cue_span(cue: Cue) -> tuple[int, int]:
-    """Return the earlier of the expected and actual in-cue, and the later of the expected and
-    actual out-cue."""
+    """Return the earlier of the expected and actual in-cue, and the later out-cue."""
     one = cue.subtitle
     return (min(one.begin, one.begin if cue.begin is None else cue.begin),
             max(one.end, one.end if cue.end is None else cue.end))

@@ -150,8 +150,7 @@ def list_pair_files(folder: str, name: str, parts: PartFiles | None = None) -> l
 
 
 def lock_path(folder: str, name: str) -> str:
-    """Return the path of a pair's lock file. If the name is empty, return the path of the folder's
-    lock file."""
+    """Return the path of a pair's lock file, or of the folder's lock file if `name` is empty."""
     return os.path.join(folder, f".{name}.{LOCK}" if name else f".{LOCK}")
 
 
@@ -197,8 +196,7 @@ class OutputNames:
         self.program_stl = self.make_utf_8_path(stl, "given.stl")
 
     def make_utf_8_path(self, name: str, ending: str) -> str:
-        """Return a path in UTF-8, since the program accepts no other. If needed, create a symbolic
-        link."""
+        """Return a path in UTF-8, which the program needs. If necessary, make a symbolic link."""
         if is_utf_8(name):
             return name
         path = self.temporary_path(ending)

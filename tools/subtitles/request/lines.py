@@ -56,8 +56,7 @@ def decode_text(name: str, data: bytes) -> str:
 
 
 def list_folder(path: str) -> str:
-    """Return the folder to which paths in a list are relative. Return an empty string for a
-    pipe."""
+    """Return the folder to which paths in a list are relative, or "" for a pipe."""
     return os.path.dirname(path) if os.path.isfile(path) else ""
 
 
@@ -331,8 +330,7 @@ def separate_files(files: list[str]) -> tuple[list[str], list[str]]:
 
 def read_list_pairs(path: str, lines: Iterable[Line],
                     defaults: argparse.Namespace) -> Iterator[BatchItem]:
-    """Yield the pairs in a list (subtitle file, recording, options). Do not check that the files
-    exist."""
+    """Yield the pairs in a list, without checking that their files exist."""
     names, folder = ListNames(), list_folder(path)
     for line in lines:
         try:
@@ -348,17 +346,15 @@ def read_list_pairs(path: str, lines: Iterable[Line],
 
 
 def list_possible_paths(words: Sequence[str], folder: str) -> list[str]:
-    """Return all words of a faulty line that may be paths of input files, which must not be
-    overwritten."""
+    """Return the words of a faulty line that may be input files, which must not be overwritten."""
     values = [value for word in words for value in {word, word.partition("=")[2]} if value]
     return [*values, *(os.path.join(folder, value) for value in values)]
 
 
 def read_line_pair(path: str, number: int, defaults: argparse.Namespace) \
         -> tuple[BatchItem, list[str]]:
-    """Return the pair in line `number` of a list. Also return the words of all lines, since any of
-    them may be an input file. Earlier lines are read too, since the name of the pair depends on
-    them."""
+    """Return the pair in line `number` of a list, whose name depends on the earlier lines. Also
+    return the words of all lines, since any of them may be an input file."""
     if os.path.isdir(path):
         raise Stop(f"--line needs a list, but {path} is a folder")
     lines = [*split_lines(read_list(path, may_be_pipe=True))]

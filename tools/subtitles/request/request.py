@@ -87,8 +87,7 @@ class Option(NamedTuple):
 
     @property
     def member(self) -> Member | None:
-        """Return the definition of the option's member in the object `request` of a JSON result, or
-        `None`."""
+        """Return the option's member in the object `request` of a JSON result, if any."""
         if self.shape is None:
             return None
         meaning = remove_markup(self.description[0].upper() + self.description[1:] + ".")

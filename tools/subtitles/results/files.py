@@ -55,8 +55,7 @@ def write_result(verdict: Verdict, program: ProgramInfo) -> Iterator[str]:
 
 
 def write_list(member: Member, source: ResultSource, limit: ListLimit) -> Iterator[str]:
-    """Yield a JSON list with one item per line. Omit the items that follow when a limit is
-    reached."""
+    """Yield a JSON list with one item per line. Omit further items at the limit."""
     assert isinstance(member.shape, Listed) and member.getter
     items, separator = iter(member.getter(source)), "["
     for count, item in enumerate(items):
@@ -316,8 +315,7 @@ def object_columns(name: str, members: Members | None) -> Columns:
 
 
 def part_columns(parts: Sequence[dict[str, Any]], number: int | None) -> Columns:
-    """Return the columns for part `number`. If `number` is `None`, return the columns for the only
-    part."""
+    """Return the columns for part `number`, or for the only part if it is `None`."""
     numbered_parts = [part for part in parts if part["part"] == number or number is None]
     if len(numbered_parts) != 1:
         return {}

@@ -107,8 +107,7 @@ def describe_loss(place: LossPlace) -> str:
 
 
 def loss_line(place: LossPlace, first: int | None) -> str:
-    """Return a line with the PTS and the missing packets of a place. `first` is the recording's
-    first PTS."""
+    """Describe the PTS and missing packets of a place. `first` is the recording's first PTS."""
     known = [pts for pts in (place.before, place.after) if pts is not None]
     names = " and ".join(map(str, known))
     times = " and ".join(time_of(wrap_pts(pts - (first or 0)) // TICKS) for pts in known)

@@ -230,8 +230,7 @@ def count_misdrawn(layout: Layout, subtitles: Sequence[SentSubtitle], option: Na
 
 
 def simplify(layout: Layout, subtitles: Sequence[SentSubtitle], option: NationalOption) -> Layout:
-    """Return a layout without its unnecessary items, whose removal makes no further subtitle
-    wrong."""
+    """Return a layout without the items whose removal makes no further subtitle wrong."""
     most = count_misdrawn(layout, subtitles, option, len(subtitles))
     for names in (("strip",), ("before", "behind"), ("behind",), ("after",), *(
             (name,) for name in Layout._fields[4:])):
@@ -244,8 +243,7 @@ def simplify(layout: Layout, subtitles: Sequence[SentSubtitle], option: National
 
 
 def find_candidates(subtitles: Sequence[SentSubtitle], option: NationalOption) -> list[Layout]:
-    """Return the plain layout, and the layouts that draw the largest number of subtitles as
-    sent."""
+    """Return the plain layout, and the layouts that draw the most subtitles as sent."""
     all_lines = [split_raw_lines(sent.text, option) for sent in subtitles]
     pairs = [pair for place, sent in enumerate(subtitles)
              for pair in pair_lines(place, all_lines[place], sent.rows)]

@@ -70,8 +70,7 @@ class PageChange(NamedTuple):
 
 
 class GapMarker(NamedTuple):
-    """A gap marker: its number, the PTS of the PES packet before it, and the lost and scrambled TS
-    packets."""
+    """A gap marker: its number, the PTS before it, and the lost and scrambled TS packets."""
 
     number: int
     before: int | None
@@ -185,8 +184,7 @@ FEWEST = 4  # sub-pages alternate if at least this many changes return to an ear
 
 
 def subcode_of(header: bytes) -> str:
-    """Return the sub-code in the eight four-bit values of a header, S4 first (EN 300 706,
-    9.3.1.2)."""
+    """Return the sub-code in a header's eight four-bit values, S4 first (EN 300 706, 9.3.1.2)."""
     return f"{header[5] & 3:X}{header[4]:X}{header[3] & 7:X}{header[2]:X}"
 
 

@@ -16,8 +16,7 @@ NEAR = 5  # maximum number of frames by which a page may precede its cue if the 
 
 
 def longest_gap(frames: Iterable[int]) -> int:
-    """Return the longest interval between two consecutive frames, or 0 if there are fewer than two
-    frames."""
+    """Return the longest interval between two consecutive frames, or 0 if there is none."""
     known = sorted(set(frames))
     return max((second - first for first, second in zip(known, known[1:])), default=0)
 
