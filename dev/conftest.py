@@ -27,7 +27,6 @@ def pytest_runtest_call() -> None:
 
 
 def pytest_unconfigure() -> None:
-    """Remove the compiled tools."""
     COMPILED.__exit__(None, None, None)
 
 

@@ -154,7 +154,7 @@ RULES: dict[type[ast.AST], Callable[[Any], Changes]] = {
     ast.Expr: change_statement,
     ast.Assign: change_statement, ast.AugAssign: change_statement, ast.Break: change_jump,
     ast.Continue: change_jump}
-SKIPPED = ("annotation", "returns", "decorator_list", "exc", "cause", "msg")  # skipped fields
+SKIPPED = ("annotation", "returns", "decorator_list", "exc", "cause", "msg")
 
 
 def find_places(node: ast.AST, names: str = "", inside: str = MODULE
@@ -213,7 +213,7 @@ def shorten(node: ast.AST) -> str:
 
 
 def make_bugs(text: str, interval: int = 1, at: int = 0) -> Iterator[Bug]:
-    """Yield the mutants whose code differs: every `interval`th mutant, starting at index `at`."""
+    """Yield every `interval`th mutant from index `at` on, unless its code equals the original's."""
     tree = ast.parse(text)
     seen = [compile_comparable(ast.unparse(tree)), None]
     count = 0

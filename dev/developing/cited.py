@@ -51,8 +51,7 @@ class SourceNames:
                 self.add_path(top, os.path.relpath(os.path.join(place, name), top))
 
     def add_path(self, top: str, path: str) -> None:
-        """Add the path of a file or folder, below the top and below its crate, and the words in it.
-        """
+        """Add a path, below the top and below its crate, and the words in it."""
         parts = path.split(os.sep)
         for start in {0, *((1, 2) if parts[0] == "crates" else ())}:
             self.paths |= {"/".join(parts[start:]), os.path.splitext("/".join(parts[start:]))[0]}
@@ -94,8 +93,7 @@ class SourceNames:
 
 
 def find_unknown_names(top: str) -> dict[str, list[str]]:
-    """Return the quoted names in each document that are not in the sources, as `FILE:LINE: NAME`.
-    """
+    """Return the quoted names in each document that the sources lack, as `FILE:LINE: NAME`."""
     sources = SourceNames(top)
     found: dict[str, list[str]] = {}
     for name, start in DOCUMENTS.items():
@@ -122,7 +120,7 @@ def correct_count_rows(top: str) -> Iterator[tuple[str, str]]:
 
 
 def correct_readme_counts(top: str) -> Iterator[tuple[str, str]]:
-    """Yield the line count of each law in README, and the correct count."""
+    """Yield the line count that README states for each theorem, and the correct count."""
     text, library = read(os.path.join(top, "README.md")) or "", Library(top)
     for name, form in IN_README.items():
         shown = form.search(text)
@@ -131,7 +129,7 @@ def correct_readme_counts(top: str) -> Iterator[tuple[str, str]]:
 
 
 def find_long_readings(top: str, most_lines: Mapping[str, int]) -> Iterator[Optional[str]]:
-    """Yield for each law a message if its definitions have too many lines, else `None`."""
+    """For each theorem, yield a message if its definitions have too many lines, else `None`."""
     library = Library(top)
     for name, most in most_lines.items():
         lines = count_lines_to_read(*library.list_reading(name))[1]
@@ -140,7 +138,7 @@ def find_long_readings(top: str, most_lines: Mapping[str, int]) -> Iterator[Opti
 
 
 def count_proof_numbers(top: str) -> list[int]:
-    """Return the values for the table of proof numbers in docs/ASSURANCE.md, in order of rows."""
+    """Return the values for the table of proof numbers in docs/ASSURANCE.md, row by row."""
     def files(*names: str) -> list[str]:
         return glob.glob(os.path.join(glob.escape(top), *names), recursive=True)
 

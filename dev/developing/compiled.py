@@ -42,10 +42,7 @@ def make_plain_environment() -> dict[str, str]:
 
 @contextlib.contextmanager
 def use_compiled_tools() -> Iterator[None]:
-    """Let calls inside this context use modules that are compiled into a temporary folder.
-
-    Python compiles a module again if its source has changed.
-    """
+    """Compile the tools into a temporary folder, which calls in the `with` block use."""
     if PREFIX in os.environ:
         yield
         return

@@ -24,10 +24,7 @@ def read_lines(path: str = LIST) -> Lines:
 
 
 def list_dependencies(crate: str, lines: Lines) -> list[str]:
-    """Return the crates of this repository on which a crate depends.
-
-    Each crate comes after the crates that it uses.
-    """
+    """Return the crates of this repository on which a crate depends, each after those it uses."""
     found: list[str] = []
     for name in lines[crate]:
         if name in lines:

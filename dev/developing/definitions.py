@@ -29,8 +29,7 @@ CLAUSE = re.compile(r"^ *ensures (\w+)? ?\{", re.M)
 
 
 class Definition:
-    """A definition: its leading comment, and the lines of its source text, which begins at `line`.
-    """
+    """A definition: its leading comment, and its source lines, which begin at `line`."""
 
     def __init__(self, file: SpecsFile, line: int, comment: list[str], first: str) -> None:
         self.file, self.line, self.comment, self.text = file, line, comment, [first]
@@ -44,10 +43,7 @@ class Definition:
         return [line for line in self.text if not line.lstrip().startswith("--")]
 
     def parts(self) -> list[str]:
-        """Return the parts of the text that bind names separately.
-
-        These are the type and each equation of a function. A record is a single part.
-        """
+        """Return the parts that bind names separately: a type and each equation, or a record."""
         chunks: list[str] = []
         for line in self.code():
             if chunks and not (self.is_function and re.match(r"[^\s})]", line)):
@@ -61,10 +57,7 @@ class Definition:
 
 
 class ExternalName(NamedTuple):
-    """A name that specs/ does not define.
-
-    It belongs to another library, such as std, or is a type that a crate's code declares.
-    """
+    """A name from another library, such as std, or a type that a crate's code declares."""
 
     crate: str
     module: str | None
@@ -229,10 +222,7 @@ class Library:
                 and place in ("", f"{file.crate}/{file.module.split('.specs.')[1]}")]
 
     def find_roots(self, name: str) -> list[Meaning]:
-        """Return the definitions to which the argument `name` of a script refers.
-
-        If `name` is a function or a clause, return what its clauses refer to.
-        """
+        """Return the definitions named `name`, or those to which its clauses refer."""
         found = self.find_definitions(name)
         if len(found) > 1:
             places = ", ".join(f"{definition.file.crate}/"

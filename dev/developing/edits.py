@@ -40,11 +40,7 @@ class Edit(NamedTuple):
         return os.path.join(CRATES, self.crate, self.folder, self.name + ".edit")
 
     def matches(self, word: str) -> bool:
-        """Return whether `word` names this edit.
-
-        An edit is named NAME, CRATE/NAME or CRATE/FOLDER/NAME. The word CRATE names all edits of a
-        crate.
-        """
+        """Return whether `word` is NAME, CRATE/NAME, CRATE/FOLDER/NAME or CRATE of this edit."""
         word = word.removesuffix(".edit").removeprefix("crates/")
         return word in (self.name, self.crate, f"{self.crate}/{self.name}", str(self))
 
@@ -65,17 +61,14 @@ Lines = list[tuple[str, str]]  # key before the colon and text after the colon
 
 
 def read_edit(path: str) -> Lines:
-    """the keys before the colons, and the texts after them"""
+    """Return the keys before the colons, each with the text after its colon."""
     with open(path, encoding="utf-8") as file:
         lines = [line.partition(":") for line in file.read().split("\n") if line.strip()]
     return [(kind, rest.removeprefix(" ")) for kind, _, rest in lines]
 
 
 def find_test(name: str, lines: Lines) -> str | None:
-    """Return the test in the `test:` line of an edit, or `None`.
-
-    `name` is the name of the edit in error messages.
-    """
+    """Return the test in an edit's `test:` line, or `None`. Error messages mention `name`."""
     names = [rest.strip() for kind, rest in lines if kind == "test"]
     if len(names) > 1:
         raise Stop(f"{name}: more than one line `test:`")
@@ -94,7 +87,7 @@ def apply_edit(edit: Edit) -> dict[str, str]:
 
 @contextlib.contextmanager
 def replace_files(top: str, texts: dict[str, str]) -> Iterator[None]:
-    """Replace the text of files below a folder inside the context, then restore them."""
+    """Replace the texts of files below a folder in a `with` block, and restore them afterwards."""
     originals = {}
     for path, text in texts.items():
         file_name = os.path.join(top, path)
@@ -161,8 +154,7 @@ def find_stored_tests() -> dict[str, tuple[str, str]]:
 
 
 def count_applicable_edits() -> tuple[int, int]:
-    """Print the edits that can't be applied. Return the numbers of applicable and of other edits.
-    """
+    """Print the inapplicable edits. Return the numbers of applicable and inapplicable edits."""
     edits = [edit for folder in FOLDERS for edit in list_edits(folder)]
     tests = find_stored_tests()
     failed = 0

@@ -61,10 +61,7 @@ class UseGraph:
             self.link_proof(node)
 
     def resolve(self, module: str, name: str, seen: frozenset[str] = frozenset()) -> Node | None:
-        """Return the node to which a name in a module refers, or `None` if no file defines it.
-
-        `seen` contains the modules that are already being searched.
-        """
+        """Return the node to which a name in a module refers, or `None`. Skip modules in `seen`."""
         file = self.files.get(module)
         if file is None:
             above, _, kind = module.rpartition(".")  # a constructor belongs to its type
@@ -191,7 +188,7 @@ class UseGraph:
                 for file in self.files.values() if ".proofs." in file.module}
 
     def find_promises(self, node: Node) -> list[Node]:
-        """Return the promises that use a node directly, or through nodes that are not promises."""
+        """Return the guarantees (promises) that use a node, but not by way of another guarantee."""
         found: dict[Node, None] = {}
         done = {node}
         left = collections.deque(node.used_by)

@@ -133,10 +133,7 @@ class BrowserView(NamedTuple):
 
 
 def find_defects(looks: Sequence[BrowserView], folder: str) -> list[list[str]]:
-    """Return the defects that a browser finds in each report.
-
-    The browser loads all reports in one page.
-    """
+    """Return the defects that a browser, which loads all reports in one page, finds in each."""
     frames = "".join(f'<iframe src="{write_framed(look, folder, number)}" style="border:0;'
                      f'width:{look.width}px;height:2000px"></iframe>'
                      for number, look in enumerate(looks))
@@ -155,8 +152,7 @@ def find_defects(looks: Sequence[BrowserView], folder: str) -> list[list[str]]:
 
 
 def write_framed(look: BrowserView, folder: str, number: int) -> str:
-    """Write a report with all details open, and the script that checks it. Return the file's name.
-    """
+    """Write a report with all details open and the checking script. Return the file's name."""
     with open(look.path, encoding="utf-8") as file:
         text = file.read()
     name = f"measured-{number}.html"

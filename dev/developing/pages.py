@@ -142,7 +142,6 @@ def to_sentence(text: str) -> str:
 
 
 def format_synopsis(commands_of_program: list[Command], table: list[Option]) -> str:
-    """Return the synopsis of all commands."""
     page = ""
     for command in commands_of_program:
         own_options = [option for option in table if command.name in option.commands]
@@ -194,10 +193,7 @@ def make_tool_parts(text: str, name: str = "qc") -> dict[str, str]:
 
 
 def make_air_parts(text: str, help_texts: dict[str, str]) -> dict[str, str]:
-    """Return the generated parts of air's man page, from the help texts of air's commands.
-
-    The options that air shares with qc are in qc's man page.
-    """
+    """Return the generated parts of air's man page from its help texts, without qc's options."""
     others = {option.name for option in request.OPTIONS} | {"--help", "--version"}
     commands = {command: "".join(format_option(name, value, to_sentence(means))
                                  for name, value, means in parse_entries(help)

@@ -112,7 +112,7 @@ def make_pes_packet(pts: int, packets: Sequence[bytes]) -> bytes:
 
 
 def find_starts(data: bytes) -> list[int]:
-    """Return the offsets of complete PES packets at the start of `data`, and the last one's end."""
+    """Return the offsets of the complete PES packets that begin `data`, and the end of the last."""
     begins = [0]
     while data.startswith(START, begins[-1]) and len(data) - begins[-1] >= HEAD:
         length = HEAD + int.from_bytes(data[begins[-1] + 4:begins[-1] + HEAD], "big")
@@ -128,15 +128,11 @@ def split_complete_packets(data: bytes) -> list[bytes]:
 
 
 def cut_at(data: bytes, begins: Sequence[int]) -> list[bytes]:
-    """Split `data` at these offsets."""
     return [data[begin:end] for begin, end in zip(begins, begins[1:])]
 
 
 def read_pes_packets(file: Source) -> Iterator[bytes]:
-    """Yield the PES packets in a file.
-
-    Raise `Damaged` if other bytes follow the packets.
-    """
+    """Yield the PES packets in a file. Raise `Damaged` if other bytes follow them."""
     unread, count = b"", 0
     while new_data := file.read(READ_SIZE):
         data = unread + new_data

@@ -91,10 +91,7 @@ def read_toolchain_version() -> str:
 
 
 def parse_log(log: str) -> dict[str, str]:
-    """Return the prover's line for each crate that `rt ci` proved, by the crate's name.
-
-    Test crates are omitted.
-    """
+    """Return the prover's lines in the output of `rt ci`, by crate, without test crates."""
     found: dict[str, str] = {}
     crate: str | None = None
     proof: str | None = None

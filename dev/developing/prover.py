@@ -27,10 +27,7 @@ WARNING = re.compile(r"^(\S+ )?warning:", re.M)
 
 
 class Prover:
-    """The toolchain's prover, which is found by means of `rt` on the PATH.
-
-    `made` is the folder for built libraries.
-    """
+    """The toolchain's prover, found through `rt` on the PATH. `made` holds the built libraries."""
 
     def __init__(self, lines: Lines, made: str) -> None:
         rt = shutil.which("rt")
@@ -54,10 +51,7 @@ class Prover:
                 else self.get_library_path(crate))
 
     def make_prove_command(self, crate: str, jobs: int) -> list[str]:
-        """Return the command that proves a crate and writes its library.
-
-        It must run in the crate's folder.
-        """
+        """Return the command that, in a crate's folder, proves it and writes its library."""
         root = "src/main.rt" if crate == PROGRAM else "src/lib.rt"
         words = [os.path.join(self.programs, "rattle"), "build", "--crate-name", crate, root]
         for name in ["std", *self.lines[crate]]:
@@ -74,7 +68,6 @@ class Prover:
         return [*words, "-o", self.get_output_path(crate)]
 
     def make_link_command(self, program: str) -> list[str]:
-        """Return the command that links the program."""
         words = [os.path.join(self.programs, "rattle-link"), "--target", TARGET]
         words += ["--toolchain", self.get_toolchain_path("toolchain"), "-o", program,
                   self.get_output_path(PROGRAM)]
@@ -85,8 +78,8 @@ class Prover:
 def parse_prover_line(output: str) -> str | None:
     """Return the last result line in the prover's output for a crate.
 
-    Return `None` if the line has an unknown word, or if the output has a warning, such as a
-    contract that no call can satisfy.
+    Return `None` if the line has an unknown word, or if the output has a warning, for example about
+    a contract that no call can satisfy.
     """
     found = [] if WARNING.search(output) else LINE.findall(output)
     words = {word.partition("=")[0] for word in found[-1].split()[1:]} if found else set[str]()
@@ -109,7 +102,7 @@ class BuildRecord:
         return hashlib.sha256(text.encode()).hexdigest()
 
     def find_line(self, crate: str) -> str | None:
-        """Return the prover's line if the crate's current sources were proved here, or `None`."""
+        """Return the prover's line if this machine has proved the crate's sources, or `None`."""
         digest, _, line = (read(self.get_note_path(crate)) or "").partition("\n")
         is_there = os.path.exists(self.prover.get_output_path(crate))
         return line.strip() if is_there and digest == self.compute_sum(crate) else None

@@ -15,7 +15,6 @@ class Line:
 
 
 def find_commands(path: str) -> list[Line]:
-    """Return the command lines in a document."""
     inside = False
     current: Line | None = None
     found: list[Line] = []

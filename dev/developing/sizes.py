@@ -35,7 +35,7 @@ def count_code(text: str, sizes: collections.Counter[str]) -> None:
 
 
 def count_lines(top: str) -> dict[str, collections.Counter[str]]:
-    """Return the line counts of each crate in a repository by name."""
+    """Return the line counts of each crate in a repository, keyed by crate name."""
     found: dict[str, collections.Counter[str]] = collections.defaultdict(collections.Counter)
     for path in glob.glob(os.path.join(top, "crates", "*", "*", "**", "*.*"), recursive=True):
         crate, part = os.path.relpath(path, os.path.join(top, "crates")).split(os.sep)[:2]

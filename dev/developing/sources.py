@@ -23,10 +23,7 @@ MAIN = re.compile(r"[Mm]ain lemmas?: ([^.:]*)")
 
 @dataclass(eq=False)
 class Node:
-    """A definition, a lemma, a function, one of its clauses, or its body.
-
-    The owner of a function is the type or trait in whose block it is.
-    """
+    """A definition, lemma, function, clause or body. A function's `owner` is its type or trait."""
 
     kind: str
     file: Source
@@ -105,7 +102,7 @@ def ends_head(bare: str) -> bool:
 
 
 def find_defined_name(bare: str) -> str | None:
-    """Return the name of the definition that a line begins, or `None` for an equation."""
+    """Return the name of the definition that begins on a line, or `None` for an equation."""
     head = HEAD.match(bare)
     return head[2] if head and (head[1] or re.match(r" *:(?:\s|$)", bare[head.end():])) else None
 
@@ -150,10 +147,7 @@ def read_functions(file: Source) -> list[str]:
 
 
 def find_end_of_function(lines: list[str], at: int, indent: str) -> int:
-    """Return the index of the last line of the function that begins at line `at`.
-
-    `indent` is the indentation of the function.
-    """
+    """Return the index of the last line of the function at line `at` with this indentation."""
     depth = 0  # depth of braces in the contract
     for number in range(at, len(lines)):
         line = lines[number].rstrip()

@@ -17,8 +17,7 @@ def make_gsi_block(title: bytes, blocks: int, subtitles: int, first: int = 0,
                    language: bytes = b"09") -> bytes:
     """Return a GSI block with STL25.01, Teletext level 1 and code table 00.
 
-    `language` is 09 for English and 08 for German. `subttx` ignores the counts of blocks and
-    subtitles and the first time code.
+    `language` is 09 (English) or 08 (German). `subttx` ignores the counts and the first time code.
     """
     block = bytearray(b" " * GSI)
 

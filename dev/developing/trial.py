@@ -17,7 +17,7 @@ SECONDS = 2  # time limit of one run in seconds of processor time
 MAX_SECONDS = 600  # time limit of one run in seconds on a busy machine
 MAX_LOG_BYTES = 1 << 20  # bytes of strace's log above which a run is considered endless
 END_FORMAT = "\\0ended\\0"  # printf format that marks the end of a run's output
-RUNS_PER_SHELL = 16  # number of runs per shell
+RUNS_PER_SHELL = 16
 
 CALL = re.compile(r"^\d+ +(\w+)\((.*)\) += (-?\w+)(.*)$")
 CALLS = "trace=openat,read,write,fsync,close,statx,mmap,brk,rt_sigaction"
@@ -68,8 +68,8 @@ void *realloc(void *old, size_t size) {
 }
 """
 
-# Let close fail like a file system that stores the data of a file when it is closed. The first KEPT
-# bytes of the file remain. If KEPT is negative, the file is removed.
+# Make close fail as on a file system that stores a file's data only when the file is closed. The
+# first KEPT bytes of the file remain. If KEPT is negative, the file is removed.
 UPLOADER = rb"""
 #define _GNU_SOURCE
 #include <dlfcn.h>
@@ -147,7 +147,7 @@ class RunResult(NamedTuple):
 
 
 Found = tuple[str, Union[RunResult, Command], list[str]]  # name, run and faults of a case
-Case = Callable[[], list[Found]]  # runs cases
+Case = Callable[[], list[Found]]  # runs the program, and returns the result of each run
 End = tuple[int, bytes]  # expected status and output
 
 
@@ -193,10 +193,7 @@ class Setup(NamedTuple):
 
 
 def split_output(printed: bytes, errors: bytes, count: int) -> list[tuple[int, bytes, bytes]]:
-    """Return the status, the output and the error text of each run in a shell.
-
-    The status is negative if a signal ended the run.
-    """
+    """Return status (negative for a signal), output and error text of each run in a shell."""
     end = END_FORMAT.replace("\\0", "\0").encode()
     texts, error_text = printed.split(end), errors.split(end)
     if (len(texts), len(error_text)) != (2 * count + 1, count + 1):
@@ -258,7 +255,7 @@ class Trial:
         return f"{path}.so"
 
     def make_command(self, name: str, program_args: list[str]) -> Command:
-        """Return a command with its expected result, which it has if no system call fails."""
+        """Return a command with the result that is expected if no system call fails."""
         out = program_args[2] if program_args[0] in ("normal", "schedule", "extract") else None
         run_result = self.run(Command(name, program_args, out, 0, b"", None))
         return Command(name, program_args, out, run_result.status, run_result.printed or b"",
@@ -284,10 +281,7 @@ class Trial:
             return collect_run(place, command, before_it, done.returncode, done.stdout, done.stderr)
 
     def run_each(self, command: Command, setups: Sequence[Setup]) -> list[RunResult]:
-        """Run the program with each setup, in new folders.
-
-        One shell runs all of them; this saves a third of the time.
-        """
+        """Run the program with each setup in a new folder, all from one shell to save time."""
         places = [tempfile.mkdtemp(dir=self.folder) for _ in setups]
         script = f"ulimit -c 0; ulimit -t {SECONDS}\n" + "".join(
             f"(cd {shlex.quote(place)} && {{ {setup.setup} exec "
@@ -337,8 +331,7 @@ def find_faults(run_result: RunResult, status: int | str, printed: bytes,
 def find_explanation_faults(run_result: RunResult, printed: bytes) -> list[str]:
     """Return the faults in the standard error of a run.
 
-    Standard error must explain each fault of a file and each fault of the arguments. It must be
-    empty for status 0 and 1.
+    It must explain each fault of a file or of the arguments, and be empty for status 0 and 1.
     """
     if run_result.status in (0, 1) and run_result.error_text:
         return [f"unexpected standard error: {run_result.error_text!r}"]

@@ -122,7 +122,7 @@ def run_with_refused_memory(trial: Trial) -> Iterator[Case]:
 
 
 def run_with_many_subtitles(trial: Trial) -> Iterator[Case]:
-    """Check a file with the maximum number of subtitles in little more memory than its texts."""
+    """Check the maximum number of subtitles in little more memory than their texts need."""
     texts = [box_line(b"Subtitle %05d" % number) for number in range(MAX_SUBTITLES)]
     blocks = [make_tti_block(number & 0xFFFF, 20 * number, 20 * number + 20, 22, 2, text)
               for number, text in enumerate(texts)]

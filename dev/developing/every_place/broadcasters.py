@@ -1,7 +1,7 @@
-"""Make random options and transmissions with properties of broadcasters.
+"""Make random options and transmissions with features that differ between broadcasters.
 
-They vary the text layout, the time range, headers that keep the page, the longest allowed interval
-between PES packets, and refused subtitles in a transmission.
+These are the text layout, the time range, headers that keep the page, the longest interval between
+PES packets, and whether refused subtitles are transmitted.
 """
 from __future__ import annotations
 
@@ -70,8 +70,7 @@ def make_part_options(rng: Random, stl: bytes) -> list[str]:
 
 
 def mark_as_open(stl: bytes, rng: Random) -> bytes:
-    """Set the display code of a subtitle file to open subtitles, or occasionally to another value.
-    """
+    """Set the display code to open subtitles, or occasionally to another value."""
     return stl[:DISPLAY_CODE] + rng.choice([b"0", b"0", b" ", b"3"]) + stl[DISPLAY_CODE + 1:]
 
 
@@ -119,10 +118,7 @@ def change_page_body(rng: Random, teletext: list[bytes]) -> None:
 
 
 def keep_pages(rng: Random, pes: bytes) -> bytes:
-    """Clear C4 in random headers, usually of repeated pages.
-
-    Occasionally change rows and the subcode too.
-    """
+    """Clear C4 in headers, mostly of repeated pages, occasionally with changed rows and subcode."""
     packets: list[bytes] = []
     previous_packets: list[bytes] = []
     repeats = RepeatSettings(rng.choice([0.3, 0.9, 1.0]), rng.choice([0, 0, 0, 0.08, 1.0]),

@@ -104,7 +104,6 @@ def add_packet(rng: Random, teletext: list[bytes]) -> None:
 
 
 def shift_pts(packet: bytearray, ticks: int) -> None:
-    """Add ticks to the PTS of a PES packet."""
     packet[9:14] = encode_pts((decode_pts(packet) + ticks) % CLOCK)
 
 
@@ -155,10 +154,7 @@ def damage_packet(rng: Random, packet: bytearray) -> None:
 
 
 def damage_packets(rng: Random, packets: list[bytearray]) -> None:
-    """Damage several consecutive PES packets, either in the same way or in different ways.
-
-    Some packets may stay intact, and an earlier packet may be repeated next to them.
-    """
+    """Damage some of several consecutive PES packets, and occasionally repeat an earlier packet."""
     first = rng.randrange(len(packets))
     count = rng.choice([1, 1, 2, 3, 4, 8, len(packets)])
     seed = rng.random() if rng.random() < 0.6 else None

@@ -15,18 +15,14 @@ ALL = "--all"
 
 
 class Answer(NamedTuple):
-    """The printed lines, and the written file or `None`. The last line determines the exit status.
-    """
+    """The printed lines, the last of which gives the exit status, and the written file if any."""
 
     lines: list[str]
     written: bytes | None = None
 
 
 class Call(NamedTuple):
-    """A command with its input files and arguments.
-
-    If `is_failing` is true, reading the last file fails at its end.
-    """
+    """A call of a command. If `is_failing` is true, reading its last file fails at the end."""
 
     name: str
     command: str

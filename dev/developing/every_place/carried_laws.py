@@ -101,8 +101,7 @@ def find_packet_fault(packets: list[bytes], units: list[Unit], sent: list[Unit],
 
 
 def check_prefix_law(seed: int) -> str | None:
-    """Return a message if a prefix of a stream yields PES packets that the stream lacks, or `None`.
-    """
+    """Return a message if a stream's prefix has PES packets that the stream lacks, else `None`."""
     rng = Random(seed)
     packets, pid, size = make_random_packets(rng), choose_pid(rng), rng.choice(SIZES)
     data = make_random_stream(rng, packets, pid, size)

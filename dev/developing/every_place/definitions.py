@@ -19,10 +19,7 @@ from .arguments import Options
 
 
 class Transmission:
-    """The PES packets and gap markers (the items) of a file in order, and their faults.
-
-    `first` is the index in the file of the first item.
-    """
+    """The items (PES packets and gap markers) of a file from index `first` on, and their faults."""
 
     def __init__(self, due: ExpectedPages, options: Options, first: int) -> None:
         self.due, self.options, self.first = due, options, first
@@ -69,8 +66,7 @@ class Transmission:
         self.skipped = None
 
     def receive(self, pes: int, frame: int, teletext: list[bytes]) -> None:
-        """Process a PES packet. If pages may be late, process all PES packets of a frame together.
-        """
+        """Process a PES packet. If pages may be late, process those of a frame together."""
         if self.options.within == 0 or self.frames[-1:] != [frame]:
             self.end_current_frame()
             self.begin_frame(pes, frame)
@@ -121,8 +117,7 @@ class Transmission:
         self.end_frames(pes, [frame])
 
     def end_frames(self, pes: int, frames: Iterable[int]) -> None:
-        """Process the ends of frames: the frame of the PES packet, or the empty frames before it.
-        """
+        """Process the ends of frames: the PES packet's frame, or the empty frames before it."""
         decoded, ends = decode(self.packets, self.options), self.ends
         for frame in frames:
             for number, line in ends.at(frame, decoded, self.headers, self.frames):
@@ -132,10 +127,7 @@ class Transmission:
                     FrameEnd(frame, bool(ends.active), ends.incomplete_since, ends.is_late))
 
     def end_file(self, end_fault: int | None, pes: int) -> None:
-        """Process the end of the file after `pes` items.
-
-        `end_fault` is the fault in the remaining bytes, or `None`.
-        """
+        """Process the end of a file after `pes` items, and the fault in its other bytes."""
         self.end_current_frame()
         self.end_skipped()
         for number, line in self.ends.list_final_lines():
@@ -160,8 +152,7 @@ def find_failure_line(selection: Range, count: int, end_fault: int | None,
                       is_failing: bool) -> str | None:
     """Return the line about a read failure, or `None` if reading stops before the failure.
 
-    Reading fails at the end of the bytes, after `count` items. `end_fault` is the fault in the
-    remaining bytes.
+    Reading fails after all bytes. `end_fault` is the fault in the bytes after `count` items.
     """
     is_so = is_failing and selection.is_end and end_fault in (None, CUT)
     return f"fault 41 Read pes {selection.first + count}" if is_so else None
@@ -174,10 +165,7 @@ def select_data(data: bytes, options: Options) -> Range:
 
 
 def check_all(stl: bytes, pes: bytes, options: Options, is_failing: bool = False) -> list[str]:
-    """Return the lines of `check --all`.
-
-    If `is_failing` is true, reading the PES file or transport stream fails at its end.
-    """
+    """Return the lines of `check --all`. If `is_failing`, reading `pes` fails at its end."""
     subtitles = judge_subtitles(stl, options)
     subtitle_lines = subtitles.lines
     if subtitles.records is None:

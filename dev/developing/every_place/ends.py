@@ -22,7 +22,7 @@ class FrameEnds:
         self.active: dict[int, int] = {}  # cell, or NO_CELL, of each active fault number
         # The frame from which the page has been incomplete.
         self.incomplete_since: int | None = None
-        self.is_late = False  # whether the page is late
+        self.is_late = False
 
     def find_active_faults(self, frame: int, decoded: Decoded, headers: list[int], sent: list[int]
                       ) -> dict[int, int]:
@@ -53,10 +53,7 @@ class FrameEnds:
                 for number, is_so in found.items() if is_so}
 
     def list_allowed_frames(self, frame: int) -> list[int]:
-        """Return the frames whose expected pages are allowed at `frame`.
-
-        These are the frame and as many frames before it as --within allows.
-        """
+        """Return `frame`, and as many frames before it as --within allows."""
         return [frame, *range(max(self.first, frame - self.options.within), frame)]
 
     def is_overdue(self, frame: int) -> bool:

@@ -26,7 +26,7 @@ def replace_bytes(data: bytes, changes: dict[int, int]) -> bytes:
 
 # One subtitle, sent at 10:00:00:00 and cleared at 10:00:02:00.
 HELLO, SENT = read_example("hello.stl"), read_example("hello.pes")
-SENT_25 = read_example("hello-25.pes")  # also sent at 10:00:01:00
+SENT_25 = read_example("hello-25.pes")  # the subtitle is also sent at 10:00:01:00
 BLANK = SENT_25[368:]  # the last PES packet: a page without rows
 EVEN_H = {117: 0x12}  # gives the H in the row even parity
 ROW = reverse_bits(SENT[96:138])  # row 22
@@ -89,11 +89,7 @@ EARLY_WRONG = ["refused 72 Content frame 09:59:59:24 row 22 column 16",
 
 
 def make_stl_file(*texts: tuple[int, int, int, bytes]) -> bytes:
-    """Return a subtitle file.
-
-    For each subtitle, `texts` contains TCI and TCO in frames after 10:00:00:00, the row and the
-    text.
-    """
+    """Return a file with subtitles: TCI and TCO in frames after 10:00:00:00, row, and text."""
     return HELLO[:GSI] + b"".join(
         make_subtitle_blocks(number, FIRST + tci, FIRST + tco, row, 2, text)
         for number, (tci, tco, row, text) in enumerate(texts))

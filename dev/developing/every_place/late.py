@@ -94,7 +94,7 @@ def add_accident(rng: Random, parts: list[Part]) -> None:
         old = parts[max(0, at - rng.choice([0, 0, 1, 1, 2, 3]))]
         again = parts[at].time + FIELD * rng.choice([0, 1, 1, 2, 2, 3, 4, 6])
         parts.append(Part(again, list(old.packets)))
-    elif way == "erase":  # a header alone, no Teletext, or a random packet
+    elif way == "erase":  # send a header alone, no Teletext, or a random packet
         at = rng.randrange(count)
         header, none = parts[at].packets[:1], parts[at].packets[:0]
         packets = rng.choice([header, header, none, [make_random_packet(rng)]])
@@ -142,7 +142,7 @@ def join_parts(parts: list[Part], first: int) -> list[bytearray]:
 
 
 def insert_unreadable_packets(rng: Random, packets: list[bytearray], origin: int) -> None:
-    """Insert PES packets that are unreadable or have no frame, sometimes as replacements."""
+    """Insert PES packets that are unreadable or have no frame, or replace others with them."""
     for _ in range(rng.choice([1, 1, 2])):
         at = rng.randrange(len(packets))
         count = rng.choice([1, 1, 1, 2, 3])

@@ -81,10 +81,7 @@ def parse_listen_options(arguments: list[str]) -> ListenOptions:
 
 
 class Receiver:
-    """A model of a Teletext receiver.
-
-    `decoded` is the page in its memory. `shown` is the page on its screen, or `None`.
-    """
+    """A Teletext receiver. `decoded` is the page in its memory, `shown` the page on its screen."""
 
     def __init__(self, options: Options, kind: str) -> None:
         self.page, self.kind = options.page, kind

@@ -37,7 +37,7 @@ CELL_TEXTS = """
 
 
 def map_cells_by_option() -> dict[str, dict[bytes, int]]:
-    """Return for each sub-set a dictionary from the bytes in a text to the cell."""
+    """Return, for each sub-set, a dictionary that maps the bytes of a character to its cell."""
     found = {option: {bytes([code]): code for code in SAME_IN_ALL} for option in BITS}
     for line in CELL_TEXTS.split("\n")[1:-1]:
         cell, *columns = line.split()

@@ -48,8 +48,8 @@ def ends_open_page(packet: Packet, page: Page) -> bool:
 def find_kept_span(packets: Sequence[Packet], page: Page, may_keep: bool) -> list[Packet]:
     """Return the packets of the page since it was last erased.
 
-    If no header erases the page, start at its first header if headers may keep the page, else at
-    its last header.
+    If `may_keep` is true, begin at the last header that erases the page, or at its first header if
+    none does. Otherwise begin at its last header.
     """
     first = find_last_header(packets, page, may_keep)
     if first is None:

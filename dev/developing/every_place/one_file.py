@@ -78,7 +78,6 @@ def make_box(cells: bytes) -> bytes:
 
 
 def make_name(text: bytes, what: str) -> str:
-    """Return a name for a pair of files."""
     return f"{text[:8].hex()} of {len(text)} bytes {what}"
 
 

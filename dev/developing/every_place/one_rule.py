@@ -67,8 +67,7 @@ def parse_transmission(packets: str, meaning: dict[str, bytes]) -> list[bytes]:
 
 
 def make_programme(text: bytes | None = None, begin: int = 0, end: int = 1) -> bytes:
-    """Return a file without subtitles, or with one subtitle on row 22 from frame `begin` to `end`.
-    """
+    """Return a file without subtitles, or with one on row 22 from frame `begin` to `end`."""
     if text is None:
         return make_gsi_block(b"One rule", 0, 0)
     return make_gsi_block(b"One rule", 1, 1) + make_subtitle_blocks(1, FIRST + begin, FIRST + end,

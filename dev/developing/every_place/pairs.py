@@ -215,10 +215,7 @@ def make_within_option(rng: Random, within: int) -> list[str]:
 
 def add_refused_subtitles(broadcaster_rng: Random, stl: bytes, arguments: list[str],
                           is_sure: bool) -> bytes:
-    """Occasionally spoil subtitles, so that they are refused. Return the subtitle file.
-
-    If `is_sure` is true, always do this.
-    """
+    """Return the file, occasionally (always if `is_sure`) with subtitles that are refused."""
     if not is_sure:
         return spoil_subtitles(broadcaster_rng, stl) if broadcaster_rng.random() < 0.15 else stl
     for _ in range(MAX_TRIES):
@@ -231,10 +228,9 @@ def add_refused_subtitles(broadcaster_rng: Random, stl: bytes, arguments: list[s
 
 def make_random_pair(seed: int, schedule: Schedule, is_refused: bool = False,
                      keeps_pages: bool = False) -> Pair:
-    """Return a random pair of files.
+    """Return a random pair of files; `schedule` makes transmissions.
 
-    `schedule` returns the transmission for a subtitle file. If `is_refused` is true, the subtitle
-    file has refused subtitles. If `keeps_pages` is true, headers keep the page.
+    `is_refused` asks for refused subtitles, `keeps_pages` for headers that keep the page.
     """
     rng, broadcaster_rng = Random(seed), Random(f"house {seed}")
     arguments = make_random_options(rng)

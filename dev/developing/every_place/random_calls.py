@@ -86,10 +86,7 @@ def make_accepted_pair(rng: Random, schedule: Schedule) -> Pair:
 
 
 def make_random_calls(seed: int, schedule: Schedule, keeps_pages: bool = False) -> list[Call]:
-    """Return random calls on a stream with a random transmission.
-
-    `schedule` returns the transmission for a subtitle file.
-    """
+    """Return random calls on a stream with a random transmission that `schedule` makes."""
     rng = Random(f"recording {seed}")
     pair = make_accepted_pair(rng, schedule) if rng.random() < 0.6 and not keeps_pages else \
         make_random_pair(seed, schedule, False, keeps_pages)

@@ -166,10 +166,7 @@ def find_head_fault(packet: bytes) -> int | None:
 
 
 def find_unit_fault(unit: bytes, last_line: tuple[int, int]) -> int | None:
-    """Return the fault number for a data unit, or `None`.
-
-    `last_line` is the field and line of the previous data unit.
-    """
+    """Return the fault number for a data unit after `last_line` (field and line), or `None`."""
     if unit[1] != 0x2C:
         return 38
     if unit[0] not in (2, 3):
@@ -201,10 +198,10 @@ def read_units(packet: bytes) -> tuple[list[bytes], int | None]:
 
 
 def read_length(data: bytes, begin: int = 0) -> int | None:
-    """Return the length in bytes of the PES packet at an offset.
+    """Return the length in bytes of the PES packet at an offset, or `None` if bytes are missing.
 
-    Return a fault number, 31 for a wrong start code or 32 for a wrong length. It can't be mistaken
-    for a length, which is at least 184. Return `None` if bytes are missing.
+    If the header is wrong, return a fault number: 31 for the start code, 32 for the length. Lengths
+    are at least 184, so they can't be confused with fault numbers.
     """
     head = data[begin:begin + HEAD]
     if len(head) < HEAD:

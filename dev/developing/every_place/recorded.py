@@ -21,7 +21,7 @@ JUMP = b"\x47\x01\x01\x20\xb7\x80" + b"\0" * 182
 
 
 def set_counter(packet: bytes, counter: int) -> bytes:
-    """Return the TS packet with this continuity counter."""
+    """Return a copy of the TS packet with this continuity counter."""
     return replace_bytes(packet, {3: packet[3] & 0xF0 | counter})
 
 
@@ -33,12 +33,12 @@ def make_adaptation_packet(packet: bytes, payload: bytes, flags: int = 0) -> byt
 
 
 def make_first_packet(counter: int, flags: int = 0) -> bytes:
-    """Return a TS packet with the first half of the PES packet in X1."""
+    """Return a TS packet with the first half of the PES packet SECOND."""
     return make_adaptation_packet(set_counter(X1, counter), SECOND[:100], flags)
 
 
 def make_second_packet(counter: int) -> bytes:
-    """Return a TS packet with the second half of the PES packet in X1."""
+    """Return a TS packet with the second half of the PES packet SECOND."""
     return replace_bytes(make_adaptation_packet(set_counter(X1, counter), SECOND[100:]), {1: 0x01})
 
 

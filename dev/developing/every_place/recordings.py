@@ -46,8 +46,7 @@ class TransportPacket:
 def find_packets(data: bytes, size: int) -> Iterator[TransportPacket | Skipped]:
     """Yield the packets in a stream, and the skipped bytes between them.
 
-    The next packet is expected one packet size later. If it is not there, search for two sync bytes
-    at this distance.
+    If no packet follows the previous packet, search for two sync bytes a packet size apart.
     """
     data = data[:MAX_RECORDING_BYTES]
     place = TIME_STAMP if size == 192 else 0
@@ -85,7 +84,7 @@ class GoodPacket(NamedTuple):
 
 
 class Stretch:
-    """What happened between two consecutive intact packets."""
+    """The events between two consecutive intact packets."""
 
     def __init__(self, before: TransportPacket | None) -> None:
         self.before = before

@@ -1,4 +1,4 @@
-"""Compute the transmission that `schedule` writes with a simple, slow algorithm."""
+"""Compute, with a simple, slow algorithm, the transmission that `schedule` writes."""
 from __future__ import annotations
 
 from developing.pes import STUFFING_UNIT, reverse_bits, make_packet, encode_pts

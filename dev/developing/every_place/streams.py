@@ -66,7 +66,6 @@ def make_packet_without_payload(rng: Random, pid: int, is_jump: bool) -> bytes:
 
 
 def make_packet_of_other_pid(rng: Random, pid: int) -> bytes:
-    """Return a random packet with another PID."""
     other = rng.choice([NULL_PID, pid ^ 1, pid ^ 0x1000, rng.randrange(0x2000)])
     if other == pid:
         other ^= 1
@@ -76,10 +75,7 @@ def make_packet_of_other_pid(rng: Random, pid: int) -> bytes:
 
 
 class Multiplexer:
-    """A multiplexer that sends the PES packets of a PID.
-
-    If `has_jumps` is true, it announces random jumps of the continuity counter.
-    """
+    """A multiplexer of a PID's PES packets, which announces random jumps if `has_jumps` is true."""
 
     def __init__(self, rng: Random, pid: int, has_jumps: bool) -> None:
         self.rng, self.pid, self.has_jumps = rng, pid, has_jumps
@@ -146,10 +142,7 @@ def multiplex(rng: Random, packets: list[bytes], pid: int, has_jumps: bool) -> l
 
 
 def join_units(rng: Random, units: list[Unit], size: int) -> bytes:
-    """Return the bytes of all units.
-
-    If `size` is 192, a time stamp precedes each packet. If it is 204, 16 bytes follow each packet.
-    """
+    """Join units, with time stamps before them if `size` is 192, or 16 bytes after them if 204."""
     before, behind = (TIME_STAMP, 0) if size == 192 else (0, size - PACKET)
     data = b"".join(make_random_bytes(rng, before) + one.packet + make_random_bytes(rng, behind)
                     for one in units)
@@ -188,8 +181,7 @@ def lose_units(rng: Random, units: list[Unit]) -> list[Unit]:
 
 
 def gone(number: int, kept: set[int]) -> bool:
-    """Return whether too many consecutive packets would be missing after the loss of this packet.
-    """
+    """Return whether too many consecutive packets would be missing without this packet."""
     return number >= MAX_UNSEEN_PACKETS - 1 and kept.isdisjoint(range(number - MAX_UNSEEN_PACKETS +
                                                                       1, number + 1))
 
@@ -213,7 +205,6 @@ def choose_packet(rng: Random, units: list[Unit]) -> int:
 
 
 def change_units(rng: Random, units: list[Unit], size: int) -> None:
-    """Make a random change to the units."""
     way = rng.choice(CHANGES)
     if way == "bytes":  # insert a few bytes, or enough to hide packets
         unseen = MAX_UNSEEN_PACKETS * size

@@ -10,10 +10,10 @@ from typing import Iterator, NamedTuple
 
 from subtitles.common.times import time_of
 
-# Faults of a PES packet because of which its frame is not trusted: receivers depend on these rules.
+# Faults of a PES packet that make its frame untrusted, since receivers depend on the broken rules.
 PACKET_FAULTS = {64, 65, 67, 68, 69}
 ORDER = 62
-SKIPPED = {*range(33, 41), 45, 61}  # fault numbers of unreadable items
+SKIPPED = {*range(33, 41), 45, 61}  # fault numbers of unreadable PES packets
 
 
 class Event(NamedTuple):
@@ -63,8 +63,8 @@ class EventLog:
     """The events of a transmission, and its PES packets.
 
     `sent` and `ends` contain the PES packets and frame ends before the first PES packet that is out
-    of order. If no PES packet is out of order, `has_rising_frames` is true. `skipped` contains the
-    indices of unreadable items. `has_trailing_bytes` is true if bytes follow the items.
+    of order; `has_rising_frames` is true if there is none. `skipped` contains the indices of
+    unreadable PES packets. `has_trailing_bytes` is true if bytes follow the last PES packet.
     """
 
     events: list[Event] = field(default_factory=list)
@@ -110,10 +110,7 @@ class TrustedFrames:
                 begin = frame + 1
 
     def find_trusted_frames(self) -> Iterator[tuple[int, CleanRun]]:
-        """Yield groups of consecutive trusted frames.
-
-        The first value is the index of the event before which the group is printed.
-        """
+        """Yield groups of trusted frames, each with the index of the event after its line."""
         for run in self.find_runs():
             headers = [packet.frame for packet in self.sent
                        if packet.has_header and run.first <= packet.frame <= run.last]

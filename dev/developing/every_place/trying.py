@@ -79,10 +79,7 @@ class Trial:
                                       shlex.join(arguments)))[1].written or b""
 
     def find_differences(self, known: KnownCall) -> list[str]:
-        """Return messages about differences from the expected output.
-
-        Calls with a failing file are skipped if reads cannot be made to fail on this machine.
-        """
+        """Return differences from the expected output, or none if reads cannot be made to fail."""
         messages = []
         for call, expected in add_first_fault_call(*known):
             if call.is_failing and not self.can_fail:

@@ -40,7 +40,7 @@ class Jump(NamedTuple):
 
 
 class Clock:
-    """Compares the PCRs of a PID."""
+    """Compares each PCR of a PID with the previous one."""
 
     def __init__(self, pid: int, say: Say) -> None:
         self.pid, self.say = pid, say
@@ -88,7 +88,8 @@ class Counters:
         self.first: dict[int, int] = {}
         self.last: dict[int, tuple[int, int]] = {}  # counter and position by PID
         self.announced: set[int] = set()
-        self.breaks: list[tuple[int, int, int]] = []  # PID and positions of two TS packets
+        # For each break, the PID and the positions of the TS packets before and after it.
+        self.breaks: list[tuple[int, int, int]] = []
 
     def take(self, packet: Packet, place: int) -> None:
         pid = packet.pid
@@ -107,8 +108,7 @@ class Counters:
     def word(self, jump: Jump, pid: int) -> str:
         """Return the word that describes the counters of other PIDs near a jump.
 
-        It is `broken` if a counter is not continuous, `whole` if all are, and `unknown` without
-        counters.
+        It is `broken` after a discontinuity, `whole` without any, and `unknown` without counters.
         """
         if any(other != pid and first < jump.last and last > jump.first
                for other, first, last in self.breaks):

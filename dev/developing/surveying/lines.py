@@ -74,8 +74,8 @@ class Stream:
     def lines_of(self, data: bytes, is_short: bool) -> list[str]:
         """Return the lines of `survey`.
 
-        If the recording is short, or its length is a multiple of READ, the last `pes` lines come
-        later.
+        The last `pes` lines precede the other final lines, unless the recording is short or its
+        length is a multiple of READ.
         """
         if self.asked is not None:
             self.follow(self.asked)

@@ -12,7 +12,7 @@ from .packets import Packet
 
 MOST_TICKS = 900_000  # maximum duration of a group in ticks (10 seconds)
 VIDEO = 0xE0  # stream_id of video; the lower four bits may differ
-MPEG, H264, HEVC = (1, 2), 0x1B, 0x24  # stream_type
+MPEG, H264, HEVC = (1, 2), 0x1B, 0x24  # values of stream_type in a PMT
 GROUP, PICTURE = 0xB8, 0  # start codes
 CLOSED_GOP = 0x40
 START = b"\0\0\1"
@@ -29,7 +29,7 @@ def has_times(header: bytes) -> bool:
 
 
 def form_of(kind: int, data: bytes) -> str | None:
-    """Return whether a group is open or closed, from its first picture, or `None` if unknown."""
+    """Return `open`, `closed` or `unknown` for a group of pictures, `None` without enough data."""
     if kind == H264:
         return "open"
     if kind not in (*MPEG, HEVC):
@@ -54,12 +54,12 @@ class Video:
         self.pid, self.say, self.pmt_entries = pid, say, pmt_entries
         self.stretch = Stretch(None)
         self.header: bytes | None = None  # incomplete PES header of a picture
-        self.is_flagged = False  # random_access_indicator was set before the next picture
-        self.is_next_flagged = False  # random_access_indicator is set for the current picture
+        self.is_flagged = False  # whether random_access_indicator precedes the next picture
+        self.is_next_flagged = False  # whether random_access_indicator is set for this picture
         self.count = self.passed = 0
         self.decoding: int | None = None  # decoding time of the last picture that has one
-        self.number = 0  # number of this last picture
-        # State of the first group.
+        self.number = 0  # number of the last picture that has a decoding time
+        # Whether the first group of pictures has begun and has ended, and its data.
         self.has_begun = self.has_ended = False
         self.flagged: int | None = None
         self.least: int | None = None

@@ -339,7 +339,7 @@ def pid_of(unit: Unit) -> int:
 
 
 def announce_jump(chance: Random, units: list[Unit]) -> None:
-    """Announce a jump of a PID's counter, in a TS packet or before it."""
+    """Announce a jump of a PID's continuity counter in one or two TS packets next to the jump."""
     at, more = choose_packet(chance, units), chance.choice([0, 1, 5])
     pid = pid_of(units[at])
     announcing = bytearray(make_packet_without_payload(chance, pid, True))

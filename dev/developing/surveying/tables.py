@@ -71,7 +71,7 @@ def pids_in(section: bytes) -> Iterator[int]:
 
 
 def announced_by(descriptors: bytes) -> Iterator[str]:
-    """Yield the announced pages in the descriptors of a stream, formatted for output."""
+    """Yield the pages announced in the descriptors of a stream, formatted for output."""
     at = 0
     while at + 2 <= len(descriptors):
         tag, length = descriptors[at:at + 2]

@@ -16,7 +16,7 @@ from .page import DecodedPage, Rows, decode_triplet, shown
 
 MARK = 45  # fault number of a gap marker
 MOST_JUMPS = 4  # maximum number of pending jumps
-MOST_PACKETS = 5000  # TS packets after which a pending jump is printed
+MOST_PACKETS = 5000  # number of TS packets after which a pending jump is printed
 CHARACTER_SETS = 28, 29  # packets that select character sets
 
 
@@ -153,10 +153,7 @@ class Teletext:
         self.waiting: list[tuple[Jump, int | None, int | None]] = []
 
     def take(self, packet: Packet) -> int | None:
-        """Process a TS packet of the PID.
-
-        Return the PTS of the last PES packet if the TS packet completes its header, or `None`.
-        """
+        """Process a TS packet. Return the PTS of a PES packet whose header it completes."""
         self.packets += 1
         self.is_behind_gap &= not self.refusal
         self.scrambled += packet.is_scrambled

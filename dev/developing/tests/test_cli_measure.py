@@ -207,8 +207,7 @@ ACCEPTED = "# With this profile, qc refuses none of these recordings."
 
 class Profiles(Case):
     def profile(self, *made: Programme) -> tuple[list[str], list[str]]:
-        """Measure recordings with qc. Return the lines of the profile, and the recordings' paths.
-        """
+        """Measure recordings with qc. Return the lines of the profile and the recordings' paths."""
         paths = [self.write(f"{one.number}.pes", pes_file(one.sent())) for one in made]
         lines = [f"{one.stl} {path} --origin 0" for one, path in zip(made, paths)]
         listed = self.write("list", "\n".join(lines).encode())
