@@ -302,7 +302,7 @@ def handle_signals() -> None:
 
 
 def ignore_signals() -> None:
-    """Ignore further signals."""
+    """Ignore the signals that would interrupt writing the results."""
     for signal_number in SIGNALS:
         signal.signal(signal_number, signal.SIG_IGN)
 

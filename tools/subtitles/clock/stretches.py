@@ -20,10 +20,10 @@ from .alignment import (
 
 LEADERS = 8  # number of best sequences of tracks for which a change of track is considered
 LEAST_ROW = 5  # minimum number of consecutive cues that must match on a new track
-NEW_TRACK = LEAST_ROW - 1  # cost of a change of track, in points (see `Track.points`)
+NEW_TRACK = LEAST_ROW - 1  # cost of a change of track, in points of `Track.points`
 LEAST_BREAK = 5 * FRAMES_A_SECOND  # minimum length of a break; a shorter shift is a delay
 LEAST_GAP = 60 * FRAMES_A_SECOND  # minimum jump of the time codes in the file at a break
-TEXT_POINTS = 3  # points of a cue whose expected text is sent
+TEXT_POINTS = 3  # score of a cue whose expected text is sent
 MAX_COMPARED = 500  # maximum number of cues to compare with each other
 TRIED_TIMES = 8  # maximum number of origins to try if texts are ignored
 LEAST_CUES = 10  # minimum number of cues if texts are ignored; twice as many with --within N

@@ -157,7 +157,7 @@ def parse_within(text: str) -> int:
 
 
 def parse_break_count(text: str) -> int:
-    """Parse the number of breaks in a programme."""
+    """Parse the value of --breaks, a number of up to three digits."""
     if not (text.isascii() and text.isdecimal() and len(text) <= MAX_DIGITS):
         raise argparse.ArgumentTypeError(f"{text} is not a number of breaks: give 0 to "
                                          f"{10 ** MAX_DIGITS - 1}")
@@ -258,7 +258,7 @@ def add_program(parser: ToolParser) -> None:
 
 
 def add_verbose(parser: ToolParser) -> None:
-    """Add the option -v."""
+    """Add the option -v, which prints a line for each test, also if it passed."""
     parser.add_argument("-v", dest="is_verbose", action="store_true",
                         help="print a line for each, also if it passed")
 

@@ -147,7 +147,7 @@ def read_bounded_bytes(name: str, most: int, may_be_pipe: bool = False, is_follo
 
 
 def read_chunks(name: str, may_be_pipe: bool = False) -> Iterator[bytes]:
-    """Yield the contents of a file in chunks of bytes."""
+    """Yield the contents of a file in chunks, as they become available."""
     with File(name, may_be_pipe) as file:
         yield from iter(file.read, b"")
 

@@ -69,7 +69,7 @@ def format_value(value: Value) -> str | int | float:
 
 
 def join_markup(parts: Iterable[Value], between: Value = "") -> Markup:
-    """Join values as markup, with `between` as the separator."""
+    """Join values with the separator `between`. Text is escaped."""
     return Markup(str(format_value(between)).join(str(format_value(one)) for one in parts))
 
 

@@ -186,7 +186,7 @@ def character_bytes(text: bytes, at: int) -> bytes:
 
 
 def find_options(letter: bytes) -> list[NationalOption]:
-    """Return the national options that have a character."""
+    """Return the national options that have a character, given as its bytes in a text."""
     if len(letter) == 1 and letter[0] in COMMON:
         return list(OPTIONS)
     return [option for option in OPTIONS if letter in option_cells(option)]

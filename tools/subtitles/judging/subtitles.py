@@ -240,7 +240,7 @@ def draw_valid_pages(subtitles: Sequence[Subtitle], page: Page, option: str,
 
 
 def draw_page(subtitle: Subtitle, option: str, layout: Layout) -> Rows:
-    """Return the page with a subtitle."""
+    """Return the page with a subtitle, whose text must have no fault."""
     lines = draw_text(subtitle.text, subtitle.row, subtitle.justify, layout, BY_WORD[option])
     assert not isinstance(lines, TextFault)
     return make_page_rows(lines)

@@ -123,7 +123,7 @@ def list_timed_parts(origin: OriginEstimate, full_range: TimedPart) -> list[Time
 
 
 def make_estimated_clock(part: PartOrigin) -> Clock:
-    """Return the estimated clock of a part."""
+    """Return the estimated clock of a part, with the matching cues as evidence."""
     return Clock(part.origin, RECORDING, evidence=Selection(
         ORIGIN_CHOICE, str(part.origin), f"{CLOCK_PREFIX}{part.line}", part.matches, part.total))
 

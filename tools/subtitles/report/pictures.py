@@ -251,6 +251,6 @@ def draw_picture_pair(time: str, expected: Rows, header: bytes, state: ReceiverS
 
 
 def make_figure(caption: str, words: str, drawn: Markup) -> Markup:
-    """Return a picture with a caption."""
+    """Return a picture with a caption, followed by `words` in small print."""
     return markup("<figure><figcaption>{} <small>{}</small></figcaption>{}</figure>", caption,
                   words, drawn)

@@ -260,7 +260,7 @@ def add_options(parser: ToolParser, options: Iterable[Option] | None = None) -> 
 
 
 def group_number(option: Option) -> int:
-    """Return the number of an option's group."""
+    """Return the number of an option's group in the help, that of `ACCEPTED` by default."""
     titles = [title for title, names in GROUPS.items() if option.name in names]
     return [*GROUPS].index(titles[0] if titles else ACCEPTED)
 

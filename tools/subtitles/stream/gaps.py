@@ -82,7 +82,7 @@ def is_within(ticks: int, place: LossPlace) -> bool:
 
 
 def overlap(place: LossPlace, other: LossPlace) -> bool:
-    """Return whether two places overlap."""
+    """Return whether neither of two places is after the other."""
     return not is_after(place, other) and not is_after(other, place)
 
 

@@ -217,7 +217,7 @@ def find_column_layouts(layout: Layout, pairs: Sequence[SentLine], subtitles: Se
 
 
 def draws_as_sent(layout: Layout, sent: SentSubtitle, option: NationalOption) -> bool:
-    """Return whether a layout draws a subtitle as it was sent."""
+    """Return whether a layout can draw a subtitle and draws it as it was sent."""
     lines = draw_text(sent.text, sent.row, sent.justify, layout, option)
     return not isinstance(lines, TextFault) and make_page_rows(lines) == sent.rows
 
@@ -337,7 +337,7 @@ def list_items(layout: Layout) -> list[LayoutItem]:
 
 
 def remove_items(layout: Layout, group: Iterable[LayoutItem]) -> Layout:
-    """Return a layout without a group of items."""
+    """Return a layout with the default values for a group of items."""
     removed_items = {*group}
     layout = layout._replace(strip=bytes(
         code for code in layout.strip if ("strip", code) not in removed_items))
