@@ -40,7 +40,7 @@ EVEN_PARITY = "a byte of its rows has even parity"
 class Cause(NamedTuple):
     """The reason why a subtitle is refused."""
 
-    subtitle_index: int  # among the judged subtitles
+    subtitle_index: int  # index among the judged subtitles
     name: str
     frames: int | None  # number of frames by which it is late or early
     sent_page: Rows | None  # the page that was sent

@@ -53,11 +53,11 @@ class CheckOutput:
         """Discard all faults read so far."""
         self.fault_count = 0
         self.counts_by_number: collections.Counter[int] = collections.Counter()  # number of faults
-        self.first_faults: dict[int, FaultLine] = {}  # by fault number
+        self.first_faults: dict[int, FaultLine] = {}  # first fault with each fault number
         # The fault that `check` prints without `--all`
         self.first_fault: FaultLine | None = None
         self.fault_spans: dict[int, Spans] = {}  # frames of all faults, by fault number
-        self.fault_ends: dict[int, FaultEnd] = {}  # by position in the list
+        self.fault_ends: dict[int, FaultEnd] = {}  # end of each fault, by position in the list
         self.last_positions: dict[str, int] = {}  # position of the last fault with each number
         self.skipping_fault = ""  # the last fault that made `check` skip PES packets
         self.skipped_packets, self.trusted_frames = Spans(), Spans()

@@ -41,7 +41,7 @@ class Part:
     number: int
     request: Request
     names: OutputNames
-    check_output: CheckOutput  # faults that `check` reports; the fields below explain them
+    check_output: CheckOutput  # faults that `check` reports
     alignment: TimedPart | None = None  # its frames and clock, if it has a recording
     recording: Recording | None = None
     skipped_positions: Collection[int] = ()
@@ -84,7 +84,7 @@ class Part:
 
     @property
     def judged_recording(self) -> tuple[Recording, TimedPart]:
-        """Return the recording, and the frames and the clock of the part, which must have one."""
+        """Return the recording, and the frames and the clock. The part must have a recording."""
         assert self.recording and self.alignment
         return self.recording, self.alignment
 

@@ -153,7 +153,7 @@ class ValidSubtitles(NamedTuple):
 
     judged: list[Subtitle]
     refused: list[RefusedSubtitle]
-    skipped_positions: frozenset[int]  # of the subtitles that are not judged
+    skipped_positions: frozenset[int]  # positions of the subtitles that are not judged
 
     def format_lines(self) -> Iterator[str]:
         """Yield a line about each refused subtitle, up to a maximum number of lines."""

@@ -39,7 +39,7 @@ class PartSearch(NamedTuple):
     # The first and the last frame of the subtitles, and the clock if one was given
     full_range: TimedPart
     allowed_packets: Range | None  # PES packets that may be judged
-    skipped_positions: frozenset[int] = frozenset()  # of subtitles to skip
+    skipped_positions: frozenset[int] = frozenset()  # positions of the subtitles to skip
     # Whether the first judged subtitle directly follows a subtitle that has the same text and is
     # not judged
     is_continued: bool = False
@@ -227,9 +227,9 @@ UNCHECKED = "not checked for"  # the beginning of a note
 
 
 def measure_part_pace(part: Part, times: Sequence[tuple[int, int]], listener: Listener) -> Part:
-    """Return a copy of the part in which --pace is the longest usual interval between PES packets,
-    unless it was given or the intervals are irregular. Add notes about losses that can't be
-    detected. `times` has the TCI and TCO of each subtitle."""
+    """Return a copy of the part in which --pace follows from the usual intervals between PES
+    packets, unless --pace is given or the intervals are irregular. Add notes about losses that
+    can't be detected. `times` has the TCI and TCO of each subtitle."""
     number, request, (recording, _) = part.number, part.request, part.judged_recording
     pace, unseen = measure_pace(part, times)
     jumps, count = find_late_jumps(part, pace)

@@ -45,7 +45,7 @@ OTHER_LETTERS = "has other characters"
 
 
 class PageHeader(NamedTuple):
-    """A header of the page, the previous header, and whether the page was still open before it."""
+    """A header of the page, the header before it, and whether the page was still open."""
 
     header: bytes
     previous: bytes | None = None
