@@ -51,7 +51,7 @@ class SourceNames:
                 self.add_path(top, os.path.relpath(os.path.join(place, name), top))
 
     def add_path(self, top: str, path: str) -> None:
-        """Add a path, below the top and below its crate, and the words in it."""
+        """Add a path, as seen from the top and from its crate, and the words in it."""
         parts = path.split(os.sep)
         for start in {0, *((1, 2) if parts[0] == "crates" else ())}:
             self.paths |= {"/".join(parts[start:]), os.path.splitext("/".join(parts[start:]))[0]}

@@ -105,7 +105,7 @@ def set_modes_and_times(root: str, time: int) -> None:
 
 
 def make_package(program: str, proved: str, version: str, work: str, path: str, time: int) -> None:
-    """Build the package at `path` in the empty folder `work`. Equal files give equal bytes."""
+    """Build the package at `path`. `work` is an empty folder. Equal files give equal bytes."""
     if not shutil.which("dpkg-deb"):
         raise Stop("dpkg-deb is not installed: it is in Debian's package dpkg")
     if not re.fullmatch(r"[0-9][A-Za-z0-9.+~]*", version):

@@ -43,7 +43,10 @@ class Definition:
         return [line for line in self.text if not line.lstrip().startswith("--")]
 
     def parts(self) -> list[str]:
-        """Return the parts that bind names separately: a type and each equation, or a record."""
+        """Return the parts of the text that bind names separately.
+
+        These are the type and each equation of a function. A record is a single part.
+        """
         chunks: list[str] = []
         for line in self.code():
             if chunks and not (self.is_function and re.match(r"[^\s})]", line)):

@@ -40,7 +40,10 @@ class Edit(NamedTuple):
         return os.path.join(CRATES, self.crate, self.folder, self.name + ".edit")
 
     def matches(self, word: str) -> bool:
-        """Return whether `word` is NAME, CRATE/NAME, CRATE/FOLDER/NAME or CRATE of this edit."""
+        """Return whether `word` names this edit.
+
+        It may be NAME, CRATE/NAME or CRATE/FOLDER/NAME, or CRATE for all edits of a crate.
+        """
         word = word.removesuffix(".edit").removeprefix("crates/")
         return word in (self.name, self.crate, f"{self.crate}/{self.name}", str(self))
 

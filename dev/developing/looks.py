@@ -133,7 +133,10 @@ class BrowserView(NamedTuple):
 
 
 def find_defects(looks: Sequence[BrowserView], folder: str) -> list[list[str]]:
-    """Return the defects that a browser, which loads all reports in one page, finds in each."""
+    """Return the defects that a browser finds in each report.
+
+    The browser loads all reports in one page.
+    """
     frames = "".join(f'<iframe src="{write_framed(look, folder, number)}" style="border:0;'
                      f'width:{look.width}px;height:2000px"></iframe>'
                      for number, look in enumerate(looks))

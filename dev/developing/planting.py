@@ -185,7 +185,10 @@ class LoadedCopy:
 
 
 def run_forked(serve: Callable[[], Answer], seconds: float) -> Answer:
-    """Run `serve` in a forked process, which is killed after `seconds` with the answer TOO_LONG."""
+    """Run `serve` in a forked process, and return its answer.
+
+    After `seconds`, kill the process and its children, and return an answer with TOO_LONG.
+    """
     reading, writing = os.pipe()
     child = os.fork()
     if not child:

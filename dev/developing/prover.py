@@ -51,7 +51,7 @@ class Prover:
                 else self.get_library_path(crate))
 
     def make_prove_command(self, crate: str, jobs: int) -> list[str]:
-        """Return the command that, in a crate's folder, proves it and writes its library."""
+        """Return the command that proves a crate in its folder and writes the crate's library."""
         root = "src/main.rt" if crate == PROGRAM else "src/lib.rt"
         words = [os.path.join(self.programs, "rattle"), "build", "--crate-name", crate, root]
         for name in ["std", *self.lines[crate]]:

@@ -193,7 +193,7 @@ class Setup(NamedTuple):
 
 
 def split_output(printed: bytes, errors: bytes, count: int) -> list[tuple[int, bytes, bytes]]:
-    """Return status (negative for a signal), output and error text of each run in a shell."""
+    """Return the status (negative for a signal), output and error text of each run in a shell."""
     end = END_FORMAT.replace("\\0", "\0").encode()
     texts, error_text = printed.split(end), errors.split(end)
     if (len(texts), len(error_text)) != (2 * count + 1, count + 1):

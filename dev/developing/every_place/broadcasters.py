@@ -118,7 +118,7 @@ def change_page_body(rng: Random, teletext: list[bytes]) -> None:
 
 
 def keep_pages(rng: Random, pes: bytes) -> bytes:
-    """Clear C4 in headers, mostly of repeated pages, occasionally with changed rows and subcode."""
+    """Clear C4 in random headers, usually of repeated pages. Sometimes also change these pages."""
     packets: list[bytes] = []
     previous_packets: list[bytes] = []
     repeats = RepeatSettings(rng.choice([0.3, 0.9, 1.0]), rng.choice([0, 0, 0, 0.08, 1.0]),

@@ -154,7 +154,10 @@ def damage_packet(rng: Random, packet: bytearray) -> None:
 
 
 def damage_packets(rng: Random, packets: list[bytearray]) -> None:
-    """Damage some of several consecutive PES packets, and occasionally repeat an earlier packet."""
+    """Damage several consecutive PES packets, either in the same way or in different ways.
+
+    Some packets may stay intact, and an earlier packet may be repeated next to them.
+    """
     first = rng.randrange(len(packets))
     count = rng.choice([1, 1, 2, 3, 4, 8, len(packets)])
     seed = rng.random() if rng.random() < 0.6 else None

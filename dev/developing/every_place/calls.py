@@ -22,7 +22,10 @@ class Answer(NamedTuple):
 
 
 class Call(NamedTuple):
-    """A call of a command. If `is_failing` is true, reading its last file fails at the end."""
+    """A command with its input files and arguments.
+
+    If `is_failing` is true, reading the last file fails at its end.
+    """
 
     name: str
     command: str

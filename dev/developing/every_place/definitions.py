@@ -66,7 +66,7 @@ class Transmission:
         self.skipped = None
 
     def receive(self, pes: int, frame: int, teletext: list[bytes]) -> None:
-        """Process a PES packet. If pages may be late, process those of a frame together."""
+        """Process a PES packet. If pages may be late, process a frame's PES packets together."""
         if self.options.within == 0 or self.frames[-1:] != [frame]:
             self.end_current_frame()
             self.begin_frame(pes, frame)
@@ -127,7 +127,7 @@ class Transmission:
                     FrameEnd(frame, bool(ends.active), ends.incomplete_since, ends.is_late))
 
     def end_file(self, end_fault: int | None, pes: int) -> None:
-        """Process the end of a file after `pes` items, and the fault in its other bytes."""
+        """Process the end of the file after `pes` items. `end_fault` is a fault in later bytes."""
         self.end_current_frame()
         self.end_skipped()
         for number, line in self.ends.list_final_lines():

@@ -228,7 +228,7 @@ def add_refused_subtitles(broadcaster_rng: Random, stl: bytes, arguments: list[s
 
 def make_random_pair(seed: int, schedule: Schedule, is_refused: bool = False,
                      keeps_pages: bool = False) -> Pair:
-    """Return a random pair of files; `schedule` makes transmissions.
+    """Return a random pair of files, whose transmission `schedule` makes.
 
     `is_refused` asks for refused subtitles, `keeps_pages` for headers that keep the page.
     """

@@ -142,7 +142,7 @@ def multiplex(rng: Random, packets: list[bytes], pid: int, has_jumps: bool) -> l
 
 
 def join_units(rng: Random, units: list[Unit], size: int) -> bytes:
-    """Join units, with time stamps before them if `size` is 192, or 16 bytes after them if 204."""
+    """Join units. Add a time stamp before each if `size` is 192, or 16 bytes after each if 204."""
     before, behind = (TIME_STAMP, 0) if size == 192 else (0, size - PACKET)
     data = b"".join(make_random_bytes(rng, before) + one.packet + make_random_bytes(rng, behind)
                     for one in units)

@@ -29,7 +29,10 @@ def has_times(header: bytes) -> bool:
 
 
 def form_of(kind: int, data: bytes) -> str | None:
-    """Return `open`, `closed` or `unknown` for a group of pictures, `None` without enough data."""
+    """Return the form of a group of pictures: `open`, `closed` or `unknown`.
+
+    `data` is from the first picture of the group. Return `None` if more of it is needed.
+    """
     if kind == H264:
         return "open"
     if kind not in (*MPEG, HEVC):

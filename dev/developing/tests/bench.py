@@ -84,7 +84,8 @@ class Case(unittest.TestCase):
         self.folder = self.bench.make_folder(self.id().rpartition("tests.")[2])
 
     def must(self, name: str, is_right: object, told: object = "") -> bool:
-        """Check a condition. Continue after a failure. Prefer `check` for an expected value."""
+        """Check a condition. Continue after a failure. Use `check` if there is an expected value.
+        """
         with self.subTest(name):
             if not is_right:
                 frame = calling_frame()
@@ -130,7 +131,10 @@ class Case(unittest.TestCase):
 
     def call(self, command: Sequence[str], data: bytes | None = None,
              env: dict[str, str] | None = None, user: int | None = None, folder: str = "") -> Done:
-        """Run a command in the test's folder. Fork for Python tools without `env` and `user`."""
+        """Run a command in the test's folder or in a folder within it.
+
+        Python tools run in a fork of this process, unless `env` or `user` is given.
+        """
         does = forked_tool(command) if env is None and user is None else None
         done = subprocess.run(command, cwd=os.path.join(self.folder, folder), check=False,
                               stdout=subprocess.PIPE, stderr=subprocess.PIPE, timeout=SECONDS,

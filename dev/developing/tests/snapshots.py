@@ -113,7 +113,7 @@ def report_text(number: int) -> list[str]:
 
 
 def text_of(name: str) -> list[str]:
-    """Return the lines to store for a run of qc: `call 17`, `named a list` or `report 3`."""
+    """Return the lines to store for a run of qc such as `call 17`, `named a list`, `report 3`."""
     kind, _, rest = name.partition(" ")
     if kind == "call":
         return call_text(random_calls.run_random_call(int(rest), BENCH.program))

@@ -210,7 +210,7 @@ def multiplex_frames(pes: list[bytes], begin: int, count: int, rounds: int = 66,
               page: int = 0x88) -> Iterator[bytes]:
     """Yield the frames of a transport stream.
 
-    Each frame has a PCR, PES packets, and 16 * `rounds` video packets (40 Mbit/s if 66 rounds).
+    Each frame has a PCR, PES packets, and 16 * `rounds` video packets. 66 rounds are 40 Mbit/s.
     """
     maker = Maker(components(descriptor=teletext_descriptor(page=page)))
     filler = b"".join(make_head(VIDEO_PID, 0, PAYLOAD | counter) + b"\x55" * (PACKET - 4)
@@ -355,7 +355,7 @@ def with_loss(made: Sequence[Packet], pts: int, count: int, is_announced: bool =
 
 
 def delete_between(made: list[Packet], first: int, count: int) -> list[Packet]:
-    """Delete all packets from Teletext packet `first` to the one before `first + count`."""
+    """Delete all packets from Teletext packet `first` until Teletext packet `first + count`."""
     own = [at for at, one in enumerate(made) if one.pid == TELETEXT_PID]
     return made[:own[first]] + made[own[first + count]:]
 

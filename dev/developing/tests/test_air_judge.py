@@ -25,7 +25,7 @@ OTHER = NAME.replace("one", "two")
 class Trial(NamedTuple):
     """A test case: what is recorded and sent, and the expected verdict with its reason.
 
-    Times are in seconds. `missing` was not recorded. The verdict is due `after` the scheduled end.
+    `missing` is not recorded. The verdict is due `after` seconds after the scheduled end.
     """
 
     recorded: tuple[int, int]

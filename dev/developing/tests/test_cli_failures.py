@@ -80,7 +80,7 @@ class CallCase(Case):
 
     def fake_program(self, *lines: str, then: str = "exit 0", alone: Sequence[str] = EMPTY,
                then_alone: str = "exit 1") -> str:
-        """Write a fake subttx that prints `lines` for a recording, `alone` for a subtitle file."""
+        """Write a fake subttx that prints `lines` for a recording and `alone` for a file alone."""
         text = PROGRAM.replace("{program}", self.bench.program)
         for place, some, end in (("{said}", lines, then), ("{alone}", alone, then_alone)):
             quoted = " ".join(f"'{line}'" for line in some)

@@ -279,7 +279,10 @@ def count_judged(case: Case) -> int:
 
 
 def reaches_pair(case: Case, folder: str, count: int) -> bool:
-    """Return whether a folder gets `count` results and the next check begins before the limit."""
+    """Wait until a folder has `count` results and the check of the next pair has begun.
+
+    Return whether this happened in time.
+    """
     return wait_until(lambda: os.path.isdir(case.path(folder)) and count_judged(case) == count + 1
                  and len(results_in(case, folder)) == count)
 

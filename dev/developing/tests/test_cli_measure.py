@@ -221,7 +221,7 @@ class Profiles(Case):
             self.measure(seed)
 
     def measure(self, seed: int) -> bool:
-        """Measure one or two random programmes. Return whether their profile accepts all."""
+        """Measure one or two random programmes. Return whether their profile accepts them."""
         chance = random.Random(seed)
         inserter = chance.choice(INSERTERS)
         made = [Programme(self, 10 * seed + number, inserter)

@@ -37,7 +37,10 @@ def page_changes(cues: Sequence[ExpectedCue], origin: int) -> list[Sending]:
 
 def packets_of(sendings: Sequence[Sending], every: int = 0, chance: random.Random | None = None) \
         -> Packets:
-    """Return the PES packets of page transmissions, repeated every `every` frames if not 0."""
+    """Return the PES packets of page transmissions.
+
+    If `every` is not 0, each page transmission is repeated every `every` frames.
+    """
     made = Packets(0)
     shown: bytes | None = None
     for at, (pts, letters) in enumerate(sendings):

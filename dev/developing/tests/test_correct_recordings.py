@@ -97,7 +97,7 @@ def late_inserter(kind: str, count: int, is_adjoining: bool) -> Callable[[Case],
 
 
 def inserters() -> Iterator[Recording]:
-    """Yield recordings by each inserter, of programmes of three lengths, judged without a clock."""
+    """Yield recordings of three lengths by each inserter. They are judged without a clock."""
     for kind, (begins, ends) in SHARES.items():
         within = max([1, *begins, *ends])
         for count in (12, 24, 80):

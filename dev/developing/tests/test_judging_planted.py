@@ -114,7 +114,7 @@ class Advice(ProgrammeCase):
             self.check(f"{number}", [one for one in ADVICE if one in words and number != 79], [])
 
 
-COUNT, NAMED = 100, 95  # number of programmes, and of faults that must be named at least
+COUNT, NAMED = 100, 95  # number of programmes, and minimum number of named faults
 
 
 def sentence_of(case: Case, made: Programme) -> str:

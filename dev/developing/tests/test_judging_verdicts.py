@@ -294,7 +294,7 @@ class PartDecisions(Case):
             self.must(f"{count} {pes} {lines}", part.is_read() == wanted)
 
         lines = [f"refused {refused}", trusted, "1 faults"]
-        for first, last in ((900_000, 900_024), (900_000, 900_049)):  # lost frames of 50 clean ones
+        for first, last in ((900_000, 900_024), (900_000, 900_049)):  # 25 or 50 frames are lost
             part = make_part(900_000, 900_050, 0, make_answer(lines), pes=(0, 1), places=[
                 loss_between(first - 1, last + 2, missing=9)])
             self.must(f"a hole from {first} to {last}", part.is_read() == (last < 900_049))

@@ -170,7 +170,10 @@ def text_of(item: tree.Element) -> str:
 
 
 def report_made(number: int, folder: str) -> tuple[JudgedPair, str]:
-    """Judge the random pair with a seed. Return the pair and its report, or an empty string."""
+    """Judge the random pair with the seed `number`. Return the judged pair and its report.
+
+    The report is an empty string if qc writes no report.
+    """
     out = os.path.join(folder, "out")
     found = judge_files_with(BENCH.program, *RandomPair(number, folder).words(), "-o", out)
     path = os.path.join(out, "one.html")

@@ -37,13 +37,16 @@ class Row(NamedTuple):
 
 
 def holed(frames: Sequence[int], *holes: tuple[int, int]) -> list[int]:
-    """Return frames without `holes`, each a frame and the number of missing frames after it."""
+    """Return the frames without those in `holes`.
+
+    A hole is a pair: a frame, and the number of missing frames after it.
+    """
     missing = {frame for first, count in holes for frame in range(first + 1, first + 1 + count)}
     return [frame for frame in frames if frame not in missing]
 
 
 def without_frames(count: int) -> list[int]:
-    """Return frame numbers of PES packets, twice each, without `count` consecutive frames."""
+    """Return the frames of PES packets: two packets in each frame, but none in `count` frames."""
     return [at // 2 for at in range(800) if not 200 <= at // 2 < 200 + count]
 
 

@@ -193,7 +193,7 @@ class PictureLines(Case):
               ) -> list[bytes]:
         """Split a PES packet at the offsets `cuts`, and return its TS packets.
 
-        `flagged` sets the random_access_indicator in the first TS packet, numbered `counter`.
+        The first TS packet has the counter `counter`, and random_access_indicator if `flagged`.
         """
         maker = Maker([])
         maker.counters[VIDEO_PID] = counter + 15
