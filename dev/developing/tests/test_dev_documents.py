@@ -201,8 +201,7 @@ PACKAGES = [*(os.path.join("tools", "subtitles", name)
               for name in ("common", "formats", "request", "stream", "clock", "recording",
                            "judging", "results", "report", "cli", "air")),
             os.path.join("dev", "developing"), os.path.join("dev", "developing", "every_place")]
-# A row of a table or an item of a list that begins with names.
-ROW = re.compile(r"^[|-] (`.*?`)(?: \||:? )", re.M)
+SCRIPT = re.compile(r"`([a-z][\w.-]*/?)`")  # name of a script or folder in these lists
 LINE = re.compile(r"^([a-z_]+) +\S", re.M)  # line of the module list in __init__.py
 
 
@@ -216,8 +215,9 @@ class ModuleLists(Case):
     def test_contributing_lists_all_scripts(self) -> None:
         contributing = read(os.path.join(TOP, "CONTRIBUTING.md")) or ""
         for name, heading in FOLDERS:
-            rows = re.findall(r"`(.+?)`", " ".join(ROW.findall(
-                contributing.partition(f"## {heading}\n")[2].partition("\n## ")[0])))
+            section = contributing.partition(f"## {heading}\n")[2].partition("\n## ")[0]
+            rows = [row for row in SCRIPT.findall(section)
+                    if row[-1] != "/" or not os.path.exists(os.path.join(TOP, row))]
             wanted = [entry for entry in entries(os.path.join(TOP, name))
                       if entry not in ("subtitles/", "developing/")]
             self.must(name, sorted(rows) == sorted(wanted), set(rows) ^ set(wanted))
@@ -262,7 +262,7 @@ class ModuleLists(Case):
 
     def test_stated_sizes_are_right_to_a_tenth(self) -> None:
         text = read(os.path.join(TOP, "docs", "ASSURANCE.md")) or ""
-        _, _, reported = text.partition("(`dev/sizes`): ")
+        _, _, reported = text.partition("The crates contain ")
         numbers = [int(one.replace(",", ""))
                    for one in re.findall(r"\d+,\d+", reported)[:len(KINDS)]]
         counts = add_sizes(count_lines(TOP))

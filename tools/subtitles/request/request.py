@@ -200,9 +200,9 @@ OPTIONS: tuple[Option, ...] = (
     Option("--within", "N", "accept pages that are complete at most N frames after their cues",
            MEASURED_PAIRS, "0", field="within", default=0, read=parse_within, check_default=0,
            is_in_profile=True, shape=Integer(0, MAX_WITHIN)),
-    Option("--late", "SHARES", "choose the likeliest clock by the shares of in-cues and, after "
-           "the slash, out-cues that are usually 0, 1 .. frames late, as `0:31,1:40,2:29/0:100`; "
-           "only with `--within`",
+    Option("--late", "SHARES", "choose the likeliest clock; SHARES are the usual shares of "
+           "in-cues and, after the slash, of out-cues that are 0, 1 .. frames late, as "
+           "`0:31,1:40,2:29/0:100`; only with `--within`",
            PAIRS, "none", field="late", read=parse_lateness, write=format_lateness,
            is_in_profile=True,
            shape=Maybe(Text()), result_value=lambda late: late and format_lateness(late)),

@@ -45,14 +45,14 @@ FILE = Record(
 
 SUBTITLE = Record(
     "subtitle", "",
-    Member("position", COUNT, "The position in the subtitle file or part, from 1. A comment "
-           "or user data has the position of the previous subtitle."),
+    Member("position", COUNT, "The subtitle's position in the subtitle file or part, from 1. "
+           "A comment or user data has the position of the previous subtitle."),
     Member("number", Integer(0, 65535), "The SN."),
     Member("begin", CODE_TIME, "The TCI."),
     Member("end", CODE_TIME, "The TCO."))
 
 CAUSE_NAME = name_shape("cause_name", OneOf(*CAUSE_NAMES))
-OTHER_SUBTITLE = "The subtitle with the received text."
+OTHER_SUBTITLE = "The subtitle whose text was received."
 CAUSE_MEMBERS = (
     Member("subtitle", SUBTITLE),
     Member("name", CAUSE_NAME),
@@ -63,7 +63,8 @@ CAUSE_MEMBERS = (
     Member("other_number", Maybe(Integer(0, 65535)), OTHER_SUBTITLE),
     Member("other_position", Maybe(Integer(1, MAX_NUMBER)), OTHER_SUBTITLE),
     Member("line", Text()))
-CAUSE = Record("cause", "All faults 72 of a subtitle have the same cause.", *CAUSE_MEMBERS)
+CAUSE = Record("cause", "All reports of fault 72 in a subtitle have the same cause.",
+               *CAUSE_MEMBERS)
 LISTED_CAUSE = Record("listed_cause", "",
                       Member("part", PART), *CAUSE_MEMBERS)
 
@@ -75,24 +76,24 @@ CELL = Record(
 FAULT = Record(
     "fault", "",
     Member("part", PART),
-    Member("line", Text(r"refused [ -~]+", 200), "The line that check --all prints."),
+    Member("line", Text(r"refused [ -~]+", 200), "The line that `check --all` prints."),
     Member("number", Maybe(Integer(FIRST_FAULT, LAST_FAULT))),
     Member("name", Text(r"[A-Za-z]+( [a-z]+)?", 40)),
-    Member("severity", OneOf("error", "warning"), "error, or warning for a waived fault."),
-    Member("file", OneOf("stl", "pes"), "stl, or pes for the recording."),
-    Member("block", Maybe(COUNT), "The TTI block, from 1; 0 for the GSI block."),
+    Member("severity", OneOf("error", "warning"), "`error`, or `warning` for a waived fault."),
+    Member("file", OneOf("stl", "pes"), "`stl` for the subtitle file, `pes` for the recording."),
+    Member("block", Maybe(COUNT), "The number of the TTI block, from 1; 0 means the GSI block."),
     Member("subtitle", Maybe(SUBTITLE),
            "The subtitle of the block, or the expected subtitle at the frame."),
     Member("byte", Maybe(Text(r"[0-9A-F]{2}")), "The refused byte of faults 50 and 51, in "
            "hexadecimal."),
     Member("character", Maybe(Text()), "The character of this byte."),
-    Member("text_offset", Maybe(COUNT), "The offset of this byte in the text, or for faults 52 to "
-           "55 the line, from 0."),
-    Member("pes", Maybe(COUNT), "The PES packet, from 0 (in a feed: from the start of the judged "
-           "part); null if the fault is between PES packets."),
+    Member("text_offset", Maybe(COUNT), "The offset of this byte in the text or, for faults 52 to "
+           "55, the number of the line; both from 0."),
+    Member("pes", Maybe(COUNT), "The number of the PES packet, from 0 (in a feed: from the start "
+           "of the judged part); null if the fault is between PES packets."),
     Member("pes_pts", Maybe(PTS)),
     Member("pes_time", Maybe(TIME)),
-    Member("packet", Maybe(COUNT), "The Teletext packet in the frame, from 0."),
+    Member("packet", Maybe(COUNT), "The number of the Teletext packet in the frame, from 0."),
     Member("frame", Maybe(Integer(0, FRAMES_OF_A_DAY - 1)), "The frame, counted from "
            "midnight."),
     Member("time", Maybe(TIME)),
@@ -120,7 +121,7 @@ CLOCK_OF_PART = Record(
     Member("source", OneOf(*SOURCES), "recording (estimated), given (--origin), start (--start "
            "TIME) or tcp (--start tcp)."),
     Member("delay_frames", Maybe(Integer(-FRAMES_OF_A_DAY, FRAMES_OF_A_DAY)), "The number of "
-           "frames by which cues are later than this clock."))
+           "frames by which the cues come later than this clock predicts."))
 
 
 class PartResult(NamedTuple):
@@ -143,10 +144,10 @@ JUDGED_PART = Record(
     Member("origin", Maybe(PTS), getter=lambda of: of.part.origin),
     Member("from", Maybe(TIME), getter=lambda of: of.part.time_codes()[0]),
     Member("to", Maybe(TIME), getter=lambda of: of.part.time_codes()[1]),
-    Member("verdict", OneOf("accepted", "refused", "not judged"), "not judged means that a signal "
-           "ended the call after the listed faults.",
+    Member("verdict", OneOf("accepted", "refused", "not judged"), "`not judged` means that a "
+           "signal ended the call after the listed faults.",
            lambda of: of.part.check_output.verdict),
-    Member("line", Text(), "The last line of check without --all.",
+    Member("line", Text(), "The last line that `check` prints without `--all`.",
            lambda of: of.part.check_output.line),
     Member("frames", Maybe(COUNT), getter=lambda of: of.part.check_output.frames),
     Member("transmissions", Maybe(COUNT), getter=lambda of: of.part.check_output.transmissions),
@@ -170,7 +171,8 @@ LOSS = Record(
     Member("to_pts", Maybe(PTS), AROUND_LOSS, lambda gap: gap.place.after),
     Member("gap_marker", Maybe(COUNT), "The number of the gap marker among the PES packets.",
            lambda gap: gap.place.gap_marker),
-    Member("lost_ts_packets", COUNT, "The continuity counters do not show multiples of 16.",
+    Member("lost_ts_packets", COUNT, "The continuity counters do not show a loss of 16 packets or "
+           "a multiple of 16.",
            lambda gap: gap.place.lost),
     Member("scrambled_ts_packets", COUNT, getter=lambda gap: gap.place.scrambled),
     Member("missing_ticks", COUNT, "The length in 90 kHz ticks; 0 if the PCR does not show the "
@@ -195,8 +197,8 @@ CUE = Record(
     Member("part", PART),
     Member("position", Integer(1, MAX_NUMBER)),
     Member("number", Integer(0, 65535)),
-    Member("recording_offset", Maybe(Text(r"[0-9]+:[0-9]{2}:[0-9]{2}")), "The TCI "
-           "from the recording's beginning, as H:MM:SS."),
+    Member("recording_offset", Maybe(Text(r"[0-9]+:[0-9]{2}:[0-9]{2}")), "The TCI, "
+           "counted from the recording's beginning, as H:MM:SS."),
     Member("expected_in", CODE_TIME),
     Member("expected_out", CODE_TIME),
     Member("actual_in", Maybe(TIME), "The first frame at whose end a receiver has the page, or "
@@ -211,13 +213,13 @@ CUE = Record(
            "are warnings) or not known (it could not be judged)."),
     Member("reason", Maybe(Text())),
     Member("complete_after", Maybe(COUNT), "The number of frames from the TCI until the page was "
-           "complete, and with --complete closed."))
+           "complete and, with `--complete`, closed."))
 
 CHOICE = Record(
     "choice", "",
-    Member("part", Maybe(PART), "Null for all parts."),
+    Member("part", Maybe(PART), "Null if the choice applies to all parts."),
     Member("option", OneOf(*CHOICES), getter=lambda choice: choice.option),
-    Member("value", Maybe(Text()), "Null if qc chose no value."),
+    Member("value", Maybe(Text()), "Null if `qc` chose no value."),
     Member("matches", Maybe(COUNT), "The number of PES packets (for pid and pes), cues (origin) or "
            "positions (pace) that match the value.",
            lambda choice: choice.match_count),
@@ -228,7 +230,7 @@ PROGRAM = Record(
     "program", "",
     Member("version", Text()),
     Member("sha256", CHECKSUM),
-    Member("proof", Maybe(Text()), "The line of the prover.",
+    Member("proof", Maybe(Text()), "The line that the prover printed.",
            lambda program: program.proved))
 
 SPREAD = Record(
@@ -330,11 +332,11 @@ LISTS = (
     Member("commands", Listed(Text(), MAX_LISTED), getter=lambda known: known.verdict.commands),
     Member("choices", Listed(CHOICE, MAX_LISTED),
            getter=lambda known: known.verdict.selections),
-    Member("trusted_frames", Listed(TRUSTED, MAX_LISTED), "The list is empty if check "
+    Member("trusted_frames", Listed(TRUSTED, MAX_LISTED), "The list is empty if `check` "
            "accepts the part.", list_trusted_frames),
     Member("faults", Listed(FAULT, MAX_LISTED), "Faults without a number come first.",
            lambda known: make_faults(known.verdict)),
-    Member("causes", Listed(LISTED_CAUSE, MAX_LISTED), "Each cause also has a key part.",
+    Member("causes", Listed(LISTED_CAUSE, MAX_LISTED), "Each cause also has a key named `part`.",
            list_cause_rows),
     Member("subtitles", Listed(CUE, MAX_SUBTITLES), "The list includes refused "
            "subtitles. A fault between two subtitles belongs to neither.",
@@ -412,7 +414,7 @@ def schema() -> Schema:
         "$schema": "http://json-schema.org/draft-07/schema#",
         "$comment": "tools/qc --json writes this format; dev/make-pages makes this file. All "
                     "members are always present; null means unknown or not applicable. Times are "
-                    "HH:MM:SS:FF at 25 frames a second, in the time of the subtitle file.",
+                    "HH:MM:SS:FF at 25 frames a second, on the subtitle file's clock.",
         "title": "A verdict on a subtitle file and its recording, or on a batch of them",
         "oneOf": [one.make_reference() for one in (VERDICT, BATCH, NO_PAIR)],
         "definitions": {**make_definitions([VERDICT, NO_PAIR]), BATCH.name: batch}}
