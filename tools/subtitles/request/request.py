@@ -108,7 +108,7 @@ class Option(NamedTuple):
 
 
 def remove_markup(text: str) -> str:
-    """Remove links and backquotes of Markdown from a text."""
+    """Remove Markdown links and backquotes from a text."""
     while "](" in text:
         before, _, rest = text.partition("](")
         start = before.rindex("[")
