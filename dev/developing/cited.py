@@ -1,8 +1,8 @@
 """Check names and numbers in the documents.
 
 Names in backquotes must be names in the sources. The documents give the number of lines of the
-definitions on which a law depends, and numbers about the proof. They must equal the numbers that
-this module counts.
+definitions on which a law (a theorem) depends, and numbers about the proof. They must equal the
+numbers that this module counts.
 """
 from __future__ import annotations
 

@@ -121,7 +121,7 @@ TEXTS = [add_blocks_after_eight("no more", b""),
 
 
 def make_pes_at(*frames: tuple[int, list[bytes]]) -> bytes:
-    """Return PES packets. Each item has a frame after 10:00:00:00, and Teletext packets."""
+    """Return PES packets from their frames after 10:00:00:00 and their Teletext packets."""
     return b"".join(make_pes_packet((FIRST + frame) * TICKS, packets) for frame, packets in frames)
 
 

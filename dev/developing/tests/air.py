@@ -24,7 +24,7 @@ MARGIN = 60
 
 
 class Sent(NamedTuple):
-    """A programme's actual times on air, and whether its subtitles are correct."""
+    """A programme's actual air times, and whether its subtitles are correct."""
 
     begin: float
     end: float

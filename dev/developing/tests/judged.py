@@ -23,7 +23,7 @@ from .bench import Case
 from .streams import Packet, stream_bytes
 from .transmissions import Sent, pes_file, packets, write_programme, schedule_pages, subtitle_times
 
-FEW = "there are too few PES packets to measure their interval"  # end of a note about the pace
+FEW = "there are too few PES packets to measure their interval"  # end of a note
 
 
 class LineRecorder(SilentPrinter):

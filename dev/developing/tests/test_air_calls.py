@@ -29,8 +29,8 @@ class Trial(NamedTuple):
     """A test case: what is recorded of the feed, and the expected verdict.
 
     `recorded` contains seconds of the feed. If `is_wrong` is true, two PES packets are missing.
-    `air` is the air time. `is_final` means that the verdict is final. `reason` is the beginning of
-    its reason.
+    `air` is the air time. `is_final` means that the verdict is final. `reason` is the start of the
+    expected reason.
     """
 
     recorded: tuple[int, int]

@@ -183,7 +183,7 @@ class Programme(NamedTuple):
     text: str
     file: list[Said]
     sent: list[Said]
-    step: int  # maximum frames between PES packets; 0 sends them only at page changes
+    step: int  # maximum number of frames between PES packets; if 0, only page changes send them
     place: int  # number of the first lost PES packet
     lost: int
     is_stream: bool

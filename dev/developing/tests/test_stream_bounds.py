@@ -61,8 +61,8 @@ class Silences(unittest.TestCase):
                 lull = Silence(first, last, is_near)
                 self.assertEqual(select_idle_silences([lull], every, pauses),
                                  [lull] * (wanted or is_near), (first, last, pauses))
-        # A silence at the end of a pause is idle if most pauses of this length end with a silence.
-        # Shorter pauses don't count.
+        # An interval without PES packets (a silence) at the end of a pause is idle if most pauses
+        # that are at least as long also end with a silence.
         silence = Silence(begin + 400, end, False)
         of_others: list[tuple[list[int], bool]] = [
             ([], True), ([500], False), ([499], True), ([499, 499], True), ([500, 499], False),
