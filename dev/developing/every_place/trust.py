@@ -63,7 +63,7 @@ class EventLog:
     """The events of a transmission, and its PES packets.
 
     `sent` and `ends` contain the PES packets and frame ends before the first PES packet that is out
-    of order; `has_rising_frames` is true if there is none. `skipped` contains the indices of
+    of order. `has_rising_frames` is true if all are in order. `skipped` contains the indices of
     unreadable PES packets. `has_trailing_bytes` is true if bytes follow the last PES packet.
     """
 
