@@ -61,7 +61,7 @@ class Announcements(Case):
             time = None if frame < 0 else f"00:00:{frame // 25:02}:{frame % 25:02}"
             where = f"from {time or f'PTS {pts}'} on"
             self.must(f"{origin} {frame}", [*find_timing_notices(packets, origin)] == [Notice(
-                "pts_behind", f"{where}, the PTS of the Teletext are behind the PCR, by up to "
+                "pts_behind", f"{where}, the Teletext PTS are behind the PCR, by up to "
                 "0.10 s in 1 of 3 samples", time)], [*find_timing_notices(packets, origin)])
 
     def test_finds_an_announced_page_that_is_not_sent(self) -> None:

@@ -243,7 +243,7 @@ def compute_start_clock(request: Request, survey: Survey, packets: Packets) -> S
     first, frame = find_first_picture(survey, packets.pid), read_start_frame(request)
     after = find_frame_offset(packets, first.pts, request.within)
     if after * 2 == TICKS:
-        raise Unclear(f"{first.line()}. The PTS of the Teletext are half a frame later, so it is "
+        raise Unclear(f"{first.line()}. The Teletext PTS are half a frame later, so it is "
                       "not clear to which frame they belong")
     ticks = after if after * 2 < TICKS else after - TICKS
     moved = wrap_pts(first.pts - TICKS * frame + ticks)

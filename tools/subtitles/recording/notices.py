@@ -47,7 +47,7 @@ def find_timing_notices(packets: Packets, origin: int) -> Iterator[Notice]:
         time = time_in(strange.pts, origin)
         where = f"from {time} on" if time else f"from PTS {strange.pts} on"
         yield Notice(f"pts_{strange.kind}",
-                     f"{where}, the PTS of the Teletext {ANOMALY_TEXTS[strange.kind]}, "
+                     f"{where}, the Teletext PTS {ANOMALY_TEXTS[strange.kind]}, "
                      f"by up to {abs(strange.worst) / SECOND:.2f} s in {strange.number} of "
                      f"{strange.total} samples", time)
 

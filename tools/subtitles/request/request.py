@@ -175,7 +175,7 @@ OPTIONS: tuple[Option, ...] = (
     Option("--pid", "PID", "judge this PID of a transport stream", MEASURED_PAIRS,
            "the PID that carries the page", field="pid", read=parse_pid,
            write=lambda pid: f"0x{pid:X}", is_in_profile=True, shape=Maybe(PID), note=PART_NOTE),
-    Option("--allow-lost", None, "treat lost TS packets (45, 79) as warnings", PAIRS,
+    Option("--allow-lost", None, "treat lost TS packets (faults 45 and 79) as warnings", PAIRS,
            "they are errors", field="is_loss_allowed", default=False, is_in_profile=True,
            shape=Flag()),
     Option("--no-allow-lost", None, "treat lost TS packets as errors, even if the profile allows "

@@ -371,9 +371,11 @@ VERDICT = Record(
     Member("inputs", INPUTS, getter=lambda known: known.verdict),
     Member("program", PROGRAM),
     Member("date", DATE, getter=lambda known: known.verdict.date),
-    Member("seconds", Number(MAX_SECONDS), getter=lambda known: known.verdict.seconds),
-    Member("cause_counts", CAUSE_COUNTS, getter=lambda known: count_causes(
-        part.causes for part in known.verdict.parts if part.causes)),
+    Member("seconds", Number(MAX_SECONDS), "The duration of judging.",
+           lambda known: known.verdict.seconds),
+    Member("cause_counts", CAUSE_COUNTS, "The number of causes with each name.",
+           lambda known: count_causes(
+               part.causes for part in known.verdict.parts if part.causes)),
     Member("complete_after", Maybe(SPREAD),
            "The number of frames after which subtitles were complete.",
            lambda known: known.verdict.delays),

@@ -158,7 +158,7 @@ def explain_refusal(packets: Packets) -> str | None:
 
 MAX_LATE = 60  # number of samples, one a second, among which the largest distance is searched
 ANOMALY_TEXTS = {"behind": "are behind the PCR", "early": "are more than a second ahead of the PCR",
-                 "changed": "moved against the PCR by more than half a second"}
+                 "changed": "moved relative to the PCR by more than half a second"}
 
 
 class PTSAnomaly(NamedTuple):
