@@ -374,7 +374,7 @@ class ForkedPairs(Case):
             rows: dict[str, Row] = {}
             while self.calls.running:
                 rows.update((one.name, one) for one in self.calls.finished_rows(SECONDS))
-            reason = "--none" if name == "no words" else "the process "
+            reason = "--none" if name == "no words" else " process "
             self.must(f"{name} {is_written}", [rows[one].verdict for one in ("dies", "other")] == [
                 "not judged", "accepted"] and reason in rows["dies"].line, rows)
 

@@ -214,7 +214,7 @@ class StoredResults(Case):
                                                    "the process was killed"), got)
         os.unlink(path)
         self.must("none", read_call_result(path, "one", 2, [])["reason"] ==
-                  "the process wrote no result")
+                  "the judging process wrote no result")
 
     def test_replaces_only_results_and_empty_files(self) -> None:
         for data, wanted in ((b"{", True), (b"", True), (b"GSI", False), (b" {", False),
@@ -368,7 +368,7 @@ class WatchedFolders(Case):
 
         with claim_pair(self.path("out"), "a"):
             lines = self.run_watch(5, judged)
-        self.must("once", len(lines) == 1 and "another run of qc is writing the files of a" in
+        self.must("once", len(lines) == 1 and "another run of qc is writing the files of pair a" in
                   lines[0] and not os.path.exists(self.path("out/a.json")), lines)
         self.must("at each look but the first", begun == ["a"] * 4, begun)
 

@@ -124,7 +124,7 @@ class HostileNames(Case):
         with claim_pair(self.path("out"), "story"):
             done = qc(self, STORY, RECORDING, "-o", "out")
         self.must("two", done == Done(2, b"", [
-            "qc: another run of qc is writing the files of story in out"]), done)
+            "qc: another run of qc is writing the files of pair story to out"]), done)
 
     def test_reports_an_unwritable_folder(self) -> None:
         if os.geteuid() != 0:
@@ -170,7 +170,7 @@ class Claims(Case):
         for turn in range(2):
             with claim_pair(folder, "one"), claim_pair(folder, "two"), claim_folder(folder):
                 for again, why in (
-                        (claim_pair(folder, "one"), "writing the files of one in"),
+                        (claim_pair(folder, "one"), "writing the files of pair one to"),
                         (claim_folder(folder), "judging a batch into")):
                     with self.assertRaises(Stop) as refused, again:
                         self.must("never", False)

@@ -46,7 +46,7 @@ class UnjudgedPairs(Case):
 
     def test_all_outputs_name_the_reason(self) -> None:
         rows: list[tuple[str, str, str, str]] = [
-            ("in use", "", "", "another run of qc is writing the files of one"),
+            ("in use", "", "", "another run of qc is writing the files of pair one"),
             ("an input", "", "--severity out/one.html", "is also an input: give another name"),
             ("no result", "", "", "is not a result of these tools"),
             ("no pair", "none.ts", "", "none.ts: No such file")]

@@ -322,8 +322,8 @@ class JudgedPairs(Case):
             one = judge_files(self, stl, self.write("one.pes", pes_file(both)), "--every", "25",
                          "--no-complete", *words)
             self.must(name, one.word == word and (word == "accepted" or one.told[0] ==
-                                                  "the programme is in the recording 2 "
-                                                  "times"), one.said)
+                                                  "the recording contains the programme "
+                                                  "twice"), one.said)
 
 
 # Ticks added to all PTS: none, or numbers after which PTS wrap.

@@ -143,7 +143,7 @@ class Delays(ProgrammeCase):
             both = [*self.sent, *((pts + origin, some) for pts, some in second)]
             found = self.judge(both)
             self.must(name, found.word == "not judged" and found.told[0] ==
-                      "the programme is in the recording 2 times" and
+                      "the recording contains the programme twice" and
                       found.told[-1].endswith(" --pes I-J"), found.told)
             count = len(self.sent)
             for pes, word in ((f"0-{count - 1}", "accepted"), (
@@ -212,7 +212,7 @@ class FirstPictures(Case):
                 (("--start", "23:00:00:00"), "--start 23:00:00:00 is 2 h 45 min 1 s later than "
                  f"{ends}"),
                 (("--origin", f"{90_000 * 3600}"), "with --origin 324000000, all subtitles would "
-                 "be 1 h early, so the recording contains none of them at its time")):
+                 "be 1 h early, so the recording contains no subtitle at its expected time")):
             found = self.judge(data, *words)
             self.must(f"{words}", found.word == "not judged" and found.told == [reported],
                       found.told)
@@ -242,7 +242,7 @@ class FirstPictures(Case):
             data = with_pictures(with_new_pts(pes, lambda _, pts: pts + ticks), FIRST_PTS).data
             found = self.judge(data, "--start", STARTED)
             self.must(f"{ticks}", found.word == "accepted" and any(line.endswith(
-                f"shifted {way} by {abs(ticks)} ticks to fit the Teletext PTS")
+                f"shifted {way} by {abs(ticks)} ticks to agree with the Teletext PTS")
                 for line in found.said), found.said)
 
     def test_is_not_judged_if_first_pictures_are_lost(self) -> None:

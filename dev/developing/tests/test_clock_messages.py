@@ -54,7 +54,7 @@ class OriginLines(unittest.TestCase):
         rows: list[tuple[Any, int, list[str]]] = [
             (self.part(9, 9, 9, others=[self.other(at, 9) for at in range(7)]), 20,
              ["9 of 9 cues match, 9 with the expected text; the file has 20 cues; the next "
-              "best is --origin 0 with 9 cues", "the clock is ambiguous: --origin 9 is no better "
+              "best is --origin 0 with 9 cues", "ambiguous: --origin 9 fits no better "
               "than --origin 0, "
               "--origin 1, --origin 2, --origin 3, --origin 4 and 2 more"]),
             (self.part(4, 9, 4), 20,
@@ -76,7 +76,7 @@ class OriginLines(unittest.TestCase):
             rows.append((self.part(9, 9, 9, first_unmatched=0, others=[
                 self.other(at, 9) for at in range(count)]), 20, [
                     "9 of 9 cues match, 9 with the expected text; the file has 20 cues; the next "
-                    "best is --origin 0 with 9 cues", "the clock is ambiguous: --origin 9 is no "
+                    "best is --origin 0 with 9 cues", "ambiguous: --origin 9 fits no "
                     "better than "
                     f"--origin 0, --origin 1, --origin 2, --origin 3, --origin 4{words}",
                     "the first cue without a match is at 00:00:00:00"]))
@@ -87,8 +87,8 @@ class OriginLines(unittest.TestCase):
         rows += [(self.part(9, 9, 9, exact_matches=9 - off), 9, [
             "9 of 9 cues match, 9 with the expected text; this part has 20 cues; no other origin "
             "matches a cue",
-            f"{off} of these cues match only to the nearest frame: check refuses PTS that are not "
-            "whole frames apart (fault 61)"]) for off in (1, 9)]
+            f"{off} of these cues match only to the nearest frame: PTS that are not whole frames "
+            "apart are refused with fault 61"]) for off in (1, 9)]
         for is_begin, matches, late, line in (
                 (True, 5, 2, "all in-cues are 2 frames late compared with the out-cues"),
                 (False, 4, -1, "4 of 5 out-cues are 1 frame early compared with the in-cues")):
@@ -166,7 +166,7 @@ class OriginLines(unittest.TestCase):
             (None, 0, ""), (None, TICKS - 1, ""), (None, 251 * TICKS, ""),
             (None, 250 * TICKS, "compared with --origin 0, the subtitles are 250 frames late"),
             (0, 0, "the subtitles match --origin 0"),
-            (0, 9, "compared with --origin 0, the subtitles are 0 frames and 9 ticks late"),
+            (0, 9, "compared with --origin 0, the subtitles are 9 ticks late"),
             (0, 251 * TICKS, "compared with --origin 0, the subtitles are 251 frames late"),
             (9, 9, "the subtitles match --origin 9")]
         for known, origin, words in rows:
@@ -186,12 +186,12 @@ class OriginLines(unittest.TestCase):
                 (runs[:1], [], "is cut", [change],
                  ["one: is cut; only the PES packets before it are used"]),
                 (runs[:2], marks, "", [change],
-                 ["1 gap marker was skipped: check refuses gap markers (fault 45)"]),
+                 ["1 gap marker was skipped: gap markers are refused with fault 45"]),
                 (runs, marks, "is cut", [change], [
                     "one: is cut; only the PES packets before it are used",
-                    "1 gap marker was skipped: check refuses gap markers (fault 45)",
-                    "1 of 4 PES packets have no PTS and were skipped: check refuses them (fault "
-                    "34)"]),
+                    "1 gap marker was skipped: gap markers are refused with fault 45",
+                    "1 of 4 PES packets have no PTS and were skipped: they are refused with "
+                    "fault 34"]),
                 (runs[:1], [], "", [], ["one has no header of page 888; other subtitle pages: 777, "
                                         "150"])]
         for several, some, damage, changes, printed in rows:
@@ -301,7 +301,7 @@ class FirstPictures(unittest.TestCase):
 
     def test_takes_the_clock_of_the_first_picture(self) -> None:
         rows: list[tuple[list[int], int, int | None, str]] = [
-            ([0], 0, 0, "fits"), ([1], 0, 1, "shifted forward by 1 tick "),
+            ([0], 0, 0, "agrees"), ([1], 0, 1, "shifted forward by 1 tick "),
             ([1799], 0, 1799, "forward"), ([1800], 0, None, ""), ([1801], 0, -1799, "back"),
             ([3599], 0, -1, "shifted back by 1 tick "), ([1800, 1800, 5], 0, None, ""),
             ([1800, 1800, 5], 1, 5, "shifted forward by 5 ticks")]
@@ -327,7 +327,7 @@ class FirstPictures(unittest.TestCase):
         self.assertEqual(compute_start_clock(request, surveyed(lines),
                                              packets).clock.picture_offset, -1)
         self.assertEqual(largest_offset_text(180),
-                         "PTS differ from their frames by up to 180 ticks (2.00 ms)")
+                         "PTS differ from the times of their frames by up to 180 ticks (2.00 ms)")
         for source, evidence in itertools.product((RECORDING, GIVEN, START, TCP), (
                 None, Selection(ORIGIN_CHOICE, "8", "words"))):
             chosen = (evidence or Selection(ORIGIN_CHOICE, "7", ESTIMATED_NOTE))._replace(part=2)
@@ -458,7 +458,7 @@ class LastPages(ProgrammeCase):
         causes = self.judge(sent).lines("cause: ")
         self.must("its cause", len(causes) == 1 and causes[0].startswith("subtitle 3 at ") and
                   causes[0].endswith("it stays for 20 frames, until subtitle 4, which has the same "
-                                     "page"),
+                                     "content"),
                   causes)
 
     def test_national_option_is_c12_to_c14(self) -> None:

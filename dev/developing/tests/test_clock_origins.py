@@ -75,9 +75,9 @@ class Origins(Case):
         last = len(pes) - 1
         rows: list[tuple[list[bytes], list[str], str]] = [
             (pes, ["--pes", f"{last}-{last}"], "no cue matches at any origin"),
-            ([b"\0\0\1\xbd\0\5abcde"], [], "none of 1 PES packet in one.pes has a PTS: check "
-             "refuses them (fault 34)"),
-            ([], [], "none of 0 PES packets in one.pes has a PTS: check refuses them (fault 34)")]
+            ([b"\0\0\1\xbd\0\5abcde"], [], "none of 1 PES packet in one.pes has a PTS: they "
+             "are refused with fault 34"),
+            ([], [], "none of 0 PES packets in one.pes has a PTS: they are refused with fault 34")]
         for some, words, line in rows:
             found = self.find(self.own_stl(), some, *words)
             self.must(line, (found.status, found.lines) == (1, [line]), found)
@@ -158,8 +158,8 @@ class Origins(Case):
         own = [(100 * at, 100 * at + 20 + 5 * at, b"Text %c" % (65 + at)) for at in range(12)]
         rows: list[tuple[list[Shown], int, list[Shown], int, list[str],
                          str]] = [
-            ([one], 0, [other], 100, [], "--origin 0 is no better than --origin 360000"),
-            (own[6:], 0, own[:6], 2000, [], "--origin 7200000 is no better than --origin 0"),
+            ([one], 0, [other], 100, [], "--origin 0 fits no better than --origin 360000"),
+            (own[6:], 0, own[:6], 2000, [], "--origin 7200000 fits no better than --origin 0"),
             (own[6:], 1000, own[:6], 950, ["--pes 12-23 --origin 3420000"], "12 of 12 cues")]
         for some, by, later, by_too, printed, line in rows:
             pes = [pes for times, frames in ((some, by), (later, by_too)) for pes in schedule_pes(

@@ -112,13 +112,16 @@ class NationalOptions(unittest.TestCase):
 class Advice(unittest.TestCase):
     def test_names_the_options_that_have_a_character(self) -> None:
         for text, words in (
-                ("C265", "--option swedish, italian, french, spanish and czech have é, but not"),
-                ("24", "--option english, german, italian and spanish have $, but not"),
-                ("C24F", "no option has Ó: "), ("F9", "no option has ø: "),
+                ("C265", "no national option has all the characters in the file; é is in swedish, "
+                 "italian, french, spanish and czech"),
+                ("24", "no national option has all the characters in the file; $ is in english, "
+                 "german, italian and spanish"),
+                ("C24F", "no national option has Ó: "), ("F9", "no national option has ø: "),
                 ("C2", "byte C2 is not a character"), ("FF", "byte FF is not a character")):
             self.assertTrue(advise_on_character(bytes.fromhex(text), []).startswith(words), text)
         self.assertEqual(advise_on_character(b"\xc2e", [FRENCH, SPANISH]),
-                         "use --option french or spanish, which have all characters of the file")
+                         "use --option french or spanish, which have all the characters in the "
+                         "file")
 
     def test_a_diacritical_mark_includes_the_next_letter(self) -> None:
         for text, at, letter in ((b"a\xc2eb", 1, b"\xc2e"), (b"a\xc2", 1, b"\xc2"),

@@ -37,7 +37,7 @@ ORIGIN_OF_TS = "origin", "5000000000", 5, 5, 1, \
     f"{AGREE}the next best is --origin 1678370000 with 2 cues"
 CUT = "pes", "2-6", 5, 7, 1, "range: 5 of 7 PES packets, from 20:15:00:00 to 20:15:09:00"
 PID = "pid", "0x101", 7, 7, None, RECORDING_PID
-PACE = "pace", None, None, None, 1, "not checked for losses that only this PID would show: " \
+PACE = "pace", None, None, None, 1, "not checked for losses on this PID alone: " \
     "there are too few PES packets to measure their interval"
 # Arguments, and the expected choices: option, value, matches, total, part, printed line.
 ROWS: list[tuple[Sequence[str], list[tuple[Any, ...]]]] = [
@@ -257,8 +257,8 @@ class Profiles(Case):
         for some in itertools.permutations(several):
             found = propose_every(some)
             self.must(f"{some}", (found.text, *found.lines) == (
-                "--every 50", "every: 20 headers of the page, at most 50 frames apart (26 are "
-                "usual), first from 00:00:00:07 on"), found)
+                "--every 50", "every: 20 headers of the page, at most 50 frames apart (usually "
+                "26); the longest interval begins at 00:00:00:07"), found)
 
     def test_a_measured_profile_accepts_its_recording(self) -> None:
         stl = self.write_stl("one.stl")
@@ -296,8 +296,8 @@ class Profiles(Case):
                 moved.append((pts + by * TICKS, some))
             pes = self.write(f"{name}.pes", pes_file(sorted(moved, key=lambda one: one[0])))
             lines = self.profile(stl, pes, "--origin", "0")
-            counts = f"# within, late: in-cues {wanted[0]}; out-cues {wanted[1]} (frames " \
-                     "late:number of cues)"
+            counts = "# within, late (frames late:number of cues): in-cues " \
+                f"{wanted[0]}; out-cues {wanted[1]}"
             self.must(name, counts in lines, lines)
             bound = [line for line in lines if line.startswith(("--within", "--late"))]
             self.must(f"{name}: proposed", bound == wanted[2], bound)

@@ -219,9 +219,10 @@ class EstimatedOrigins(Case):
     def test_reports_which_subtitles_are_delayed(self) -> None:
         for has_all_cues, shifted, printed, words in (
                 (True, None, 1, "all"), (False, None, 1, "most"),
-                (True, None, 2, "up to the first break all"),
-                (False, None, 3, "up to the first break most"), (False, 50, 1, "up to 00:00:02:00"),
-                (True, 50, 2, "up to 00:00:02:00"), (True, 0, 1, "up to 00:00:00:00")):
+                (True, None, 2, "up to the first break, all"),
+                (False, None, 3, "up to the first break, most"),
+                (False, 50, 1, "up to 00:00:02:00,"), (True, 50, 2, "up to 00:00:02:00,"),
+                (True, 0, 1, "up to 00:00:00:00,")):
             origin = OriginEstimate(0, ticks_late=TICKS, has_all_cues=has_all_cues,
                                     first_shift=shifted,
                                     printed=["--origin 5"] * printed)

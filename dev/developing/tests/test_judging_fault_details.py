@@ -96,8 +96,8 @@ class FaultDetails(Case):
         rows: list[tuple[str, str, str]] = [
             ("67 Control frame 00:00:01:00 packet 0", "C4 (erase page) is clear: a repeat that "
              "does not erase", ""), ("50 Character block 1 at 0", "",
-                                "use --option german or swedish, which have all characters of the "
-                                "file"),
+                                "use --option german or swedish, which have all the characters "
+                                "in the file"),
             ("50 Character block 1 at 2", "", ""), ("21 Times block 2", "", AT_MIDNIGHT),
             ("21 Times block 1", "", ""), ("56 Order block 4", "", AT_MIDNIGHT),
             ("56 Order block 2", "", ""), ("13 Display block 0", "",

@@ -56,16 +56,17 @@ class Descriptions(Case):
                 ([cause(0, NEVER, None, "why")],
                  'subtitle 1 at 00:00:00:00, \"text\", was never sent (why)'),
                 ([cause(0, WRONG_TEXT), cause(1, NEVER)],
-                 'subtitle 2 at 00:00:01:00, \"text\", was never sent; other causes: wrong text'),
+                 'subtitle 2 at 00:00:01:00, \"text\", was never sent; other subtitles: '
+                 'wrong text'),
                 ([cause(0, WRONG_TEXT), cause(1, NEVER), cause(3, NEVER)],
                  "2 of 9 subtitles were never sent (first at 00:00:01:00, last at 00:00:03:00); "
-                 "other causes: wrong text"),
+                 "other subtitles: wrong text"),
                 ([cause(0, LATE, 2), cause(1, LATE, 1), cause(3, WRONG_TEXT), cause(5, WRONG_PLACE),
                   cause(6, WRONG_TEXT), cause(8, WRONG_ATTRIBUTE)],
                  "2 of 9 subtitles have the wrong text (first at 00:00:03:00, last at "
-                 "00:00:06:00); other causes: wrong place, late (2), wrong colour or attribute"),
+                 "00:00:06:00); other subtitles: wrong place, late (2), wrong colour or attribute"),
                 ([cause(0, OTHER_TEXT), cause(1, OTHER_TEXT), cause(2, NEVER)],
-                 'subtitle 3 at 00:00:02:00, \"text\", was never sent; other causes: another '
+                 'subtitle 3 at 00:00:02:00, \"text\", was never sent; other subtitles: another '
                  'subtitle\'s text (2)'),
                 ([cause(0,
                         WRONG_TEXT)._replace(sent_page=(b" " * 40,) * 23 + (b"texts".ljust(40),))],
@@ -122,7 +123,7 @@ class Descriptions(Case):
                                 "; 3 faults in all: 68 Parity (2) and 73 Gap")):
             words = describe_faults(Facts("refused", 9, parse_fault_line(
                 "refused 68 Parity frame 00:00:01:00 packet 1"), False, 3, counts, "a letter"))
-            self.must(wanted, words == f"at 00:00:01:00 a letter{wanted}", words)
+            self.must(wanted, words == f"at 00:00:01:00, a letter{wanted}", words)
 
     def test_ignores_frames_with_losses(self) -> None:
         data = b"".join(make_pes_packet(TICKS * frame, [HEADER, CLOSING]) for frame in (0, 50, 100))
@@ -181,10 +182,10 @@ class Descriptions(Case):
             (each, 1000, 50, {73}, [], "100 frames"), (each, 1000, 99, {73}, [], "100 frames"),
             (each, 1000, 100, {73}, [], ""), (each, 1000, 50, {73, 38}, [], ""),
             (each, 1000, 50, {73, 72}, [], "100 frames"), (less, 1000, 99, {73}, [], "200 frames"),
-            (less, 1000, 100, {73}, [], "200 frames (100 are usual)"),
+            (less, 1000, 100, {73}, [], "200 frames (usually 100)"),
             (less, 1000, 100, {73}, begins, "200 frames"),
             (each[1:], 1000, 50, {73}, [], "100 frames"),
-            (each, 1100, 100, {73}, [], "101 frames (100 are usual)"),
+            (each, 1100, 100, {73}, [], "101 frames (usually 100)"),
             (each, 1098, 99, {73}, [], "100 frames"), ((0, 101), 101, 100, {73}, [], "101 frames"),
             ((), 5, 1, {73}, [], "")]
         for frames, last, every, numbers, times, wanted in rows:

@@ -76,7 +76,7 @@ class HiddenPages(ProgrammeCase):
         judged = self.judge(each_other)
         self.must("closer",
                   judged.parts("pace") == [(2,)] and "not checked for a missing PES "
-                  "packet, at 1 place where PES packets are closer together" in
+                  "packet at 1 place where PES packets are too close together" in
                   judged.result["notes"], judged.said)
 
     def test_notes_an_undetectable_loss_between_repeat_and_cue(self) -> None:
@@ -101,7 +101,7 @@ class HiddenPages(ProgrammeCase):
         self.must("it is wrong", whole.word == "refused" and whole.result["losses"] == [],
                   whole.said)
         line = "between 10:00:11:24 and 10:00:12:01: the interval between PES packets is " \
-            "unusually long, and the stream announces a jump of the counter"
+            "unusually long, and the stream announces a jump of the continuity counter"
         for words, word in (((), "lost"), (("--pace", "none"), "lost"),
                             (("--allow-lost",), "accepted")):
             judged = self.judge_stream(lost(made, 3, True), *words)
@@ -136,7 +136,7 @@ class HiddenPages(ProgrammeCase):
                       and judged.parts("pace") == [(None,)], judged.said)
         made = make_multiplex([large(make_pes_packet(pts, some), 4) for pts, some in sent],
                               Shape(100))
-        note = "not checked for losses of 1.4 s or more that only this PID would show: there are " \
+        note = "not checked for losses of 1.4 s or more on this PID alone: there are " \
             "too few PES packets to measure their interval"
         for count, is_announced, word in ((0, False, "refused"), (16, False, "accepted"),
                                           (4, True, "lost")):
@@ -152,7 +152,7 @@ class HiddenPages(ProgrammeCase):
         sent[wrong:wrong + 1] = [(frame * TICKS, WRONG), (AT * TICKS, [])]
         made = self.multiplexed(sent, 0, 1 << 20, 3)
         note = "not checked for losses on PID 0x101 at 1 place where the stream announces a " \
-            "jump of the counter"
+            "jump of the continuity counter"
         for words in ((), ("--pace", "3"), ("--pace", "none")):
             whole = self.judge_stream(made, *words)
             judged = self.judge_stream(lost(made, 3, True, frame), *words)
@@ -175,5 +175,5 @@ class Taken(unittest.TestCase):
         for frames, words in ((None, "losses"), (0, "losses"), (2, "losses"),
                               (3, "losses of 0.1 s or more"),
                               (25, "losses of 1.0 s or more")):
-            self.assertIn(f"{UNCHECKED} {words} that only this PID", describe_unchecked_losses(
+            self.assertIn(f"{UNCHECKED} {words} on this PID", describe_unchecked_losses(
                 Pace(IRREGULAR), frames, recording), frames)

@@ -193,12 +193,12 @@ class Sentences(ProgrammeCase):
             (self.sent, ["--strict"], "Not accepted: --strict treats warnings as faults "
              "(repeat); everything that was received is right."),
             (missing, ["--every", "49"],
-             "Refused: from 00:00:13:24 on the page had no header for up "
-             "to 50 frames (25 are usual)."),
+             "Refused: from 00:00:13:24 on, the page had no header for up "
+             "to 50 frames (usually 25)."),
             (missing, ["--every", "49", "--severity", self.write("mild", b"73 warning\n")],
-             "Waived, since these faults are declared as warnings: from 00:00:13:24 on the page "
-             "had no header for up to 50 frames (25 are usual)."),
-            (self.sent, ["--every", "20"], "Refused: from 00:00:04:20 on the page had no header "
+             "Waived, since these faults are declared as warnings: from 00:00:13:24 on, the page "
+             "had no header for up to 50 frames (usually 25)."),
+            (self.sent, ["--every", "20"], "Refused: from 00:00:04:20 on, the page had no header "
              "for up to 25 frames; 59 faults in all.")]
         for sent, words, wanted in rows:
             found = self.judge(sent, *words)
@@ -288,7 +288,7 @@ class Sentences(ProgrammeCase):
 
     def test_gives_hints_for_the_first_faults(self) -> None:
         whole = "use --option swedish, italian, french, spanish or czech, which have all " \
-            "characters of the file"
+            "the characters in the file"
         found = judge_files(self, ACCENT)
         self.must("list", "1 faults" in found.said, found.said)
         self.must("letter", found.result["hints"] == [f"50: {whole}"] and found.said[-3::2] == [

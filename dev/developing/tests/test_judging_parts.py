@@ -248,7 +248,8 @@ class Tolerances(ProgrammeCase):
             found = self.judge(some, "--origin", str(ORIGIN))
             self.must(f"{name}: refused", found.word == "refused", found.said)
             self.must(f"{name}: hint", name != "jitter" or found.result["hints"] == [
-                "61: PTS differ from their frames by up to 448 ticks (4.98 ms)"], found.said)
+                "61: PTS differ from the times of their frames by up to 448 ticks (4.98 ms)"],
+                found.said)
             for words in (["--page", "888"], ["--origin", str(ORIGIN)]):
                 found = self.judge(some, "--within", str(least), *words)
                 spread = found.result["complete_after"]

@@ -41,7 +41,8 @@ class OffFramePts(ProgrammeCase):
             found = self.judge(sent, "--every", "25")
             sentence = found.verdict.sentence
             self.check(f"{name}: leads", sentence.startswith("Refused: from PES packet ") and
-                       f" on PTS differ from their frames by up to {words}" in sentence, True)
+                       f" on, PTS differ from the times of their frames by up to {words}" in
+                       sentence, True)
             self.check(f"{name}: advice", [word for word in ADVICE if word in "".join(
                 [sentence, *found.result["hints"]])], [])
             self.check(f"{name}: within 1", self.judge(
@@ -105,7 +106,7 @@ class Blocks(Case):
             self.check(name, found.verdict.sentence[:len(begin)], begin)
         stl = self.write("none.stl", b"no file of subtitles")
         self.check("of no block", judge_files(self, stl).verdict.sentence.startswith(
-            "Refused: in block 0 "), True)
+            "Refused: in block 0, "), True)
 
 
 class Advice(ProgrammeCase):

@@ -57,7 +57,7 @@ class Reasons(ProgrammeCase):
         found = self.judge(all_changed(self.sent, 3, 8, 0), *WORDS)
         words = "C4 (erase page) is clear in 49 of 49 headers"
         self.must("said", found.word == "refused" and found.verdict.sentence ==
-                  'Refused: at 00:00:04:00 subtitle 1, "Number 1", may appear over old text on '
+                  'Refused: at 00:00:04:00, subtitle 1, "Number 1", may appear over old text on '
                   f'some receivers: {words}; 49 faults in all.' and
                   found.result["hints"] == [f"67: {words}"] and
                   not any(COMPLETED_LATER in line for line in found.said), found.said)
@@ -168,8 +168,8 @@ class Reasons(ProgrammeCase):
                 (2, 2, "2 TS packets were lost"),
                 (16, 0, "0.64 s of TS packets are missing according to the PCR and the counters of "
                  "other PIDs"),
-                (50, 2, "2.00 s of TS packets are missing according to the PCR (the counter shows "
-                 "2 TS packets)")):
+                (50, 2, "2.00 s of TS packets are missing according to the PCR (2 TS packets "
+                 "according to the counter)")):
             path = self.write("one.ts", stream_bytes(delete_between(made, 200, count)))
             found = judge_files(self, stl, path, "--origin", "0")
             self.must(f"{count}", [one["lost_ts_packets"] for one in
@@ -191,8 +191,8 @@ class Reasons(ProgrammeCase):
             one.pcr_steps = clocked
             self.assertEqual(find_loss_places(one), [wanted], clocked)
         self.assertEqual(describe_loss(LossPlace(1, 2, 3, 4, 9000)),
-                         "0.10 s of TS packets are missing according to the PCR (the counter shows "
-                         "3 TS packets), 4 TS packets were scrambled")
+                         "0.10 s of TS packets are missing according to the PCR (3 TS packets "
+                         "according to the counter), 4 TS packets were scrambled")
 
 
 NUMBERS = bytes([8, 8, 0, 8, 0, 8, 1, 0])  # values in HEADER: page, subcode, control bits
@@ -259,10 +259,11 @@ class Headers(Case):
         for headers, words, effect, printed in (
                 ([good, keeps, plain], "", "may appear over old text", REPEAT_WITHOUT_ERASE),
                 ([good, keeps, plain], "--keeping", "hides the picture", clear),
-                ([german, keeps], "", "has other characters", other),
+                ([german, keeps], "", "is shown with wrong characters", other),
                 ([german, plain], "--option german", "hides the picture",
                  f"{clear}; the header is English, but --option is german"),
-                ([german, keeps, good], "--option german --keeping", "has other characters",
+                ([german, keeps, good], "--option german --keeping",
+                 "is shown with wrong characters",
                  "the header is English, but --option is german"), ([good], "", None, "")):
             request = request_for("one.stl", "one.pes", *words.split())
             self.must(f"{headers} {words}", describe_header_faults(headers, request) == printed and

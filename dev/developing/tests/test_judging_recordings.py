@@ -167,7 +167,7 @@ class Recordings(Case):
             ([STORY, one, "--pid", "0x300"], "PID 0x300 has no packets", ["--pid 0x101"]),
             ([other, self.path("own.pes")], "fewer than half", ["--origin T"]),
             ([STORY, one, "--origin", "900000000"],
-             "so the recording contains none of them at its time", []),
+             "so the recording contains no subtitle at its expected time", []),
             ([STORY, STORY], "is a subtitle file", []), ([STORY, "none.ts"], "No such file", []),
             (["none.stl", one], "none.stl does not exist or is not a file", []),
             (["--", "-none.stl", one], "-none.stl does not exist or is not a file", []),

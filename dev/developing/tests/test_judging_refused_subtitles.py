@@ -41,8 +41,7 @@ from .test_judging_reasons import KEEPING_HEADER
 from .test_judging_verdicts import verdict_of
 
 BAD = b"\xe6: no letter"
-CURE = "replace it (at level 1 it needs another region, or packets X/26, which check refuses " \
-    "with fault 70)"
+CURE = "replace it (it needs another region, or packets X/26, which are refused with fault 70)"
 WORDS = "--origin", "0", "--every", "100"
 PAGE = 0, 0x88
 
@@ -77,8 +76,8 @@ class RefusedSubtitles(Case):
         return judge_files(self, stl, *words, *WORDS)
 
     def test_counts_judged_and_names_refused_subtitles(self) -> None:
-        first = "subtitle 3 at 00:00:12:00 has fault 50 Character (\u0132): no option has " \
-            f"\u0132: {CURE}"
+        first = "subtitle 3 at 00:00:12:00 has fault 50 Character (\u0132): no national option " \
+            f"has \u0132: {CURE}"
         slow = self.write("slow.pes", pes_file(delayed(5, 3600 * 600, 3600 * 650)(self.sent)))
         for pes, end in ((self.pes, "all have the right text from the first frame to the last"),
                          (slow, 'subtitle 6 at 00:00:24:00, "Number 6", appeared 5 frames late')):
@@ -92,9 +91,9 @@ class RefusedSubtitles(Case):
                       found.said)
             self.must(f"{pes}: list", found.listed[0] == found.said[-1] and
                       "refused 78 Undecided frame 00:00:10:10" in found.listed, found.listed)
-        for bad, words, more in (((3, 5), "2 of 10 subtitles are refused: subtitle 3 at ", ""),
-                                 (range(2, 6), "4 of 10 subtitles are refused: ", " and 1 more; 6"),
-                                 (range(2, 9), "7 of 10 subtitles are ", " and 4 more; 3 other")):
+        for bad, words, more in (((3, 5), "2 of 10 subtitles have faults: subtitle 3 at ", ""),
+                                 (range(2, 6), "4 of 10 subtitles have faults: ", " and 1 more; 6"),
+                                 (range(2, 9), "7 of 10 subtitles have ", " and 4 more; 3 other")):
             printed = self.judge(self.write_stl(*bad), self.pes).verdict.sentence
             self.must(f"{bad}", words in printed and more in printed and (" more; " in printed) ==
                       bool(more), printed)
@@ -307,7 +306,7 @@ class ExpectedPages(unittest.TestCase):
             if count < 2:
                 continue
             printed = found.describe()
-            self.assertTrue(printed.startswith(f"{count} of {count + 2} subtitles are refused: "),
+            self.assertTrue(printed.startswith(f"{count} of {count + 2} subtitles have faults: "),
                             count)
             self.assertEqual([at for at in range(1, count + 1) if f" (letter {at})" in printed],
                              [*range(1, min(count, 3) + 1)], count)

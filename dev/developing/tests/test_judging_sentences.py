@@ -72,7 +72,7 @@ class Sentences(unittest.TestCase):
                  "treats warnings as faults (page); all faults that were found are declared as "
                  "warnings."),
                 (Facts(WAIVED, 2, first=fault, faults=1, hint="no header"), "Waived, since these "
-                 "faults are declared as warnings: from 10:00:00:00 on no header."),
+                 "faults are declared as warnings: from 10:00:00:00 on, no header."),
                 (Facts(WARNED, 2, warnings=["page", "page", "pause"]), "Not accepted: --strict "
                  "treats warnings as faults (page, pause); everything that was received is right."),
                 (Facts(REFUSED, 1234,
@@ -83,7 +83,7 @@ class Sentences(unittest.TestCase):
                 (Facts(REFUSED, 1, first=parse_fault_line("refused 63 Early frame 10:00:00:00"),
                        faults=1, delay=-1), "Refused: the subtitle appeared 1 frame early."),
                 (Facts(REFUSED, 2, first=fault, faults=1, hint="no header", delay=50),
-                 "Refused: from 10:00:00:00 on no header."),
+                 "Refused: from 10:00:00:00 on, no header."),
                 (Facts(RELATIVE, 40), "All 40 subtitles match relative to each other. No clock was "
                  "given, so a delay that they all share was not checked: add --origin PTS (the PTS "
                  "of the subtitle file's 00:00:00:00)."),
@@ -99,20 +99,20 @@ class Sentences(unittest.TestCase):
                 (Facts(RELATIVE, 1), "The subtitle has the right text and length. No clock was "
                  f"given, so its delay {ADD}."),
                 (Facts(RELATIVE, 2, first=fault, faults=1, hint="no header"), "Waived, since "
-                 "these faults are declared as warnings: from 10:00:00:00 on no header. No clock "
+                 "these faults are declared as warnings: from 10:00:00:00 on, no header. No clock "
                  f"was given, so a delay that all subtitles share {ADD}."),
                 (Facts(REFUSED, 2, first=parse_fault_line("refused 45 Lost pes 7"), faults=3, lost=[
                     "a", "b"], counts=[FaultCount(45, "Lost", 2), FaultCount(73, "Gap", 1)]),
                  "Refused: a, and in 1 more place; record that part again; also 73 Gap."),
                 (Facts(REFUSED, 2, first=fault, faults=1, hint="no header"),
-                 "Refused: from 10:00:00:00 on no header."),
+                 "Refused: from 10:00:00:00 on, no header."),
                 (Facts(REFUSED, 2, first=fault, faults=3, hint="no header"),
-                 "Refused: from 10:00:00:00 on no header; 3 faults in all.")):
+                 "Refused: from 10:00:00:00 on, no header; 3 faults in all.")):
             found = write_sentence(seen)
             self.assertEqual(found, wanted, seen)
-        for reported, begin in ((packet, "Refused: in PES packet 0 "),
-                                (block, "Refused: in block 12 "),
-                            (fault, "Refused: at 10:00:00:00 ")):
+        for reported, begin in ((packet, "Refused: in PES packet 0, "),
+                                (block, "Refused: in block 12, "),
+                            (fault, "Refused: at 10:00:00:00, ")):
             found = write_sentence(Facts(WAIVED if reported is None else REFUSED, 1, first=reported,
                                          faults=1))
             self.assertTrue(found.startswith(begin) and found.endswith(".") and
@@ -123,8 +123,8 @@ class Sentences(unittest.TestCase):
         known = {number for number, one in read_meanings().items() if number in FAULT_NUMBERS}
         self.assertLessEqual(known - OF_PACKETS, set(FAULT_CLAUSES))
         for number, words in FAULT_CLAUSES.items():
-            for place, begin in (("frame 10:00:00:00", "at 10:00:00:00"),
-                                 ("pes 7", "in PES packet 7"), ("block 0", "in block 0"),
+            for place, begin in (("frame 10:00:00:00", "at 10:00:00:00,"),
+                                 ("pes 7", "in PES packet 7,"), ("block 0", "in block 0,"),
                                  ("", "")):
                 reported = parse_fault_line(f"refused {number} Name {place}".rstrip())
                 found = write_sentence(Facts(REFUSED, 1, first=reported, faults=1))
@@ -263,28 +263,28 @@ class NamedPlaces(ProgrammeCase):
 
         at, end, first = "10:00:04:00", "10:00:05:15", TIMES[2]
         rows: tuple[tuple[int, str, Callable[[list[bytes]], list[bytes]]], ...] = (
-            (first[0], f'at {at} the character "Ö" of {name}, has even parity',
+            (first[0], f'at {at}, the character "Ö" of {name}, has even parity',
              lambda some: [*map(even(b"\\"), some)]),
-            (first[0], f"at {at} a byte (start box) of {name}, has even parity",
+            (first[0], f"at {at}, a byte (start box) of {name}, has even parity",
              lambda some: [some[0], even(b"\x0b")(some[1]), *some[2:]]),
-            (first[0], f"at {at} {name}, hides the picture on some receivers: C6 (subtitle) is "
+            (first[0], f"at {at}, {name}, hides the picture on some receivers: C6 (subtitle) is "
                        "clear",
              lambda some: [header(c5=0), *some[1:]]),
-            (first[0], f"at {at} {name}, is not shown on some receivers: C10 (inhibit display) is "
+            (first[0], f"at {at}, {name}, is not shown on some receivers: C10 (inhibit display) is "
                        "set",
              lambda some: [header(c7=9), *some[1:]]),
-            (first[0], f"at {at} {name}, hides the picture on some receivers: C6 (subtitle) is "
+            (first[0], f"at {at}, {name}, hides the picture on some receivers: C6 (subtitle) is "
              "clear; C7 (suppress header) is clear; the header is French",
              lambda some: [header(c5=0, c7=0, option=2), *some[1:]]),
-            (first[0], f"at {at} {name}, appears as a newsflash on some receivers: C5 (newsflash) "
+            (first[0], f"at {at}, {name}, appears as a newsflash on some receivers: C5 (newsflash) "
                        "is set",
              lambda some: [header(c5=12), *some[1:]]),
-            (first[0], f"at {at} {name}, has other characters on some receivers: the header is "
-                       "French",
+            (first[0], f"at {at}, {name}, is shown with wrong characters on some receivers: the "
+                       "header is French",
              lambda some: [header(option=2), *some[1:]]),
-            (first[0], f"at {at} {name}, may appear over old text on some receivers: C4 (erase "
+            (first[0], f"at {at}, {name}, may appear over old text on some receivers: C4 (erase "
              "page) is clear in 1 of ", lambda some: [header(c4=0), *some[1:]]),
-            (first[1], f"at {end} the page after subtitle 3 hides the picture on some receivers: "
+            (first[1], f"at {end}, the page after subtitle 3 hides the picture on some receivers: "
              "C6 (subtitle) is clear", lambda some: [header(c5=0), *some[1:]]))
         for frame, wanted, change in rows:
             made = [(pts, change(some) if pts == 3600 * frame % CLOCK else some)

@@ -436,12 +436,13 @@ class PageDifferences(Case):
             None, found[2], found[2], None, found[6], found[6], None])
         self.assertEqual([*file.list_subtitles()], [found[2], found[6]])
         advice = OptionAdvice(file, "english")
-        self.assertTrue(advice.advise(5, 4).startswith("no option has ø: "))
+        self.assertTrue(advice.advise(5, 4).startswith("no national option has ø: "))
         self.assertEqual((advice.advise(5, 6), advice.complete_options), ("", []))
         german = SubtitleFile(self.write("two.stl", make_gsi_block(b"", 1, 1) + make_tti_block(
             1, 25, 50, 20, 2, b"\xc8a")))
         self.assertEqual(OptionAdvice(german, "english").advise(1, 0),
-                         "use --option german or swedish, which have all characters of the file")
+                         "use --option german or swedish, which have all the characters in the "
+                         "file")
 
 
 class RepeatIntervals(unittest.TestCase):

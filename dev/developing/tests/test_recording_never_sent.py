@@ -61,8 +61,8 @@ class Announcements(Case):
             time = None if frame < 0 else f"00:00:{frame // 25:02}:{frame % 25:02}"
             where = f"from {time or f'PTS {pts}'} on"
             self.must(f"{origin} {frame}", [*find_timing_notices(packets, origin)] == [Notice(
-                "pts_behind", f"{where}, the Teletext PTS are behind the PCR, by up to "
-                "0.10 s in 1 of 3 samples", time)], [*find_timing_notices(packets, origin)])
+                "pts_behind", f"{where}, the Teletext PTS are behind the PCR (by up to "
+                "0.10 s, in 1 of 3 samples)", time)], [*find_timing_notices(packets, origin)])
 
     def test_finds_an_announced_page_that_is_not_sent(self) -> None:
         begin, end = 10 * SECOND, 20 * SECOND

@@ -107,7 +107,7 @@ class Silences(unittest.TestCase):
             self.assertEqual((len(found), others), (
                 min(count, MAX_LISTED), [f"and at {more + 1} more places"] * (more > 0)), count)
             times = f"PTS {SECOND} and {SECOND + 2 * TICKS} (00:00:00:00 and 00:00:00:02 after " \
-                "the first)"
+                "the first PTS)"
             self.assertEqual(found[:1], [f"between {times}: 1 TS packet was lost"][:count], count)
 
 

@@ -303,7 +303,7 @@ def without_pid(made: list[Packet], first: int, count: int) -> list[Packet]:
     return [one for at, one in enumerate(made) if at not in missing]
 
 
-UNSEEN = "not checked for losses of {} s or more that only this PID would show: "
+UNSEEN = "not checked for losses of {} s or more on this PID alone: "
 IRREGULAR_NOTE = UNSEEN.format("0.6") + "the PES packets come at irregular intervals"
 PACE_LINE = "PES packets are at most 1 frame apart, or at least 3 after a loss of 16 TS packets: " \
     "--pace 2"
@@ -347,15 +347,16 @@ class Losses(ProgrammeCase):
                           line.startswith("refused 45") for line in judged.listed), judged.listed)
         judged = self.judge_stream(without_pid(made, first, 16))
         self.must("how long", judged.verdict.sentence ==
-                  "Refused: at 10:00:26:11 there was no PES packet for as many frames as --pace "
-                  "allows: none for 16 frames from 10:00:26:10 on.", judged.verdict.sentence)
+                  "Refused: at 10:00:26:11, there was no PES packet for as many frames as --pace "
+                  "allows: no PES packet for 16 frames from 10:00:26:10 on.",
+                  judged.verdict.sentence)
 
     def test_reports_losses_with_two_pes_packets_a_frame(self) -> None:
         sent = filled(self.sent)
         none: list[bytes] = []
         both = [one for pts, some in sent for one in ((pts, some), (pts + TICKS // 2, none))]
         made = self.multiplexed(both, 400)
-        note = "not checked for losses of up to 0.08 s that only this PID would show, at "
+        note = "not checked for losses of up to 0.08 s on this PID alone at "
         for count in (0, 16, 32, 48, 160):
             judged = self.judge_stream(without_pid(made, 1320, count), "--within", "1")
             self.must(f"{count}", judged.word == ("refused" if count else "accepted") and bool(

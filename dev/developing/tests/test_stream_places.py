@@ -68,7 +68,7 @@ class LossPlaces(Case):
                     for (before, after), _ in wanted[:len(marks)]], where)
         self.must("said", describe_loss(LossPlace(1, 2, is_announced=True)) ==
                   "the interval between PES packets is unusually long, and the stream announces a "
-                  "jump of the counter")
+                  "jump of the continuity counter")
 
     def test_merges_losses_between_the_same_pes_packets(self) -> None:
         ends = [None, *range(5)]

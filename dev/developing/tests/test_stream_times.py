@@ -369,8 +369,8 @@ class ClockTables(unittest.TestCase):
                     came[0] if came else None, taken[0] if taken else None,
                     ends[-1] if ends else None))
                 words = f"{read} PES packet{'s' * (read != 1)}"
-                self.assertTrue(found.describe().startswith(f"none of {words} is in" if wanted is
-                                                            None
+                self.assertTrue(found.describe().startswith(
+                    f"none of {words} in these frames contains" if wanted is None
                                 else f"{wanted[1] - wanted[0] + 1} of {words}, from 00:00:0"))
         made = Packets(257, [PacketRun(at, 1, TICKS * frame, 0, does, "") for at, (frame, does) in
                              enumerate(((75, "he"), (100, "he"), (200, "heb")))],
@@ -455,16 +455,16 @@ class ClockTables(unittest.TestCase):
             self.assertEqual(describe_loss(place), words, place)
         for place, words in (
                 (LossPlace(3600, 7200, 1), "between PTS 3600 and 7200 (00:00:00:01 and 00:00:00:02 "
-                 "after the first)"),
-                (LossPlace(None, 7200, 1), "before PTS 7200 (00:00:00:02 after the first)"),
-                (LossPlace(3600, None, 1), "after PTS 3600 (00:00:00:01 after the first)")):
+                 "after the first PTS)"),
+                (LossPlace(None, 7200, 1), "before PTS 7200 (00:00:00:02 after the first PTS)"),
+                (LossPlace(3600, None, 1), "after PTS 3600 (00:00:00:01 after the first PTS)")):
             self.assertEqual(loss_line(place, 0), f"{words}: 1 TS packet was lost", place)
         words = f"between PTS {CLOCK - 3600} and 3600 (00:00:00:01 and 00:00:00:03 after the " \
-            "first): "
+            "first PTS): "
         for first, last in ((CLOCK - 7200, 3600), (CLOCK - 7201, 3599)):
             printed = loss_line(LossPlace(CLOCK - 3600, last, 1, 2), first)
             self.assertEqual(printed, words.replace(" 3600", f" {last}") +
                              "1 TS packet was lost, 2 TS packets were scrambled", (first, last))
         self.assertEqual(loss_line(LossPlace(None, 3600, 0), None),
-                         "before PTS 3600 (00:00:00:01 after the first): a break in the stream")
+                         "before PTS 3600 (00:00:00:01 after the first PTS): a break in the stream")
         self.assertEqual(loss_line(LossPlace(None, None, 1), None), "1 TS packet was lost")

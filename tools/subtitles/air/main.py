@@ -40,14 +40,14 @@ def judge_parser() -> ToolParser:
     parser.add_argument("--margin", metavar="S", type=read_seconds, default=300,
                         help="let a programme begin up to S seconds early or late (default: 300)")
     parser.add_argument("--pause", metavar="S", type=read_seconds, default=5,
-                        help="treat S seconds without a byte between two segments as not recorded "
-                             "(default: 5)")
+                        help="treat a pause of more than S seconds between two segments as not "
+                             "recorded (default: 5)")
     parser.add_argument("--every-seconds", metavar="S", type=read_seconds, default=5,
                         help="look for new segments every S seconds (default: 5)")
     parser.add_argument("--once", dest="is_once", action="store_true",
-                        help="judge what is over, then end, for use with a timer")
+                        help="judge the programmes that have ended, then exit; for a timer")
     parser.add_argument("--work", metavar="DIR",
-                        help="copy the PES packets to judge to DIR (default: OUT)")
+                        help="store the PES packets in DIR while they are judged (default: OUT)")
     parser.add_argument("--keep", dest="is_kept", action="store_true",
                         help="keep the PES packets of each programme next to its result")
     parser.add_argument("--on-result", metavar="COMMAND",

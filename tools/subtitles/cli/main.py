@@ -45,14 +45,16 @@ MODE_OPTIONS = (
            (COLLECT,), field="collect"),
     Option("--watch", "IN", "judge pairs as they arrive in a folder", (WATCH,), field="watch"),
     Option("--measure", "STL RECORDING", "print a [profile](#a-profile) made from correct "
-           "recordings: pairs, or a list of pairs", (MEASURE,), field="measure", nargs="+"))
+           "recordings, given as pairs or as a list of pairs", (MEASURE,), field="measure",
+           nargs="+"))
 CALL_OPTIONS = (
-    Option("-o", "DIR", "write report, list and JSON result to DIR", CALLS, field="out"),
-    Option("--keep", None, "keep the recording's PES packets in DIR (NAME.recording.pes); if it is "
-           "a pipe, keep everything (.ts)", (PAIR, BATCH, WATCH), field="is_kept", default=False),
+    Option("-o", "DIR", "write the report, the list of faults and the JSON result to DIR", CALLS,
+           field="out"),
+    Option("--keep", None, "keep the recording's PES packets in DIR (NAME.recording.pes), or "
+           "all data of a pipe (.ts)", (PAIR, BATCH, WATCH), field="is_kept", default=False),
     Option("--json", "FILE", "write the verdict as a JSON result", OUTPUT_MODES, field="json"),
-    Option("--csv", "FILE", "write a line for each subtitle; for many pairs, for each fault",
-           OUTPUT_MODES, field="csv"),
+    Option("--csv", "FILE", "write a CSV file with a line for each subtitle, or for many pairs "
+           "with a line for each fault", OUTPUT_MODES, field="csv"),
     Option("--junit", "FILE", "write a test case for each pair, for CI", OUTPUT_MODES,
            field="junit"),
     Option("-p", "PROGRAM", "judge with this program", (*CALLS, MEASURE), "./subttx",
@@ -64,10 +66,11 @@ CALL_OPTIONS = (
     Option("--jobs", "N", "judge N pairs at a time", (BATCH, WATCH), "one for each processor",
            field="jobs", read=read_jobs),
     Option("--limit", "SECONDS", "limit the CPU time for a pair, including subprocesses",
-           (BATCH, WATCH), "60, and 1 for each 10 MB", field="limit", read=read_limit),
+           (BATCH, WATCH), "60, plus 1 for each 10 MB of the recording", field="limit",
+           read=read_limit),
     Option("--settled", "S", "treat a file as complete after S seconds without change", (WATCH,),
            "5", field="settled", default=5, read=read_seconds),
-    Option("--quiet", None, "print only the sentence and the last line", (ALONE, PAIR),
+    Option("--quiet", None, "print only the last two lines", (ALONE, PAIR),
            field="is_quiet", default=False))
 OPTION_MODES = {one.name: one.modes for one in (*OPTIONS, *CALL_OPTIONS)}
 

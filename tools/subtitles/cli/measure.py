@@ -79,11 +79,11 @@ def propose_every(all_repeats: Sequence[Repeats]) -> Finding:
         return Finding("", ["every: there are too few headers of the page"])
     worst = max(all_repeats, key=lambda one: one.longest)
     usual = [one.usual for one in all_repeats if one.usual is not None]
-    words = f" ({max(usual)} are usual)" if usual else ""
+    words = f" (usually {max(usual)})" if usual else ""
     lines = [
         f"every: {counted(sum(repeats.headers for repeats in all_repeats), 'header')} of the page, "
-        f"at most {counted(worst.longest, 'frame')} apart{words}, first from "
-        f"{time_of(worst.longest_start)} on"]
+        f"at most {counted(worst.longest, 'frame')} apart{words}; the longest interval begins at "
+        f"{time_of(worst.longest_start)}"]
     return Finding(f"--every {worst.longest}", lines + named_lines(
         "longer intervals, which check refuses with this --every", [
             f"{counted(frames, 'frame')} from {time_of(since)} on" for repeats in all_repeats
@@ -208,8 +208,8 @@ def propose_lateness(several: Sequence[Delays], without: Sequence[str],
     begins, ends = collections.Counter[int](), collections.Counter[int]()
     for delays in several:
         begins, ends = begins + delays.begins, ends + delays.ends
-    lines += [f"within, late: in-cues {format_delays(begins)}; out-cues {format_delays(ends)} "
-              "(frames late:number of cues)"]
+    lines += ["within, late (frames late:number of cues): in-cues "
+              f"{format_delays(begins)}; out-cues {format_delays(ends)}"]
     begins, ends = remove_unusual(begins), remove_unusual(ends)
     lines += named_lines("early, which no option accepts", [
         name for one in several for name in one.early])
@@ -261,7 +261,7 @@ def propose_option(options: Iterable[str], judged: str) -> Finding:
     """Propose the national option if it is the same in all page headers. `judged` is the option
     with which the text was decoded."""
     sent = sorted(options)
-    lines = [f"option: {' and '.join(sent) or 'unknown'} by C12 to C14 of the headers; the text "
+    lines = [f"option: C12 to C14 of the headers select {' and '.join(sent) or 'none'}; the text "
              f"was read as {judged}"]
     return Finding(f"--option {sent[0]}" if len(sent) == 1 else "", lines)
 

@@ -107,7 +107,7 @@ def remove_results(folder: str, name: str, parts: PartFiles | None = None) -> No
 
 def claim_pair(folder: str | None, name: str) -> contextlib.AbstractContextManager[None]:
     """Create a folder, and lock the result files of a pair in it until the `with` block ends."""
-    return hold_lock(folder, name, f"another run of qc is writing the files of {name} in ")
+    return hold_lock(folder, name, f"another run of qc is writing the files of pair {name} to ")
 
 
 def claim_folder(folder: str | None) -> contextlib.AbstractContextManager[None]:

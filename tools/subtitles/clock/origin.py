@@ -109,7 +109,8 @@ def estimate_origin(search: OriginSearch, packets: Packets) -> OriginEstimate:
     if len(airings) > 1:
         origin.airings = [find_airing_packets(airings, number, bases, packets)
                           for number in range(len(airings))]
-        origin.lines.append(f"the programme is in the recording {len(airings)} times")
+        times = "twice" if len(airings) == 2 else f"{len(airings)} times"
+        origin.lines.append(f"the recording contains the programme {times}")
         return origin
     row = find_stretches(bases)
     if search.breaks:
@@ -133,15 +134,15 @@ def report_sent_pages(packets: Packets, search: OriginSearch, lines: list[str]) 
             raise Stop(f"{search.name}: {packets.damage}")
         lines.append(f"{search.name}: {packets.damage}; only the PES packets before it are used")
     if not timed:
-        lines.append(f"none of {counted(count, 'PES packet')} in {search.name} has a PTS: check "
-                     "refuses them (fault 34)")
+        lines.append(f"none of {counted(count, 'PES packet')} in {search.name} has a PTS: they "
+                     "are refused with fault 34")
         return False
     if marks:
-        lines.append(f"{counted(marks, 'gap marker')} {was(marks)} skipped: check refuses gap "
-                     "markers (fault 45)")
+        lines.append(f"{counted(marks, 'gap marker')} {was(marks)} skipped: gap markers are "
+                     "refused with fault 45")
     if timed + marks < count:
         lines.append(f"{count - timed - marks} of {counted(count, 'PES packet')} have no PTS and "
-                     "were skipped: check refuses them (fault 34)")
+                     "were skipped: they are refused with fault 34")
     if not packets.changes:
         requested_page = page_name(*search.page)
         others = sorted((page for page in packets.header_counts if page != requested_page),
@@ -261,8 +262,9 @@ def explain_mismatch(packets: Packets, page: Page) -> Iterator[str]:
 def offset_text(ticks: int) -> str:
     """Return a delay in ticks as text, such as `2 frames late`."""
     frames, rest = divmod(abs(ticks), TICKS)
-    more = f" and {counted(rest, 'tick')}" if rest else ""
-    return f"{counted(frames, 'frame')}{more} {'late' if ticks > 0 else 'early'}"
+    words = [counted(frames, "frame")] * bool(frames or not rest) + \
+        [counted(rest, "tick")] * bool(rest)
+    return f"{' and '.join(words)} {'late' if ticks > 0 else 'early'}"
 
 
 def find_equal_origins(part: EstimatedPart) -> list[OriginFit]:
@@ -305,7 +307,7 @@ def format_part(part: EstimatedPart, count: int, has_picture: bool = False) -> I
     equal, cue_offset = find_equal_origins(part), part.time_base.find_cue_offset(best)
     if equal:
         names = ", ".join(f"--origin {fit.origin}" for fit in equal[:NAMED])
-        yield (f"the clock is ambiguous: --origin {best.origin} is no better than {names}"
+        yield (f"ambiguous: --origin {best.origin} fits no better than {names}"
                + (f" and {len(equal) - NAMED} more" if len(equal) > NAMED else ""))
     if part.early:
         yield early_line(part.early, has_picture)
@@ -319,7 +321,7 @@ def format_part(part: EstimatedPart, count: int, has_picture: bool = False) -> I
             f"with the {kinds[1]}"
     if best.exact_matches < best.matches:
         yield (f"{best.matches - best.exact_matches} of these cues match only to the nearest "
-               "frame: check refuses PTS that are not whole frames apart (fault 61)")
+               "frame: PTS that are not whole frames apart are refused with fault 61")
     if best.matches * 2 < best.total and not cue_offset:
         yield (f"fewer than half of the cues match with --origin {best.origin}: check that this "
                "is the right subtitle file")

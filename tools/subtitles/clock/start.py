@@ -249,11 +249,11 @@ def compute_start_clock(request: Request, survey: Survey, packets: Packets) -> S
     moved = wrap_pts(first.pts - TICKS * frame + ticks)
     source = TCP if request.start == TCP else START
     name = f"the TCP {time_of(frame)}" if source == TCP else f"--start {time_of(frame)}"
-    said = "which fits the Teletext PTS" if not ticks else \
-        f"shifted {'forward' if ticks > 0 else 'back'} by {counted(abs(ticks), 'tick')} to fit " \
-        "the Teletext PTS"
+    said = "which agrees with the Teletext PTS" if not ticks else \
+        f"shifted {'forward' if ticks > 0 else 'back'} by {counted(abs(ticks), 'tick')} to " \
+        "agree with the Teletext PTS"
     return StartClock(Clock(moved, source, picture_offset=first.picture_offset),
-                      [first.line(), f"with {name} at this picture, the clock is --origin {moved}, "
+                      [first.line(), f"{name} at this picture means --origin {moved}, "
                        f"{said}"], frame)
 
 
@@ -282,5 +282,5 @@ def find_largest_offset(several: Sequence[int], origin: int) -> int:
 
 def largest_offset_text(most: int) -> str:
     """Return the largest distance of PTS from their frames as text, or "" if it is 0."""
-    return f"PTS differ from their frames by up to {counted(most, 'tick')} " \
+    return f"PTS differ from the times of their frames by up to {counted(most, 'tick')} " \
         f"({most / MILLISECOND:.2f} ms)" if most else ""

@@ -254,7 +254,7 @@ def add_page(parser: ToolParser) -> None:
 def add_program(parser: ToolParser) -> None:
     """Add the option -p, the program to run."""
     parser.add_argument("-p", dest="program", metavar="PROGRAM",
-                        help="run this program (default: the one of ./subttx)")
+                        help="run this program (default: the program that ./subttx runs)")
 
 
 def add_verbose(parser: ToolParser) -> None:

@@ -222,7 +222,7 @@ class CauseFinder(PageTransmissions):
             return self.classify_replacement(place, faulty.during)
         if faulty.after_end is None:
             return self.make_unknown_cause(place, subtitle.begin, subtitle.end,
-                                           "it is also sent at another time")
+                                           "the same text is also sent at another time")
         number = self.timeline.number_at(faulty.after_end.first)
         until = self.timeline.page_span(number).last
         if self.timeline.frames[number] >= subtitle.end:
@@ -279,8 +279,9 @@ class CauseFinder(PageTransmissions):
         if following and following[0].begin <= until and \
                 self.pages[place + 1] == self.timeline.pages[number]:
             frames = following[0].begin - end
-            return (f"it stays for {counted(frames, 'frame')}, until {following[0].name}, which has"
-                    if frames else f"{following[0].name} follows at once with") + " the same page"
+            return f"it stays for {counted(frames, 'frame')}, until {following[0].name}, which " \
+                "has the same content" if frames else \
+                f"{following[0].name} follows immediately and has the same content"
         if until == self.timeline.last or self.timeline.halt is not None:
             return ""
         return f"it disappears {counted(until + 1 - end, 'frame')} later"

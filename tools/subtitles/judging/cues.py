@@ -180,15 +180,15 @@ class CueJudge:
             return ""
         if cue.begin is None and cue.end is None:
             return "not received"
-        doubtful = end - begin - trusted
-        words = f"{counted(doubtful, 'frame')} {'is' if doubtful == 1 else 'are'} not trusted"
+        words = f"check does not trust {end - begin - trusted} of its frames"
         return f"{words}: the out-cue is moved" if cue.delay_out else words
 
     def describe_reason(self, verdict: CueVerdict) -> str:
         """Return the reason for a verdict as text, or an empty string for a right cue."""
         firsts = self.part.check_output.first_faults
         faults = [f"{number} {firsts[number].name}" for number in verdict.fault_numbers]
-        return "; ".join(filter(None, [verdict.cause, *faults, verdict.doubt]))
+        also = "also " if verdict.cause and faults else ""
+        return "; ".join(filter(None, [verdict.cause, also + ", ".join(faults), verdict.doubt]))
 
 
 MAX_FAULTS_READ = 20_000  # maximum number of faults to read from a subtitle file

@@ -242,7 +242,7 @@ def describe_silence(fault: FaultLine, part: Part) -> str:
     after = next((frame for row in frame_rows(part.packets, pes, origin, request.within)
                   for frame in row if frame > before), None)
     return "" if after is None else \
-        f"none for {counted(after - before - 1, 'frame')} from {time_of(before + 1)} on"
+        f"no PES packet for {counted(after - before - 1, 'frame')} from {time_of(before + 1)} on"
 
 
 def describe_longest_gap(sent: tuple[Sequence[int], Sequence[int]], origin: int, request: Request,
@@ -261,7 +261,7 @@ def describe_longest_gap(sent: tuple[Sequence[int], Sequence[int]], origin: int,
         return ""
     words = f"the page had no header for up to {counted(gap, 'frame')}"
     usual = repeat_distance(headers, cue_frames(times))
-    return f"{words} ({usual} are usual)" if usual and usual <= request.every else words
+    return f"{words} (usually {usual})" if usual and usual <= request.every else words
 
 
 class PartFaults:

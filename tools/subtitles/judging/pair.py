@@ -332,7 +332,8 @@ class PairJudge:
                 raise
             why = reason
         self.verdict.valid_subtitles, self.verdict.subtitle_count = None, 0
-        self.listener.add_notes(f"the other subtitles were not judged: {why}")
+        text = "; ".join(str(why).splitlines())
+        self.listener.add_notes(f"the other subtitles were not judged: {text}")
         self.judge_alone(answer, True)
 
     def judge_transmission(self) -> None:
@@ -409,8 +410,8 @@ class PairJudge:
         # Use a range other than the default, for which `read_subtitles` skips refused subtitles.
         # With the default it would raise `Unclear` with another message.
         subtitles = read_subtitles(program, given, Between(0, FRAMES_OF_A_DAY + 1), request.is_open)
-        raise Unclear(f"--to cuts the file at {time_of(at)}, where the next subtitle follows "
-                      "directly: the page is right up to there, and is not erased",
+        raise Unclear(f"--to ends the range at {time_of(at)}, where the next subtitle follows "
+                      "directly: the page is not erased there",
                       *(self.format_call("--to", time_of(end + 1))
                         for end in find_nearest_pauses(subtitles, at)))
 

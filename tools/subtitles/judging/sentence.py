@@ -348,10 +348,10 @@ def describe_first_fault(seen: Facts) -> str:
     place = fault.time or (f"PES packet {fault.pes}" if fault.pes is not None else
                            block if fault.block is not None else "")
     if seen.hint and fault.number in HINTS_ON_ALL:
-        words, place = f"from {place} on {seen.hint}", ""
+        words, place = f"from {place} on, {seen.hint}", ""
     elif seen.hint:
         words = seen.hint if fault.number in HINTS_FOR_CLAUSE else f"{words}: {seen.hint}"
-    place = place and f"{'at' if fault.time else 'in'} {place} "
+    place = place and f"{'at' if fault.time else 'in'} {place.removesuffix(',')}, "
     more = f"; {seen.faults:,} faults in all" if seen.faults > 1 else ""
     several = f": {describe_counts(seen.counts)}" if len(seen.counts) > 1 else ""
     return f"{place}{words}{more}{several}"
@@ -392,7 +392,7 @@ def describe_causes(causes: Causes, option: str) -> str:
     known = sorted(others, key=lambda name: (CAUSE_RANKS[name], CAUSE_NAMES.index(name)))
     counts = ", ".join(name if others[name] == 1 else f"{name} ({others[name]:,})"
                        for name in known)
-    return f"{words}; other causes: {counts}"
+    return f"{words}; other subtitles: {counts}"
 
 
 def describe_single_cause(cause: Cause, causes: Causes, option: str) -> str:

@@ -82,23 +82,23 @@ def advise_on_character(letter: bytes, complete_options: list[NationalOption]) -
     options that contain all characters of the file."""
     if complete_options:
         verb = "has" if len(complete_options) == 1 else "have"
-        return f"use {format_options(complete_options, 'or')}, which {verb} all characters of " \
-            "the file"
+        words = join_words([option.word for option in complete_options], "or")
+        return f"use --option {words}, which {verb} all the characters in the file"
     character = decode_character(letter)
     if character is None:
         return f"byte {letter[:1].hex().upper()} is not a character of code table 00: correct it"
     options = find_options(letter)
     if options:
-        return f"{format_options(options, 'and')} {'has' if len(options) == 1 else 'have'} " \
-            f"{character}, but not all other characters of the file"
-    return (f"no option has {character}: replace it (at level 1 it needs another region, or "
-            "packets X/26, which check refuses with fault 70)")
+        return f"no national option has all the characters in the file; {character} is in " \
+            f"{join_words([option.word for option in options], 'and')}"
+    return (f"no national option has {character}: replace it (it needs another region, or packets "
+            "X/26, which are refused with fault 70)")
 
 
-def format_options(options: list[NationalOption], conjunction: str) -> str:
-    """Return national options as a list in text, such as `--option english or italian`."""
-    *words, last = [option.word for option in options]
-    return f"--option {', '.join(words)} {conjunction} {last}" if words else f"--option {last}"
+def join_words(words: list[str], conjunction: str) -> str:
+    """Return words as a list in text, such as `english, italian or czech`."""
+    *first_words, last = words
+    return f"{', '.join(first_words)} {conjunction} {last}" if first_words else last
 
 
 # A subtitle with one of these faults is not compared with other subtitles.
@@ -169,8 +169,8 @@ class ValidSubtitles(NamedTuple):
                  for refused in self.refused[:MAX_NAMED]]
         more, total = len(self.refused) - len(named), len(self.judged) + len(self.skipped_positions)
         last = f"{more:,} more" if more else named.pop()
-        return f"{len(self.refused):,} of {total:,} subtitles are refused: " \
-            f"{', '.join(named)} and {last}"
+        return f"{len(self.refused):,} of {total:,} subtitles have faults: " \
+            f"{'; '.join(named)}; and {last}"
 
 
 def has_valid_subtitles(numbers: set[int]) -> bool:

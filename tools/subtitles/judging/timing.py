@@ -141,8 +141,8 @@ def add_delay(clock: Clock, origin: OriginEstimate) -> tuple[Clock, list[str]]:
     words = " and ".join([counted(frames, "frame")] * (frames > 0)
                          + [counted(ticks, "tick")] * (ticks > 0))
     which = "all" if origin.has_all_cues else "most"
-    where = f"up to {time_of(origin.first_shift)}" if origin.first_shift is not None else \
-        which if len(origin.printed) == 1 else f"up to the first break {which}"
+    where = f"up to {time_of(origin.first_shift)}," if origin.first_shift is not None else \
+        which if len(origin.printed) == 1 else f"up to the first break, {which}"
     line = f"{where} subtitles are {words} {'early' if sign < 0 else 'late'}"
     question = clock.question() if which == "all" and not ticks else ""
     return clock, [line, *filter(None, [question])]
@@ -163,7 +163,7 @@ def describe_wrong_clock(request: Request, clock: Clock, delay: int) -> str:
     if clock.source == GIVEN:
         return f"with --origin {clock.origin}, all subtitles would be " \
             f"{duration_text(abs(delay))} {'late' if delay > 0 else 'early'}, so the recording " \
-            "contains none of them at its time"
+            "contains no subtitle at its expected time"
     given = read_start_frame(request)
     estimated = wrap_pts(clock.origin + TICKS * delay)
     begins = round(ticks_after(estimated, pts_of(given, clock.origin)) / TICKS)
@@ -274,7 +274,7 @@ def describe_jumps(count: int, recording: Recording) -> str:
     """Return the note that losses can't be detected at `count` announced jumps of the counter, or
     "" if `count` is 0."""
     return f"{UNCHECKED} losses on {format_pid(recording.packets.pid)} at " \
-        f"{counted(count, 'place')} where the stream announces a jump of the counter" \
+        f"{counted(count, 'place')} where the stream announces a jump of the continuity counter" \
         if count else ""
 
 
@@ -301,10 +301,10 @@ def describe_unchecked_losses(pace: Pace, unseen: int | None, recording: Recordi
         return without
     if pace.kind == REGULAR:
         seconds = (pace.loss_interval - 1) / FRAMES_A_SECOND
-        what = f"losses of up to {seconds:.2f} s that only this PID would show" \
+        what = f"losses of up to {seconds:.2f} s on this PID alone" \
             if recording.is_stream else "a missing PES packet"
-        return f"{UNCHECKED} {what}, at {counted(pace.hidden_places, 'place')} where PES packets " \
-            "are closer together"
+        return f"{UNCHECKED} {what} at {counted(pace.hidden_places, 'place')} where PES packets " \
+            "are too close together"
     why = {IRREGULAR: "the PES packets come at irregular intervals",
            PAUSED: f"there is no PES packet for up to {counted(pace.interval, 'frame')}",
            TOO_FEW: "there are too few PES packets to measure their interval"}[pace.kind]
@@ -312,7 +312,7 @@ def describe_unchecked_losses(pace: Pace, unseen: int | None, recording: Recordi
         return f"{UNCHECKED} missing PES packets: {why}"
     tenths = 10 * (unseen or 0) // FRAMES_A_SECOND
     what = f"losses of {tenths / 10} s or more" if tenths else "losses"
-    return f"{UNCHECKED} {what} that only this PID would show: {why}"
+    return f"{UNCHECKED} {what} on this PID alone: {why}"
 
 
 def describe_missing_pcr(recording: Recording) -> str:

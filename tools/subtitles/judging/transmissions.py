@@ -41,7 +41,7 @@ RECEIVER_EFFECTS = (
     (SUPPRESS, True, "shows a header line"),
     (NEWSFLASH, False, "appears as a newsflash"),
 )
-OTHER_LETTERS = "has other characters"
+OTHER_LETTERS = "is shown with wrong characters"
 
 
 class PageHeader(NamedTuple):

@@ -42,8 +42,8 @@ class DelaySpread(NamedTuple):
         middle = "" if self.minimum == self.maximum else f" (median {self.median})"
         never = f"; {self.never_complete} {was(self.never_complete)} never complete" \
             if self.never_complete else ""
-        return f"subtitles were complete {format_frame_range(self.minimum, self.maximum)} after " \
-            f"their TCI{middle}{never}"
+        delay = f"{format_frame_range(self.minimum, self.maximum)} after" if self.maximum else "at"
+        return f"subtitles were complete {delay} their TCI{middle}{never}"
 
 
 def summarize_delays(several: Iterable[int | None]) -> DelaySpread | None:

@@ -47,9 +47,9 @@ def find_timing_notices(packets: Packets, origin: int) -> Iterator[Notice]:
         time = time_in(strange.pts, origin)
         where = f"from {time} on" if time else f"from PTS {strange.pts} on"
         yield Notice(f"pts_{strange.kind}",
-                     f"{where}, the Teletext PTS {ANOMALY_TEXTS[strange.kind]}, "
-                     f"by up to {abs(strange.worst) / SECOND:.2f} s in {strange.number} of "
-                     f"{strange.total} samples", time)
+                     f"{where}, the Teletext PTS {ANOMALY_TEXTS[strange.kind]} (by up "
+                     f"to {abs(strange.worst) / SECOND:.2f} s, in {strange.number} of "
+                     f"{strange.total} samples)", time)
 
 
 def find_jump_notices(packets: Packets, origin: int, first: int, last: int) -> Iterator[Notice]:

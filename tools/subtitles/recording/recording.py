@@ -308,7 +308,7 @@ class Recording:
         return self.is_stream and has_first_picture(self.survey, self.packets.pid)
 
     def no_picture_error(self, reason: NoFirstPicture) -> Unclear:
-        return Unclear(f"{self.name}: no first picture for --start: {reason}",
+        return Unclear(f"--start cannot be used with {self.name}: {reason}",
                        self.suggest_call("--origin", "T"))
 
     def suggest_call(self, *more: str) -> str:

@@ -9,8 +9,9 @@ import stat
 from typing import Any, Callable, Iterable, Mapping, NamedTuple, Sequence
 
 from ..common.command_line import (
-    Lateness, MAX_EVERY, MAX_WITHIN, Stop, ToolParser, escape_hidden, format_lateness,
-    parse_break_count, parse_lateness, parse_origin, parse_packet_range, parse_page,
+    Lateness, MAX_EVERY, MAX_WITHIN, Stop, ToolParser, counted, escape_hidden,
+    format_lateness, parse_break_count, parse_lateness, parse_origin, parse_packet_range,
+    parse_page,
     parse_pes_interval, parse_pid, parse_repeat_interval, parse_start, parse_time, parse_within)
 from ..common.files import read_first_bytes, make_safe_name
 from ..common.shapes import (
@@ -181,27 +182,27 @@ OPTIONS: tuple[Option, ...] = (
     Option("--no-allow-lost", None, "treat lost TS packets as errors, even if the profile allows "
            "them", PAIRS, "they are errors", field="is_loss_allowed", default=False,
            flag_value=False),
-    Option("--severity", "FILE", "read from FILE which faults are only warnings; its lines are "
-           "`NUMBER warning`, `NUMBER error` or `others warning`", JUDGED, "all are errors",
+    Option("--severity", "FILE", "read from FILE which faults are only warnings, in lines such as "
+           "`67 warning` or `others warning`", JUDGED, "all are errors",
            field="severity", is_in_profile=True, shape=Maybe(Text())),
     Option("--breaks", "N", "expect N [breaks](#programmes-with-breaks) in the programme; each "
            "part has its own clock", PAIRS, "0", field="breaks", default=0,
            read=parse_break_count, shape=COUNT),
-    Option("--pes", "I-J", "judge only PES packets I to J, if the recording has the programme "
-           "twice", MEASURED_PAIRS, "all", field="pes", read=parse_packet_range, write=format_range,
-           shape=Maybe(Listed(COUNT, 2, 2))),
+    Option("--pes", "I-J", "judge only PES packets I to J, for a recording that contains the "
+           "programme twice", MEASURED_PAIRS, "all", field="pes", read=parse_packet_range,
+           write=format_range, shape=Maybe(Listed(COUNT, 2, 2))),
     Option("--start", "TIME|tcp", "take TIME as the time code of the recording's [first picture]"
            "(#the-clock-by-the-first-picture); `tcp`: use the TCP of the GSI block",
            MEASURED_PAIRS, "estimated", field="start", read=parse_start, is_in_profile=True,
            shape=Maybe(Text())),
-    Option("--relative", None, "exit with status 0, not 3, for [`relative`]"
+    Option("--relative", None, "exit with status 0, not 3, if the verdict is [`relative`]"
            "(#verdicts-and-exit-status)", PAIRS, "status 3", field="is_relative_allowed",
            default=False, is_in_profile=True, shape=Flag()),
     Option("--within", "N", "accept pages that are complete at most N frames after their cues",
            MEASURED_PAIRS, "0", field="within", default=0, read=parse_within, check_default=0,
            is_in_profile=True, shape=Integer(0, MAX_WITHIN)),
-    Option("--late", "SHARES", "choose the likeliest clock; SHARES are the usual shares of "
-           "in-cues and, after the slash, of out-cues that are 0, 1 .. frames late, as "
+    Option("--late", "SHARES", "choose the likeliest clock by the usual delays of in-cues and, "
+           "after a slash, out-cues: each delay in frames and its share, for example "
            "`0:31,1:40,2:29/0:100`; only with `--within`",
            PAIRS, "none", field="late", read=parse_lateness, write=format_lateness,
            is_in_profile=True,
@@ -214,7 +215,7 @@ OPTIONS: tuple[Option, ...] = (
            field="to_time", read=check_time, check_default=None, shape=Maybe(TIME)),
     Option("--layout", "TEXT", "expect pages in the [layout]"
            "(subtitle-files.md#as-your-inserter-draws-it---layout) of your inserter", JUDGED,
-           "the layout of check", field="layout", read=check_layout, check_default=None,
+           "the layout that check expects", field="layout", read=check_layout, check_default=None,
            changes_pages=True, is_in_profile=True, shape=Maybe(Text())),
     Option("--open", None, "accept a file of open subtitles", MEASURED, "it is refused",
            field="is_open", default=False, check_default=False, changes_pages=True, shape=Flag()),
@@ -413,8 +414,8 @@ def make_file_request(stl: str, recording: str | None, options: argparse.Namespa
     if options.origin is not None and options.start is not None:
         raise Stop("--start and --origin both give the clock: remove one")
     if options.late and options.late.longest > options.within:
-        raise Stop(f"--late has delays of {options.late.longest} frames, but --within allows "
-                   f"{options.within}: give a greater --within")
+        raise Stop(f"--late contains a delay of {counted(options.late.longest, 'frame')}, but "
+                   f"--within allows only {options.within}: increase --within")
     request = Request(make_safe_name(stl), recording_name, **option_values(options))
     if request.option == AUTO and not is_pipe(request.stl):  # a pipe is read later
         choose_option(request)

@@ -192,7 +192,7 @@ def read_call_result(path: str, name: str, exit_status: int, messages: Sequence[
     if exit_status < 0:
         return make_unjudged(name, "the process was killed")
     return make_unjudged(name, messages[-1].partition(": ")[2] if messages
-                         else "the process wrote no result")
+                         else "the judging process wrote no result")
 
 
 def make_row(result: dict[str, Any], name: str) -> Row:

@@ -95,14 +95,14 @@ def describe_loss(place: LossPlace) -> str:
     """Describe the missing packets at a place."""
     said = [f"{counted(place.lost, 'TS packet')} {was(place.lost)} lost"] \
         if place.lost and not place.missing else []
-    by = f" (the counter shows {counted(place.lost, 'TS packet')})" if place.lost else \
+    by = f" ({counted(place.lost, 'TS packet')} according to the counter)" if place.lost else \
         " and the counters of other PIDs"
     said += [f"{place.missing / SECOND:.2f} s of TS packets are missing according to the PCR{by}"] \
         if place.missing else []
     said += [f"{counted(place.scrambled, 'TS packet')} {was(place.scrambled)} scrambled"] \
         if place.scrambled else []
     said += ["the interval between PES packets is unusually long, and the stream announces a jump "
-             "of the counter"] if place.is_announced else []
+             "of the continuity counter"] if place.is_announced else []
     return ", ".join(said) or "a break in the stream"
 
 
@@ -112,7 +112,7 @@ def loss_line(place: LossPlace, first: int | None) -> str:
     names = " and ".join(map(str, known))
     times = " and ".join(time_of(wrap_pts(pts - (first or 0)) // TICKS) for pts in known)
     where = "between" if len(known) == 2 else "before" if place.before is None else "after"
-    return (f"{where} PTS {names} ({times} after the first): " if known
+    return (f"{where} PTS {names} ({times} after the first PTS): " if known
             else "") + describe_loss(place)
 
 

@@ -37,7 +37,7 @@ class PacketRange(NamedTuple):
     def describe(self) -> str:
         count = counted(self.read, "PES packet")
         if self.range is None or self.first is None or self.last is None:
-            return f"none of {count} is in these frames with a header of the page, or after one"
+            return f"none of {count} in these frames contains a header of the page or follows one"
         kept = self.range[1] - self.range[0] + 1
         return f"{kept} of {count}, from {time_of(self.first)} to {time_of(self.last)}"
 
