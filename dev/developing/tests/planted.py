@@ -200,8 +200,8 @@ class Programme:
         assert fault
         place, other = min(fault.place, fault.other), max(fault.place, fault.other)
         if fault.kind == EXCHANGED:
-            return f"2 of {len(self.times)} subtitles have other subtitles' texts (first at " \
-                f"{self.time(place)}, last at {self.time(other)})" in sentence
+            return f"2 of {len(self.times)} subtitles have other subtitles' texts (the first at " \
+                f"{self.time(place)}, the last at {self.time(other)})" in sentence
         return bool(re.match(rf'Refused: subtitle {fault.place + 1} at {self.time(fault.place)}'
                              rf'(, ".*",)? {SENTENCES[fault.kind]}\b', sentence))
 

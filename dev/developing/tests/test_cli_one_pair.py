@@ -228,14 +228,15 @@ class OutputFilesOfPair(Case):
             path = self.write(f"out/{name}", data)
             told = self.refusal(asked, out=out)
             self.must(f"{name} {data!r}", bool(told) != is_own and (is_own or told.startswith(
-                f"{path} exists and is not a result")) and self.read(f"out/{name}") == data, told)
+                f"{path} exists and was not written by")) and self.read(f"out/{name}") == data,
+                      told)
             os.unlink(path)
             os.symlink(self.path("one.pes"), path)
             self.must(f"{name}: a link", not self.refusal(asked, out=out))
             os.unlink(path)
             for make in (os.mkdir, os.mkfifo):
                 make(path)
-                self.must(f"{name}: {make}", "not a result" in self.refusal(asked, out=out))
+                self.must(f"{name}: {make}", "was not written by" in self.refusal(asked, out=out))
                 os.rmdir(path) if make is os.mkdir else os.unlink(path)
         result = self.write("out/one.json", rows[0][1])
         kept = self.write("out/one.recording.ts", b"")

@@ -45,7 +45,7 @@ class Pairs(Case):
         lines = lines_of(done)
         commands = [line[2:] for line in lines if line.startswith("+ ")]
         self.must("relative", (done.status, lines[-1], done.told) == (3, RELATIVE, [
-            "qc: not checked for losses on this PID alone: there are too few PES "
+            "qc: not checked: losses on this PID alone, since there are too few PES "
             "packets to measure their interval"]), done)
         self.must("one command, on the two files", [one.split()[1:] for one in commands] == [[
             "check", STORY, RECORDING, "--pid", "0x101", "--pes", "2-6", "--complete", "--origin",

@@ -48,7 +48,7 @@ class UnjudgedPairs(Case):
         rows: list[tuple[str, str, str, str]] = [
             ("in use", "", "", "another run of qc is writing the files of pair one"),
             ("an input", "", "--severity out/one.html", "is also an input: give another name"),
-            ("no result", "", "", "is not a result of these tools"),
+            ("no result", "", "", "was not written by these tools"),
             ("no pair", "none.ts", "", "none.ts: No such file")]
         before = os.getcwd()
         self.addCleanup(os.chdir, before)
@@ -99,7 +99,7 @@ class UnjudgedPairs(Case):
             self.must("in use", calls.start(item) and calls.in_use == {"one"})
         self.write("out/one.html", b"theirs")
         row = calls.start(item)
-        self.must("no result", row and "is not a result" in row.line and not calls.in_use, row)
+        self.must("no result", row and "was not written by" in row.line and not calls.in_use, row)
 
     def test_runs_at_most_as_many_pairs_as_requested(self) -> None:
         for jobs, count in itertools.product((1, 2, 3), range(4)):
@@ -136,7 +136,7 @@ class UnjudgedPairs(Case):
                    [(self.path("out"),)])
         self.check("reasons", [row and row.line.replace(self.path(""), "") for row in rows],
                    ["no pair"] * 20 + [
-                       f"out/{name} exists and is not a result of these tools: move it away, or "
+                       f"out/{name} exists and was not written by these tools: move it away, or "
                        "give another folder" for name in (
                            "one.7.txt", "two.1.txt", "three.1.html")])
 

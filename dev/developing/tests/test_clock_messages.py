@@ -53,48 +53,57 @@ class OriginLines(unittest.TestCase):
     def test_describes_a_part_by_its_best_origin(self) -> None:
         rows: list[tuple[Any, int, list[str]]] = [
             (self.part(9, 9, 9, others=[self.other(at, 9) for at in range(7)]), 20,
-             ["9 of 9 cues match, 9 with the expected text; the file has 20 cues; the next "
+             ["9 of 9 cues in the recording match, 9 with the expected text; the file has 20 cues; "
+              "the next "
               "best is --origin 0 with 9 cues", "ambiguous: --origin 9 fits no better "
               "than --origin 0, "
               "--origin 1, --origin 2, --origin 3, --origin 4 and 2 more"]),
             (self.part(4, 9, 4), 20,
-             ["4 of 9 cues match, 4 with the expected text; the file has 20 cues; no other origin "
+             ["4 of 9 cues in the recording match, 4 with the expected text; the file has 20 cues; "
+              "no other origin "
               "matches a cue", "fewer than half of the cues match with --origin 9: check that this "
               "is the right subtitle file"]),
             (self.part(9, 10, 9, within=3, delays=[0], early=EarlyCues(1, 30, 2),
                        first_unmatched=50),
-             20, ["9 of 10 cues match, 9 with the expected text; the file has 20 cues; no other "
+             20, ["9 of 10 cues in the recording match, 9 with the expected text; the file has 20 "
+                  "cues; no other "
                  "origin matches a cue", "no cue is late", "1 of 30 cues is up to 2 frames early "
                  "compared with the other cues",
                  "the first cue without a match is at 00:00:02:00"]),
             (self.part(8, 10, 8, within=3, delays=[0], early=EarlyCues(2, 10, 1)), 20,
-             ["8 of 10 cues match, 8 with the expected text; the file has 20 cues; no other origin "
+             ["8 of 10 cues in the recording match, 8 with the expected text; the file has 20 "
+              "cues; no other origin "
               "matches a cue", "no cue is late", "2 of 10 cues are up to 1 frame early compared "
               "with the other cues: either these cues are early, or the other cues are late. Give "
               "--origin or --start"])]
         for count, words in ((5, ""), (6, " and 1 more")):
             rows.append((self.part(9, 9, 9, first_unmatched=0, others=[
                 self.other(at, 9) for at in range(count)]), 20, [
-                    "9 of 9 cues match, 9 with the expected text; the file has 20 cues; the next "
+                    "9 of 9 cues in the recording match, 9 with the expected text; the file has 20 "
+                    "cues; the next "
                     "best is --origin 0 with 9 cues", "ambiguous: --origin 9 fits no "
                     "better than "
                     f"--origin 0, --origin 1, --origin 2, --origin 3, --origin 4{words}",
                     "the first cue without a match is at 00:00:00:00"]))
         rows.append((self.part(3, 3, 3, within=3, delays=[2, 1, 3, 2]), 20, [
-            "3 of 3 cues match, 3 with the expected text; the file has 20 cues; no other origin "
+            "3 of 3 cues in the recording match, 3 with the expected text; the file has 20 cues; "
+            "no other origin "
             "matches a cue",
             "cues are 1 to 3 frames late (median 2)"]))
         rows += [(self.part(9, 9, 9, exact_matches=9 - off), 9, [
-            "9 of 9 cues match, 9 with the expected text; this part has 20 cues; no other origin "
+            "9 of 9 cues in the recording match, 9 with the expected text; this part has 20 cues; "
+            "no other origin "
             "matches a cue",
-            f"{off} of these cues match only to the nearest frame: PTS that are not whole frames "
+            f"{off} of the matching cues match only to the nearest frame: PTS that are not whole "
+            "frames "
             "apart are refused with fault 61"]) for off in (1, 9)]
         for is_begin, matches, late, line in (
                 (True, 5, 2, "all in-cues are 2 frames late compared with the out-cues"),
                 (False, 4, -1, "4 of 5 out-cues are 1 frame early compared with the in-cues")):
             apart = SimpleNamespace(is_begin=is_begin, matches=matches, total=5, delay=late)
             rows.append((self.part(4, 9, 4, apart=apart), 20, [
-                "4 of 9 cues match, 4 with the expected text; the file has 20 cues; no other "
+                "4 of 9 cues in the recording match, 4 with the expected text; the file has 20 "
+                "cues; no other "
                 "origin matches a cue", line]))
         for part, count, lines in rows:
             self.assertEqual([*format_part(part, count, True)], lines, (part, count, lines))
@@ -140,7 +149,8 @@ class OriginLines(unittest.TestCase):
                 (9 + at, (at, 7) if count > 1 else None, (1000 * at, 1000 * at + 500), cues - 1,
                  cues) for at, cues in enumerate((20, 12, 6))], (origin, count))
             for line, is_there in (("3 parts: 35 of 38 cues match", True),
-                                   ("19 of 20 cues match, 19 with the expected text; this part has "
+                                   ("19 of 20 cues in the recording match, 19 with the expected "
+                                    "text; this part has "
                                     "20 cues; no other origin matches a cue", True),
                                    ("the subtitles match --origin 9", origin == 9),
                                    *((f"the subtitle from 00:00:0{at}:00 to 00:00:0{at + 2}:00 "
@@ -186,10 +196,10 @@ class OriginLines(unittest.TestCase):
                 (runs[:1], [], "is cut", [change],
                  ["one: is cut; only the PES packets before it are used"]),
                 (runs[:2], marks, "", [change],
-                 ["1 gap marker was skipped: gap markers are refused with fault 45"]),
+                 ["1 gap marker was ignored here, but check refuses gap markers (fault 45)"]),
                 (runs, marks, "is cut", [change], [
                     "one: is cut; only the PES packets before it are used",
-                    "1 gap marker was skipped: gap markers are refused with fault 45",
+                    "1 gap marker was ignored here, but check refuses gap markers (fault 45)",
                     "1 of 4 PES packets have no PTS and were skipped: they are refused with "
                     "fault 34"]),
                 (runs[:1], [], "", [], ["one has no header of page 888; other subtitle pages: 777, "

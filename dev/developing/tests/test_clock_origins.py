@@ -274,9 +274,9 @@ class Origins(Case):
         rows: list[tuple[str, list[bytes], bool, list[str]]] = [
                 ("good", good, True, []),
                 ("bare", [bare, bare], False, ["none of 2 PES packets in a.pes has a PTS: "]),
-                ("marks", [*good, GAP_MARKER], True, ["1 gap marker was skipped"]),
+                ("marks", [*good, GAP_MARKER], True, ["1 gap marker was ignored"]),
                 ("some", [*good, GAP_MARKER, bare, GAP_MARKER], True, [
-                    "2 gap markers were skipped", "1 of 6 PES packets have no PTS "]),
+                    "2 gap markers were ignored", "1 of 6 PES packets have no PTS "]),
                 ("another page", other, False, ["a.pes has no header of page 888; other subtitle "
                                                 "pages: 887"]),
                 ("other pages", [make_pes_packet(number, [make_packet(0, 0, [

@@ -45,7 +45,7 @@ class Requests(Case):
             self.assertEqual((len(found.airings), [one.origin for one in found.parts]), (
                 runs, [] if number is None else [TICKS * number]), request)
             self.assertTrue(runs or found.parts[0].line.startswith(
-                f"{count} of {count} cues match, "), found)
+                f"{count} of {count} cues in the recording match, "), found)
 
     def test_takes_a_given_clock_and_given_delays_into_account(self) -> None:
         many, late = [0, 0, 0, *[2] * 21], Lateness({2: 1, 0: 1}, {2: 1, 0: 1})

@@ -32,12 +32,12 @@ TS = example("story.stl"), example("recording.ts")
 PES = example("story.stl"), example("story.pes")
 RECORDING_PID = "PID 0x101: 7 of 7 PES packets have a header of page 888; no other PID sends the " \
     "page"
-AGREE = "clock: 5 of 5 cues match, 5 with the expected text; the file has 5 cues; "
+AGREE = "clock: 5 of 5 cues in the recording match, 5 with the expected text; the file has 5 cues; "
 ORIGIN_OF_TS = "origin", "5000000000", 5, 5, 1, \
     f"{AGREE}the next best is --origin 1678370000 with 2 cues"
 CUT = "pes", "2-6", 5, 7, 1, "range: 5 of 7 PES packets, from 20:15:00:00 to 20:15:09:00"
 PID = "pid", "0x101", 7, 7, None, RECORDING_PID
-PACE = "pace", None, None, None, 1, "not checked for losses on this PID alone: " \
+PACE = "pace", None, None, None, 1, "not checked: losses on this PID alone, since " \
     "there are too few PES packets to measure their interval"
 # Arguments, and the expected choices: option, value, matches, total, part, printed line.
 ROWS: list[tuple[Sequence[str], list[tuple[Any, ...]]]] = [
@@ -106,7 +106,7 @@ class Choices(Case):
             pace = [one for one in choices_of(found) if one[0] == "pace"]
             self.must(f"{words}",
                       [one[1:5] for one in pace] == [(None, None, None, 1)] * (not words)
-                      and all("not checked for " in one[5] for one in pace)
+                      and all("not checked: " in one[5] for one in pace)
                       and not [*choice_errors(found.result, found.said)], found.said)
 
     def test_chooses_the_option_of_the_language_code(self) -> None:

@@ -59,11 +59,12 @@ class Descriptions(Case):
                  'subtitle 2 at 00:00:01:00, \"text\", was never sent; other subtitles: '
                  'wrong text'),
                 ([cause(0, WRONG_TEXT), cause(1, NEVER), cause(3, NEVER)],
-                 "2 of 9 subtitles were never sent (first at 00:00:01:00, last at 00:00:03:00); "
+                 "2 of 9 subtitles were never sent (the first at 00:00:01:00, the last at "
+                 "00:00:03:00); "
                  "other subtitles: wrong text"),
                 ([cause(0, LATE, 2), cause(1, LATE, 1), cause(3, WRONG_TEXT), cause(5, WRONG_PLACE),
                   cause(6, WRONG_TEXT), cause(8, WRONG_ATTRIBUTE)],
-                 "2 of 9 subtitles have the wrong text (first at 00:00:03:00, last at "
+                 "2 of 9 subtitles have the wrong text (the first at 00:00:03:00, the last at "
                  "00:00:06:00); other subtitles: wrong place, late (2), wrong colour or attribute"),
                 ([cause(0, OTHER_TEXT), cause(1, OTHER_TEXT), cause(2, NEVER)],
                  'subtitle 3 at 00:00:02:00, \"text\", was never sent; other subtitles: another '
@@ -72,19 +73,20 @@ class Descriptions(Case):
                         WRONG_TEXT)._replace(sent_page=(b" " * 40,) * 23 + (b"texts".ljust(40),))],
                  'subtitle 1 at 00:00:00:00 has the wrong text: expected "text", received "texts"'),
                 ([cause(4, LATE, 7), cause(6, LATE, 3), cause(8, LATE, 5)],
-                 "3 of 9 subtitles appeared 3 to 7 frames late (first at 00:00:04:00, last at "
+                 "3 of 9 subtitles appeared 3 to 7 frames late (the first at 00:00:04:00, the last "
+                 "at "
                  "00:00:08:00)"),
                 ([cause(4, LATE, 7), cause(8, LATE, 7)],
-                 "2 of 9 subtitles appeared 7 frames late (first at 00:00:04:00, last at "
+                 "2 of 9 subtitles appeared 7 frames late (the first at 00:00:04:00, the last at "
                  "00:00:08:00)"),
                 ([cause(0, NOT_ERASED, None, "a"), cause(1, NOT_ERASED, None, "a")],
-                 "2 of 9 subtitles were not erased (a) (first at 00:00:00:00, last at "
+                 "2 of 9 subtitles were not erased (a) (the first at 00:00:00:00, the last at "
                  "00:00:01:00)"),
                 ([cause(0, UNKNOWN_CAUSE, None, "a"), cause(1, UNKNOWN_CAUSE, None, "b")],
-                 "2 of 9 subtitles are not as expected (first at 00:00:00:00, last at "
+                 "2 of 9 subtitles are not as expected (the first at 00:00:00:00, the last at "
                  "00:00:01:00)"),
                 ([cause(0, OTHER_TEXT), cause(7, OTHER_TEXT)], "2 of 9 subtitles have other "
-                 "subtitles' texts (first at 00:00:00:00, last at 00:00:07:00)"),
+                 "subtitles' texts (the first at 00:00:00:00, the last at 00:00:07:00)"),
                 ([cause(2, TEXT_IN_PAUSE, None, "at 10:00")],
                  "another text was sent in a pause, at 10:00"),
                 ([cause(at, TEXT_IN_PAUSE, None, f"at 10:0{at}") for at in (2, 4)],

@@ -30,11 +30,10 @@ from .test_stream_layouts import HOUSES, line
 FIRST, EACH, LASTS = 3000, 60, 45  # first TCI, interval between TCIs, and duration, in frames
 DSC = slice(11, 12)
 FAULTS = [
-    ("left=40", "left=40 is not an item: left takes 0 to 39"), ("fit,fit", "fit is given twice"),
-    ("fit=1", "fit=1 is not an item: fit takes no value"), ("pitch=1", "pitch=1 is not an item"),
-    ("", "an empty word is not an item"), ("fit,", "an empty word is not an item"),
-    ("up,after=0E", "after=0E is not an item: after takes up to 4 codes 01 to "
-                    "0D"), ("fit,up", None)]
+    ("left=40", "left=40 is not valid: left takes 0 to 39"), ("fit,fit", "fit is given twice"),
+    ("fit=1", "fit=1 is not valid: fit takes no value"), ("pitch=1", "pitch=1 is an unknown item"),
+    ("", "an empty word is an unknown item"), ("fit,", "an empty word is an unknown item"),
+    ("up,after=0E", "after=0E is not valid: after takes up to 4 codes 01 to 0D"), ("fit,up", None)]
 def file_of(case: Case, texts: list[tuple[bytes, int]], name: str, dsc: bytes = b"1") -> str:
     """Write a subtitle file with these texts and justification codes. Return its path."""
     blocks = b"".join(make_subtitle_blocks(

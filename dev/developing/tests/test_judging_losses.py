@@ -75,8 +75,8 @@ class HiddenPages(ProgrammeCase):
         each_other = [one for at, one in enumerate(sent) if at % 2 == 0 or at == PLACE + 1]
         judged = self.judge(each_other)
         self.must("closer",
-                  judged.parts("pace") == [(2,)] and "not checked for a missing PES "
-                  "packet at 1 place where PES packets are too close together" in
+                  judged.parts("pace") == [(2,)] and "not checked: a missing PES "
+                  "packet, at 1 place where PES packets are too close together" in
                   judged.result["notes"], judged.said)
 
     def test_notes_an_undetectable_loss_between_repeat_and_cue(self) -> None:
@@ -92,7 +92,7 @@ class HiddenPages(ProgrammeCase):
                                  ("missing", sent[:place] + sent[place + 1:], "accepted")):
             judged = self.judge(some, "--every", "25")
             self.must(name, judged.word == word and judged.parts("pace") == [(25,)] and any(
-                "not checked for a missing " in note for note in judged.result["notes"]),
+                "not checked: a missing " in note for note in judged.result["notes"]),
                 judged.said)
 
     def test_finds_a_loss_that_an_announced_jump_hides(self) -> None:
@@ -127,7 +127,7 @@ class HiddenPages(ProgrammeCase):
         sent = [one for at, one in enumerate(self.with_wrong()) if at % 12 == 0 or one[1]]
         sent = [one for one in sent if one[0] // TICKS < BEGIN + 600]
         place = [pts // TICKS for pts, _ in sent].index(AT)
-        note = "not checked for missing PES packets: there are too few PES packets to measure " \
+        note = "not checked: missing PES packets, since there are too few PES packets to measure " \
             "their interval"
         for some, word in ((sent, "refused"), (sent[:place] + sent[place + 1:], "accepted")):
             judged = self.judge(some, "--to", "10:00:18:00")
@@ -136,7 +136,7 @@ class HiddenPages(ProgrammeCase):
                       and judged.parts("pace") == [(None,)], judged.said)
         made = make_multiplex([large(make_pes_packet(pts, some), 4) for pts, some in sent],
                               Shape(100))
-        note = "not checked for losses of 1.4 s or more on this PID alone: there are " \
+        note = "not checked: losses of 1.4 s or more on this PID alone, since there are " \
             "too few PES packets to measure their interval"
         for count, is_announced, word in ((0, False, "refused"), (16, False, "accepted"),
                                           (4, True, "lost")):
@@ -151,7 +151,7 @@ class HiddenPages(ProgrammeCase):
         frame = sent[wrong - 1][0] // TICKS + 1  # between two PES packets
         sent[wrong:wrong + 1] = [(frame * TICKS, WRONG), (AT * TICKS, [])]
         made = self.multiplexed(sent, 0, 1 << 20, 3)
-        note = "not checked for losses on PID 0x101 at 1 place where the stream announces a " \
+        note = "not checked: losses on PID 0x101, at 1 place where the stream announces a " \
             "jump of the continuity counter"
         for words in ((), ("--pace", "3"), ("--pace", "none")):
             whole = self.judge_stream(made, *words)

@@ -178,10 +178,10 @@ class Sentences(ProgrammeCase):
 
         missing = [one for one in self.sent if not 301 * TICKS <= one[0] < 350 * TICKS]
         rows: list[tuple[Sent, list[str], str]] = [
-            (moved(range(2, 21)), [], "Refused: 19 of 20 subtitles appeared 7 frames late (first "
-             "at 00:00:08:00, last at 00:01:20:00)."),
-            (moved(range(4, 8)), [], "Refused: 4 of 20 subtitles appeared 7 frames late (first at "
-             "00:00:16:00, last at 00:00:28:00)."),
+            (moved(range(2, 21)), [], "Refused: 19 of 20 subtitles appeared 7 frames late (the "
+             "first at 00:00:08:00, the last at 00:01:20:00)."),
+            (moved(range(4, 8)), [], "Refused: 4 of 20 subtitles appeared 7 frames late (the "
+             "first at 00:00:16:00, the last at 00:00:28:00)."),
             (moved([3]), [], 'Refused: subtitle 3 (SN 52) at 00:00:12:00, "Number 52", appeared 7 '
              'frames late.'),
             (moved([3], 2), [], 'Refused: subtitle 3 (SN 52) at 00:00:12:00, "Number 52", appeared '

@@ -233,12 +233,12 @@ class RefusedSubtitles(Case):
         odd[11:12] = b"7"  # with an invalid DSC, all subtitles are refused
         rows: list[tuple[str, list[str], str]] = [
             (self.write_stl(3), [empty], "not judged"), (self.write_stl(3), [], "waived"),
-            (self.write("odd.stl", bytes(odd)), [self.pes], "not judged"),
-            (self.path("odd.stl"), [], "waived")]
+            (self.write("odd.stl", bytes(odd)), [self.pes], "refused"),
+            (self.path("odd.stl"), [], "refused")]
         for stl, more, word in rows:
             found = judge_files(self, stl, *more, *WORDS, "--severity", mild)
             self.must(f"named warnings {stl} {more}", found.word == word and
-                      found.verdict.unjudged_reason == (None if word == "waived" else UNREAD),
+                      found.verdict.unjudged_reason == (UNREAD if word == "not judged" else None),
                       found.said)
         for stl, when in ((self.write_stl(3), "check*--pes*--all*"), (self.stl, "show*")):
             found = judge_files(self, stl, self.pes, *WORDS, by=self.program_but(when, "exit 9"))

@@ -89,21 +89,21 @@ class Sentences(unittest.TestCase):
                  "of the subtitle file's 00:00:00:00)."),
                 (Facts(RELATIVE, 40, has_picture=True), "All 40 subtitles match relative to each "
                  "other. No clock was given, so a delay that they all share was not checked: add "
-                 "--start TIME (the time code of the recording's first picture, on the subtitle "
-                 "file's own clock, or `tcp`) or --origin PTS."),
+                 "--origin PTS, --start tcp, or --start TIME (the time code of the recording's "
+                 "first picture on the subtitle file's clock)."),
                 (Facts(RELATIVE, 2, within=1), "All 2 subtitles match relative to each other "
                  f"within 1 frame. No clock was given, so a delay that they all share {ADD}."),
                 (Facts(RELATIVE, 6, parts=2), "All 6 subtitles match relative to the others in "
                  "their part. No clock was given, so a delay that all subtitles in a part share "
                  f"{ADD}."),
-                (Facts(RELATIVE, 1), "The subtitle has the right text and length. No clock was "
+                (Facts(RELATIVE, 1), "The subtitle has the right text and duration. No clock was "
                  f"given, so its delay {ADD}."),
                 (Facts(RELATIVE, 2, first=fault, faults=1, hint="no header"), "Waived, since "
                  "these faults are declared as warnings: from 10:00:00:00 on, no header. No clock "
                  f"was given, so a delay that all subtitles share {ADD}."),
                 (Facts(REFUSED, 2, first=parse_fault_line("refused 45 Lost pes 7"), faults=3, lost=[
                     "a", "b"], counts=[FaultCount(45, "Lost", 2), FaultCount(73, "Gap", 1)]),
-                 "Refused: a, and in 1 more place; record that part again; also 73 Gap."),
+                 "Refused: a, and in 1 more place; also 73 Gap; record that part again."),
                 (Facts(REFUSED, 2, first=fault, faults=1, hint="no header"),
                  "Refused: from 10:00:00:00 on, no header."),
                 (Facts(REFUSED, 2, first=fault, faults=3, hint="no header"),

@@ -26,7 +26,8 @@ from .bench import Case
 from .parts import make_answer, make_part
 
 ERROR, WARNING, NUMBER = 72, 67, 38  # fault numbers; the severity NAMED makes WARNING a warning
-ENDS_READING, LOST_PACKETS, SILENT = (30, 31, 32, 44), 45, 79
+ENDS_READING = (*range(10, 16), 17, *range(22, 26), 30, 31, 32, 44)
+LOST_PACKETS, SILENT = 45, 79
 RIGHT = {
     "accepted": CheckSummary(0, is_accepted=True),
     "refused": CheckSummary(1, fault_count=3, printed_total=3, fault_numbers=(WARNING, ERROR)),

@@ -303,7 +303,7 @@ def without_pid(made: list[Packet], first: int, count: int) -> list[Packet]:
     return [one for at, one in enumerate(made) if at not in missing]
 
 
-UNSEEN = "not checked for losses of {} s or more on this PID alone: "
+UNSEEN = "not checked: losses of {} s or more on this PID alone, since "
 IRREGULAR_NOTE = UNSEEN.format("0.6") + "the PES packets come at irregular intervals"
 PACE_LINE = "PES packets are at most 1 frame apart, or at least 3 after a loss of 16 TS packets: " \
     "--pace 2"
@@ -356,13 +356,13 @@ class Losses(ProgrammeCase):
         none: list[bytes] = []
         both = [one for pts, some in sent for one in ((pts, some), (pts + TICKS // 2, none))]
         made = self.multiplexed(both, 400)
-        note = "not checked for losses of up to 0.08 s on this PID alone at "
+        note = "not checked: losses of up to 0.08 s on this PID alone, at "
         for count in (0, 16, 32, 48, 160):
             judged = self.judge_stream(without_pid(made, 1320, count), "--within", "1")
             self.must(f"{count}", judged.word == ("refused" if count else "accepted") and bool(
                 count) == ("refused 79 Silent frame 10:00:26:11" in judged.listed), judged.listed)
             self.must(f"{count}: said", judged.lines("pace: ") == ["PES packets are at most 1 "
-                      "frame apart, and three may come in that time: --pace 2"] and sum(
+                      "frame apart, with several in some frames: --pace 2"] and sum(
                           line.startswith(note) for line in judged.told) == 1, judged.said)
         without_one = [one for at, one in enumerate(both) if at // 2 not in (510, 610)]
         judged = self.judge_stream(self.multiplexed(without_one, 400), "--within", "1")

@@ -370,7 +370,7 @@ class ClockTables(unittest.TestCase):
                     ends[-1] if ends else None))
                 words = f"{read} PES packet{'s' * (read != 1)}"
                 self.assertTrue(found.describe().startswith(
-                    f"none of {words} in these frames contains" if wanted is None
+                    f"none of {words} at the time of the subtitles contains" if wanted is None
                                 else f"{wanted[1] - wanted[0] + 1} of {words}, from 00:00:0"))
         made = Packets(257, [PacketRun(at, 1, TICKS * frame, 0, does, "") for at, (frame, does) in
                              enumerate(((75, "he"), (100, "he"), (200, "heb")))],

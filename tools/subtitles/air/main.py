@@ -31,7 +31,7 @@ def record_parser() -> ToolParser:
 
 def judge_parser() -> ToolParser:
     """Return the argument parser of the command `judge`."""
-    parser = ToolParser("Judge the programmes of a schedule from segments of a feed, each once it "
+    parser = ToolParser("Judge each programme of a schedule from segments of a feed, as soon as it "
                         "is over.")
     parser.add_argument("schedule", metavar="SCHEDULE", help="read air times from this file")
     parser.add_argument("segments", metavar="SEGMENTS", help="read segments from this folder")

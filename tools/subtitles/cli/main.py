@@ -41,7 +41,7 @@ read_limit = make_number_parser("seconds", 1, 99_999)
 MODE_OPTIONS = (
     Option("--batch", "FOLDER|LIST", "judge the pairs of a folder or a list", (BATCH,),
            field="batch"),
-    Option("--collect", "DIR", "combine the JSON results in DIR into one table and one page",
+    Option("--collect", "DIR", "combine the JSON results in DIR into one table and one HTML page",
            (COLLECT,), field="collect"),
     Option("--watch", "IN", "judge pairs as they arrive in a folder", (WATCH,), field="watch"),
     Option("--measure", "STL RECORDING", "print a [profile](#a-profile) made from correct "

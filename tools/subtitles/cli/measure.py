@@ -276,7 +276,7 @@ def propose_layout(sendings: Sequence[ReceivedSubtitle], option: NationalOption)
     closest, choice = choose_layouts([sending.sent for sending in sendings], option)
     if closest.total < FEWEST:
         return Finding("", [f"layout: the text of {counted(closest.total, 'subtitle')} was found, "
-                            f"but {FEWEST} are needed"])
+                            f"but {FEWEST} subtitles are needed"])
     text = format_layout(choice.layout)
     if not choice.is_clear:
         nearest = choice if closest.is_clear else closest

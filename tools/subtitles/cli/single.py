@@ -94,7 +94,7 @@ def refuse_file(path: str, inputs: Inputs) -> None:
         about = os.lstat(path)
         if not stat.S_ISLNK(about.st_mode) and (describe_kind(about.st_mode)
                                                 or not is_own_file(path)):
-            raise Stop(f"{path} exists and is not a result of these tools: move it away, or give "
+            raise Stop(f"{path} exists and was not written by these tools: move it away, or give "
                        "another folder")
 
 

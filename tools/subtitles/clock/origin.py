@@ -138,8 +138,8 @@ def report_sent_pages(packets: Packets, search: OriginSearch, lines: list[str]) 
                      "are refused with fault 34")
         return False
     if marks:
-        lines.append(f"{counted(marks, 'gap marker')} {was(marks)} skipped: gap markers are "
-                     "refused with fault 45")
+        lines.append(f"{counted(marks, 'gap marker')} {was(marks)} ignored here, but "
+                     "check refuses gap markers (fault 45)")
     if timed + marks < count:
         lines.append(f"{count - timed - marks} of {counted(count, 'PES packet')} have no PTS and "
                      "were skipped: they are refused with fault 34")
@@ -290,7 +290,7 @@ def format_match(part: EstimatedPart, count: int) -> str:
     best, others, cues = part.best, part.others, len(part.time_base.cues)
     following = f"the next best is --origin {others[0].origin} with " \
         f"{counted(others[0].matches, 'cue')}" if others else "no other origin matches a cue"
-    return (f"{best.matches} of {counted(best.total, 'cue')} "
+    return (f"{best.matches} of {counted(best.total, 'cue')} in the recording "
             f"{'matches' if best.matches == 1 else 'match'}, {best.content_matches} with the "
             f"expected text; {'the file' if cues == count else 'this part'} has "
             f"{counted(cues, 'cue')}; {following}")
@@ -320,7 +320,8 @@ def format_part(part: EstimatedPart, count: int, has_picture: bool = False) -> I
         yield f"{count_text} {kinds[0]} are {offset_text(TICKS * cue_offset.delay)} compared " \
             f"with the {kinds[1]}"
     if best.exact_matches < best.matches:
-        yield (f"{best.matches - best.exact_matches} of these cues match only to the nearest "
+        yield (f"{best.matches - best.exact_matches} of the matching cues match only to the "
+               "nearest "
                "frame: PTS that are not whole frames apart are refused with fault 61")
     if best.matches * 2 < best.total and not cue_offset:
         yield (f"fewer than half of the cues match with --origin {best.origin}: check that this "

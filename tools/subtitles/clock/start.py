@@ -206,8 +206,8 @@ def has_first_picture(survey: Survey, teletext: int) -> bool:
 
 def clock_advice(has_picture: bool) -> str:
     """Return advice on the options that set the clock of a recording."""
-    return "add --start TIME (the time code of the recording's first picture, on the subtitle " \
-        "file's own clock, or `tcp`) or --origin PTS" if has_picture else \
+    return "add --origin PTS, --start tcp, or --start TIME (the time code of the recording's " \
+        "first picture on the subtitle file's clock)" if has_picture else \
         "add --origin PTS (the PTS of the subtitle file's 00:00:00:00)"
 
 
@@ -248,13 +248,13 @@ def compute_start_clock(request: Request, survey: Survey, packets: Packets) -> S
     ticks = after if after * 2 < TICKS else after - TICKS
     moved = wrap_pts(first.pts - TICKS * frame + ticks)
     source = TCP if request.start == TCP else START
-    name = f"the TCP {time_of(frame)}" if source == TCP else f"--start {time_of(frame)}"
+    name = "the TCP" if source == TCP else "--start"
     said = "which agrees with the Teletext PTS" if not ticks else \
         f"shifted {'forward' if ticks > 0 else 'back'} by {counted(abs(ticks), 'tick')} to " \
         "agree with the Teletext PTS"
     return StartClock(Clock(moved, source, picture_offset=first.picture_offset),
-                      [first.line(), f"{name} at this picture means --origin {moved}, "
-                       f"{said}"], frame)
+                      [first.line(), f"by {name}, the time of this picture is {time_of(frame)}, so "
+                       f"the clock is --origin {moved}, {said}"], frame)
 
 
 def refuse_outside(request: Request, began: StartClock, begin: int, end: int,

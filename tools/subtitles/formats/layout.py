@@ -132,8 +132,8 @@ def find_layout_fault(text: str) -> str | None:
             return f"{name} is given twice"
         if parse_item(name, value if equals else None) is None:
             takes = ALLOWED_VALUES.get(name, "no value" if name in FLAGS else "")
-            return f"{word or 'an empty word'} is not an item" + f": {name} takes {takes}" * \
-                bool(takes)
+            return f"{word} is not valid: {name} takes {takes}" if takes else \
+                f"{word or 'an empty word'} is an unknown item"
         names.add(name)
     return None
 

@@ -38,6 +38,8 @@ UNDECIDED = 78
 STL_FAULTS = {*range(10, 26), *range(50, 58)}
 SKIPPED_PACKETS = {*range(33, 41), 45, 61}  # PES packets that are unreadable or have no frame
 ENDS_READING = {30, 31, 32, 44}  # faults after which `check` stops reading the recording
+# Faults after which `check` stops reading the subtitle file
+ENDS_FILE = {*range(10, 16), 17, *range(22, 26)}
 LOST_PACKETS = 45  # TS packets are missing
 SILENT = 79  # no PES packet for too long
 LOSSES = {LOST_PACKETS, SILENT}

@@ -327,7 +327,7 @@ class CauseFinder(PageTransmissions):
         return Cause(place, name, None, None if sent == BLANK_PAGE else sent, None, words, known)
 
 
-SENT_BEFORE_CUT = f"its page was sent before the judged range, so {BEGIN} is reported"
+SENT_BEFORE_CUT = f"its page was sent before the judged range, so fault {BEGIN} is reported"
 
 
 class Causes:

@@ -145,7 +145,7 @@ FAULT_CLAUSES = {
     30: "the file ends within the PES packet",
     31: "the packet does not begin with 00 00 01 BD",
     32: "PES_packet_length is not 184 N - 6, N from 1 to 9",
-    33: "byte 6 does not begin with 10, or the packet is scrambled",
+    33: "byte 6 does not begin with the bits 10, or the packet is scrambled",
     34: "PTS_DTS_flags is not 10, a PTS alone",
     35: "PES_header_data_length is not 24 (hexadecimal)",
     36: "the bits around the PTS are not 0010 and three markers",
@@ -276,7 +276,7 @@ def describe_relative_match(seen: Facts) -> str:
     if seen.faults or seen.refused:
         found, delay = describe_waived_faults(seen), "a delay that all subtitles share"
     elif seen.subtitles == 1:
-        found, delay = f"The subtitle has the right text and length{within}", "its delay"
+        found, delay = f"The subtitle has the right text and duration{within}", "its delay"
     elif seen.parts == 1:
         found = f"All {seen.subtitles} subtitles match relative to each other{within}"
         delay = "a delay that they all share"
@@ -342,7 +342,7 @@ def describe_first_fault(seen: Facts) -> str:
         return f"{counted(seen.faults, 'fault')}"
     if fault.number == LOST_PACKETS and seen.lost:
         more = f", and in {counted(len(seen.lost) - 1, 'more place')}" if len(seen.lost) > 1 else ""
-        return f"{seen.lost[0]}{more}; record that part again{describe_other_faults(seen)}"
+        return f"{seen.lost[0]}{more}{describe_other_faults(seen)}; record that part again"
     words = FAULT_CLAUSES.get(fault.number, fault.name)
     block = f"{seen.of_block} (block {fault.block})," if seen.of_block else f"block {fault.block}"
     place = fault.time or (f"PES packet {fault.pes}" if fault.pes is not None else
@@ -425,7 +425,7 @@ def describe_shared_cause(causes: Sequence[Cause], subtitles: Sequence[Subtitle]
     which = f"none of the {len(subtitles):,} subtitles" if is_none else \
         f"all {len(subtitles):,} subtitles" if len(causes) == len(subtitles) else \
         f"{len(causes):,} of {len(subtitles):,} subtitles"
-    when = f"first at {time_of(first.begin)}, last at {time_of(last.begin)}"
+    when = f"the first at {time_of(first.begin)}, the last at {time_of(last.begin)}"
     frames = sorted(cause.frames or 0 for cause in causes)
     said = f"appeared {format_frame_range(frames[0], frames[-1])} {name}" if name in (LATE, EARLY) \
         else NONE_PREDICATES[name] if is_none else CAUSE_PREDICATES[name][1]

@@ -5,7 +5,7 @@ from typing import Collection, Iterable, NamedTuple, Sequence
 
 from ..common.command_line import Stop
 from ..common.files import read_bounded_bytes
-from ..formats.listing import ENDS_READING, FAULT_NAMES, LOST_PACKETS, SILENT
+from ..formats.listing import ENDS_FILE, ENDS_READING, FAULT_NAMES, LOST_PACKETS, SILENT
 from ..request.lines import MAX_PROFILE_BYTES, decode_text
 
 
@@ -55,7 +55,7 @@ class Severity:
 
     def classify(self, number: int | str) -> str:
         """Return `ERROR` or `WARNING` for the faults with this number or name."""
-        if number in ENDS_READING:
+        if number in ENDS_READING | ENDS_FILE:
             return ERROR
         if number == LOST_PACKETS:
             return WARNING if self.is_loss_allowed else self.by_fault.get(number, ERROR)

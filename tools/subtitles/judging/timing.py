@@ -223,7 +223,7 @@ def find_part_packets(search: PartSearch, part: Part, listener: Listener) -> Ran
 
 
 NEXT_FRAME = 1  # interval between PES packets, in frames, if each frame has one
-UNCHECKED = "not checked for"  # the beginning of a note
+UNCHECKED = "not checked:"  # the beginning of a note
 
 
 def measure_part_pace(part: Part, times: Sequence[tuple[int, int]], listener: Listener) -> Part:
@@ -273,7 +273,7 @@ def find_late_jumps(part: Part, pace: Pace) -> tuple[list[PTSPair], int]:
 def describe_jumps(count: int, recording: Recording) -> str:
     """Return the note that losses can't be detected at `count` announced jumps of the counter, or
     "" if `count` is 0."""
-    return f"{UNCHECKED} losses on {format_pid(recording.packets.pid)} at " \
+    return f"{UNCHECKED} losses on {format_pid(recording.packets.pid)}, at " \
         f"{counted(count, 'place')} where the stream announces a jump of the continuity counter" \
         if count else ""
 
@@ -286,7 +286,7 @@ def make_pace_selection(pace: Pace, is_stream: bool, part: int) -> Selection:
 
 def describe_pace(pace: Pace, is_stream: bool) -> str:
     """Describe the usual interval between PES packets, and the --pace chosen from it."""
-    more = ", and three may come in that time" if pace.is_dense else \
+    more = ", with several in some frames" if pace.is_dense else \
         f", or at least {pace.loss_interval} after a loss of 16 TS packets" if is_stream else ""
     return f"pace: PES packets are at most {counted(pace.interval, 'frame')} apart{more}: " \
         f"--pace {pace.frames}"
@@ -303,16 +303,16 @@ def describe_unchecked_losses(pace: Pace, unseen: int | None, recording: Recordi
         seconds = (pace.loss_interval - 1) / FRAMES_A_SECOND
         what = f"losses of up to {seconds:.2f} s on this PID alone" \
             if recording.is_stream else "a missing PES packet"
-        return f"{UNCHECKED} {what} at {counted(pace.hidden_places, 'place')} where PES packets " \
+        return f"{UNCHECKED} {what}, at {counted(pace.hidden_places, 'place')} where PES packets " \
             "are too close together"
     why = {IRREGULAR: "the PES packets come at irregular intervals",
            PAUSED: f"there is no PES packet for up to {counted(pace.interval, 'frame')}",
            TOO_FEW: "there are too few PES packets to measure their interval"}[pace.kind]
     if not recording.is_stream:
-        return f"{UNCHECKED} missing PES packets: {why}"
+        return f"{UNCHECKED} missing PES packets, since {why}"
     tenths = 10 * (unseen or 0) // FRAMES_A_SECOND
     what = f"losses of {tenths / 10} s or more" if tenths else "losses"
-    return f"{UNCHECKED} {what} on this PID alone: {why}"
+    return f"{UNCHECKED} {what} on this PID alone, since {why}"
 
 
 def describe_missing_pcr(recording: Recording) -> str:

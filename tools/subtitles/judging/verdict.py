@@ -40,7 +40,7 @@ class DelaySpread(NamedTuple):
     def describe(self) -> str:
         """Return a clause that describes the delays."""
         middle = "" if self.minimum == self.maximum else f" (median {self.median})"
-        never = f"; {self.never_complete} {was(self.never_complete)} never complete" \
+        never = f", except {self.never_complete} that {was(self.never_complete)} never complete" \
             if self.never_complete else ""
         delay = f"{format_frame_range(self.minimum, self.maximum)} after" if self.maximum else "at"
         return f"subtitles were complete {delay} their TCI{middle}{never}"

@@ -222,7 +222,8 @@ OPTIONS: tuple[Option, ...] = (
     Option("--keeping", None, "allow C4 (erase page) to be clear in headers that repeat the page",
            PAIRS, "it must be set", field="may_keep", default=False, check_default=False,
            is_in_profile=True, shape=Flag()),
-    Option("--no-keeping", None, "require C4 in these headers, even if the profile has --keeping",
+    Option("--no-keeping", None, "require C4 in headers that repeat the page, even if the "
+           "profile has --keeping",
            PAIRS, "it must be set", field="may_keep", default=False, flag_value=False),
     Option("--pace", "K|none", "allow at most K frames from one PES packet to the next (the [pace]"
            "(#the-pace)); `none`: do not check this", PAIRS, "measured", field="pace_word",

@@ -37,7 +37,8 @@ class PacketRange(NamedTuple):
     def describe(self) -> str:
         count = counted(self.read, "PES packet")
         if self.range is None or self.first is None or self.last is None:
-            return f"none of {count} in these frames contains a header of the page or follows one"
+            return f"none of {count} at the time of the subtitles contains a header of the page " \
+                "or follows such a header"
         kept = self.range[1] - self.range[0] + 1
         return f"{kept} of {count}, from {time_of(self.first)} to {time_of(self.last)}"
 
