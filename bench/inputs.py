@@ -38,10 +38,10 @@ TOP = os.path.join(os.path.dirname(os.path.realpath(__file__)), "..")
 TOOLS = os.path.join(TOP, "tools")
 sys.path[:0] = [TOOLS, os.path.join(TOP, "dev")]
 from developing.pes import (  # noqa: E402
-    DATA, FIRST_LINE, MIRROR, STUFFING_UNIT, UNIT, reverse_bits, add_odd_parity, make_packet,
+    DATA, FIRST_LINE, REVERSED_BITS, STUFFING_UNIT, UNIT, reverse_bits, add_odd_parity, make_packet,
     encode_pts)
 from developing.stl import (  # noqa: E402
-    DOUBLE_HEIGHT, END_BOX, START_BOX, box_line, make_gsi_block, make_subtitle_blocks)
+    DOUBLE_HEIGHT, END_BOX, START_BOX, make_box_line, make_gsi_block, make_subtitle_blocks)
 from subtitles.common.program import find_built_program  # noqa: E402
 from subtitles.common.times import FRAMES_A_SECOND, FRAMES_OF_A_DAY, TICKS  # noqa: E402
 from subtitles.formats.stl import NEW_LINE, TTI  # noqa: E402
@@ -56,9 +56,9 @@ Shown = tuple[int, int, int, bytes]  # first frame, end frame, row, text
 
 
 def stl_file(subtitles: list[Shown]) -> bytes:
-    made = [make_subtitle_blocks(number, begin, end, row, 2, text)
-            for number, (begin, end, row, text) in enumerate(subtitles)]
-    return make_gsi_block(b"Measured", sum(map(len, made)) // TTI, len(made)) + b"".join(made)
+    result = [make_subtitle_blocks(number, begin, end, row, 2, text)
+              for number, (begin, end, row, text) in enumerate(subtitles)]
+    return make_gsi_block(b"Measured", sum(map(len, result)) // TTI, len(result)) + b"".join(result)
 
 
 def subtitles_of(kind: str, count: int) -> Iterator[Shown]:
@@ -85,7 +85,7 @@ def break_pes(kind: str, data: bytearray) -> bytearray:
     """Return the transmission of the kind day with faults."""
     if kind == "cells":
         for number, begin in enumerate(range(0, len(data), SENDING)):
-            data[begin + FIRST_LETTER + number % LETTERS] = MIRROR[add_odd_parity(ord("*"))]
+            data[begin + FIRST_LETTER + number % LETTERS] = REVERSED_BITS[add_odd_parity(ord("*"))]
     elif kind == "passed":
         data[DATA - 1::2 * SENDING] = bytes([0x20]) * len(data[DATA - 1::2 * SENDING])
         data[SENDING + DATA + 1::2 * SENDING] = bytes(len(data[SENDING + DATA + 1::2 * SENDING]))
@@ -119,11 +119,11 @@ def page(chance: random.Random, magazine: int, number: int) -> list[bytes]:
     """Return the packets of a page: its header, its rows, and a packet X/27."""
     title = b"%d%02d Page of the carousel" % (magazine or 8, number)
     numbers = [number % 10, number // 10, 0, 0, 0, 0, 2, 0]  # C8, update indicator
-    made = [make_packet(magazine, 0, numbers, title.ljust(32))]
-    made += [make_packet(magazine, row, (), letters(chance, 40)) for row in range(1, 24)]
+    result = [make_packet(magazine, 0, numbers, title.ljust(32))]
+    result += [make_packet(magazine, row, (), letters(chance, 40)) for row in range(1, 24)]
     links = bytes([CODE_WORDS[0]]) + chance.randbytes(39)
-    made.append(make_packet(magazine, 27, (), b"") + links)
-    return [reverse_bits(one) for one in made]
+    result.append(make_packet(magazine, 27, (), b"") + links)
+    return [reverse_bits(item) for item in result]
 
 
 class Carousel:
@@ -175,7 +175,7 @@ def rows_of(texts: Texts, frame: int) -> list[bytes]:
     number, place = divmod(frame, ROUND)
     if place >= SHOWN or number >= len(texts):
         return []
-    return [reverse_bits(make_packet(0, row, (), (b"  " + box_line(line)).ljust(40)))
+    return [reverse_bits(make_packet(0, row, (), (b"  " + make_box_line(line)).ljust(40)))
             for row, line in zip(ROWS, texts[number])]
 
 
@@ -198,7 +198,7 @@ def make(program: str, kind: str, count: int, stl: str, pes: str) -> None:
         texts = [(letters(chance, LINE), letters(chance, LINE))
                  for _ in range(SHOWN, count, ROUND)]
         data = stl_file([(ROUND * number, ROUND * number + SHOWN, ROWS[0],
-                          (NEW_LINE * 2).join(map(box_line, lines)))
+                          (NEW_LINE * 2).join(map(make_box_line, lines)))
                          for number, lines in enumerate(texts)])
         with open(pes, "wb") as file:
             write_service(file, count, texts, kind == "late")
@@ -212,10 +212,10 @@ def make(program: str, kind: str, count: int, stl: str, pes: str) -> None:
                    stdout=subprocess.DEVNULL, check=True)
     if kind in BROKEN:
         with open(pes, "r+b") as changed:
-            made = break_pes(kind, bytearray(changed.read()))
+            result = break_pes(kind, bytearray(changed.read()))
             changed.seek(0)
             changed.truncate()
-            changed.write(made)
+            changed.write(result)
 
 
 PACKET, PID = 188, 0x101
@@ -235,17 +235,17 @@ def record(pes: str, ts: str, size: int = 0) -> None:
     filling = b"".join(FILLING + chance.randbytes(PACKET - len(FILLING)) for _ in range(size))
     with open(ts, "wb") as file, subprocess.Popen(
             [os.path.join(TOOLS, "..", "dev", "pes2ts"), pes, hex(PID)], stdout=subprocess.PIPE,
-            stderr=subprocess.DEVNULL) as made:
-        assert made.stdout
+            stderr=subprocess.DEVNULL) as process:
+        assert process.stdout
         frames, group = -1, b""
-        while one := made.stdout.read(PACKET):
-            is_own = (one[1] & 0x1F) << 8 | one[2] == PID
-            if is_own and one[1] & 0x40:  # start of a PES packet
+        while item := process.stdout.read(PACKET):
+            is_own = (item[1] & 0x1F) << 8 | item[2] == PID
+            if is_own and item[1] & 0x40:  # start of a PES packet
                 frames += 1
                 file.write(group + filling[len(group):] if group else b"")
                 group = b""
             if is_own or size and (frames % CLOCKED == CLOCKED - 1 or frames < 0):
-                group += one
+                group += item
         file.write(group + filling[len(group):])
 
 

@@ -13,9 +13,10 @@ def lines_of_log(command: list[str], words: list[str]) -> list[str]:
     """Return the log lines of a command, such as strace, that runs another command."""
     with tempfile.TemporaryDirectory() as folder:
         log = os.path.join(folder, "log")
-        done = subprocess.run([*command, "-o", log, *words], stdout=subprocess.DEVNULL, check=False)
-        if done.returncode not in (0, 1):  # status 1: the input is refused
-            sys.exit(f"{' '.join(words)} ended with status {done.returncode}")
+        process = subprocess.run([*command, "-o", log, *words], stdout=subprocess.DEVNULL,
+                                 check=False)
+        if process.returncode not in (0, 1):  # status 1: the input is refused
+            sys.exit(f"{' '.join(words)} ended with status {process.returncode}")
         with open(log, encoding="utf-8") as file:
             return file.read().splitlines()
 

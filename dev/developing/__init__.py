@@ -47,6 +47,6 @@ def read_counts(said: str, status: int) -> tuple[int, int] | None:
 
     Return `None` if there is no such line, or if the exit status contradicts it.
     """
-    found = re.search(r"^(\d+) passed, (\d+) failed\n\Z", said, re.M)
-    is_so = found is not None and (status != 0) == (found[2] != "0")
-    return (int(found[1]), int(found[2])) if found and is_so else None
+    result = re.search(r"^(\d+) passed, (\d+) failed\n\Z", said, re.M)
+    is_so = result is not None and (status != 0) == (result[2] != "0")
+    return (int(result[1]), int(result[2])) if result and is_so else None

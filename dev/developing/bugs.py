@@ -44,8 +44,8 @@ def drop_item(items: list[Any], at: int) -> list[Any]:
 def change_comparison(node: Any) -> Changes:
     for at, operator in enumerate(node.ops):
         if type(operator) in OPPOSITE_OPERATORS:
-            ops = [*node.ops[:at], OPPOSITE_OPERATORS[type(operator)](), *node.ops[at + 1:]]
-            yield "comparison", replace_part(node, "ops", ops)
+            operators = [*node.ops[:at], OPPOSITE_OPERATORS[type(operator)](), *node.ops[at + 1:]]
+            yield "comparison", replace_part(node, "ops", operators)
 
 
 def change_boolean(node: Any) -> Changes:
@@ -62,11 +62,11 @@ def change_unary(node: Any) -> Changes:
 
 def change_binary(node: Any) -> Changes:
     operands = (node.left, node.right)
-    is_text = any(isinstance(operand, ast.JoinedStr)
-                  or isinstance(getattr(operand, "value", 0), str) for operand in operands)
-    if type(node.op) in OPPOSITE_OPERATORS and not is_text:
+    has_text_operand = any(isinstance(operand, ast.JoinedStr)
+                           or isinstance(getattr(operand, "value", 0), str) for operand in operands)
+    if type(node.op) in OPPOSITE_OPERATORS and not has_text_operand:
         yield "sign", replace_part(node, "op", OPPOSITE_OPERATORS[type(node.op)]())
-    if isinstance(node.op, ast.Mod) and not is_text:
+    if isinstance(node.op, ast.Mod) and not has_text_operand:
         yield "wrap dropped", node.left
 
 
@@ -132,8 +132,9 @@ def change_choice(node: Any) -> Changes:
 
 
 def change_statement(node: Any) -> Changes:
-    is_text = isinstance(getattr(node, "value", None), ast.Constant)
-    if not is_text and not (isinstance(node, ast.Assign) and isinstance(node.targets[0], ast.Name)):
+    is_docstring = isinstance(getattr(node, "value", None), ast.Constant)
+    if not is_docstring and not (isinstance(node, ast.Assign)
+                                 and isinstance(node.targets[0], ast.Name)):
         yield "statement dropped", ast.copy_location(ast.Pass(), node)
     if isinstance(node, ast.AugAssign) and type(node.op) in OPPOSITE_OPERATORS:
         yield "sign", replace_part(node, "op", OPPOSITE_OPERATORS[type(node.op)]())
@@ -199,10 +200,10 @@ def list_nested_codes(code: CodeType) -> Iterator[CodeType]:
 def compile_comparable(text: str) -> list[tuple[bytes, str]] | None:
     """Return the bytecode, constants and names in source text, or `None` if it does not compile."""
     try:
-        made = list_nested_codes(compile(text, "", "exec"))
+        nested_codes = list_nested_codes(compile(text, "", "exec"))
         return [(code.co_code, repr([value for value in code.co_consts
                                      if not isinstance(value, CodeType)]) + repr(code.co_names)
-                 + repr(code.co_varnames)) for code in made]
+                 + repr(code.co_varnames)) for code in nested_codes]
     except (SyntaxError, ValueError):
         return None
 
@@ -225,10 +226,10 @@ def make_bugs(text: str, interval: int = 1, at: int = 0) -> Iterator[Bug]:
             if count % interval != at:
                 continue
             set_part(node, name, place, new)
-            made = ast.unparse(ast.fix_missing_locations(tree))
+            result = ast.unparse(ast.fix_missing_locations(tree))
             set_part(node, name, place, old)
-            if compile_comparable(made) not in seen:
+            if compile_comparable(result) not in seen:
                 head = "if " * isinstance(old, ast.If)
                 parts = [getattr(part, "test", part) if head else part for part in (old, new)]
                 yield Bug(getattr(old, "lineno", getattr(node, "lineno", 0)), function, kind,
-                          head + shorten(parts[0]), head + shorten(parts[1]), made)
+                          head + shorten(parts[0]), head + shorten(parts[1]), result)

@@ -25,11 +25,11 @@ ROW = re.compile(r"^\| (.*) \| `(\S+)` \| (\d+) \| (\d+) \|$", re.M)
 # The maximum number of lines of definitions that each law may need.
 MAX_LINES = {"run_in_memory.headline": 450, "run_in_memory.acceptance": 800}
 # Patterns that find the line counts of laws in README.
-IN_README = {"run_in_memory.headline": re.compile(r"\[(\d+)\s+lines\]")}
+README_NUMBERS = {"run_in_memory.headline": re.compile(r"\[(\d+)\s+lines\]")}
 NUMBERS = re.compile(r"^## The proof in numbers$.*?(?=^## )", re.M | re.S)
 NUMBER = re.compile(r"^\| (.*) \| ([\d,]+) \|$", re.M)  # a table row with a number
 PARTS = ("src", "specs", "must-fail", "release-edits")  # crate folders to search
-WRITTEN_BY_GATE = ("out", ".git", "__pycache__")
+GATE_OUTPUTS = ("out", ".git", "__pycache__")
 TOOLS = ("tools", "dev")
 MADE = ("out/", "dist/")  # folders of built files
 BLOCK = re.compile(r"^```.*?^```$", re.M | re.S)
@@ -46,7 +46,7 @@ class SourceNames:
         self.words: set[str] = set()
         self.paths: set[str] = set()
         for place, folders, names in os.walk(top):
-            folders[:] = [name for name in folders if name not in WRITTEN_BY_GATE]
+            folders[:] = [name for name in folders if name not in GATE_OUTPUTS]
             for name in [*folders, *names]:
                 self.add_path(top, os.path.relpath(os.path.join(place, name), top))
 
@@ -76,14 +76,14 @@ class SourceNames:
         An uppercase word in a path matches any name. A word before `=`, as in the prover's output,
         is not checked.
         """
-        found: list[str] = []
+        result: list[str] = []
         for token in quoted.split():
             if PATH.fullmatch(token):
                 is_there = token.startswith(MADE) or self.has_path(token.rstrip("/"))
-                found += [] if is_there else [token]
+                result += [] if is_there else [token]
             elif "=" not in token or token == "=":
-                found += [word for word in WORD.findall(token) if word not in self.words]
-        return found
+                result += [word for word in WORD.findall(token) if word not in self.words]
+        return result
 
     def has_path(self, path: str) -> bool:
         parts = [r"[^/]+" if re.fullmatch("[A-Z]+", part) else re.escape(part)
@@ -95,7 +95,7 @@ class SourceNames:
 def find_unknown_names(top: str) -> dict[str, list[str]]:
     """Return the quoted names in each document that the sources lack, as `FILE:LINE: NAME`."""
     sources = SourceNames(top)
-    found: dict[str, list[str]] = {}
+    result: dict[str, list[str]] = {}
     for name, start in DOCUMENTS.items():
         with open(os.path.join(top, name), encoding="utf-8") as file:
             text = file.read()
@@ -104,10 +104,10 @@ def find_unknown_names(top: str) -> dict[str, list[str]]:
         text = text.replace(index, INDEX.sub(lambda row: row[0].replace(row[2], ""), index))
         if start:
             text = "\n".join(line if line.startswith(start) else "" for line in text.split("\n"))
-        found[name] = [f"{name}:{text.count(chr(10), 0, quoted.start()) + 1}: {word}"
-                       for quoted in QUOTED.finditer(text)
-                       for word in sources.find_missing_names(quoted[1])]
-    return found
+        result[name] = [f"{name}:{text.count(chr(10), 0, quoted.start()) + 1}: {word}"
+                        for quoted in QUOTED.finditer(text)
+                        for word in sources.find_missing_names(quoted[1])]
+    return result
 
 
 def correct_count_rows(top: str) -> Iterator[tuple[str, str]]:
@@ -115,14 +115,14 @@ def correct_count_rows(top: str) -> Iterator[tuple[str, str]]:
     with open(os.path.join(top, "docs", "ASSURANCE.md"), encoding="utf-8") as file:
         rows, library = list(ROW.finditer(file.read())), Library(top)
     for row in rows:
-        found = count_lines_to_read(*library.list_reading(row[2]))
-        yield row[0], f"| {row[1]} | `{row[2]}` | {found[0]} | {found[1]} |"
+        result = count_lines_to_read(*library.list_reading(row[2]))
+        yield row[0], f"| {row[1]} | `{row[2]}` | {result[0]} | {result[1]} |"
 
 
 def correct_readme_counts(top: str) -> Iterator[tuple[str, str]]:
     """Yield the line count that README states for each theorem, and the correct count."""
     text, library = read(os.path.join(top, "README.md")) or "", Library(top)
-    for name, form in IN_README.items():
+    for name, form in README_NUMBERS.items():
         shown = form.search(text)
         yield (f"README: {name} {shown[1] if shown else 'is missing'}",
                f"README: {name} {count_lines_to_read(*library.list_reading(name))[1]}")
@@ -158,8 +158,8 @@ def count_proof_numbers(top: str) -> list[int]:
 
 def correct_number_rows(top: str) -> Iterator[tuple[str, str]]:
     """Yield each row of the table of proof numbers in docs/ASSURANCE.md, and the corrected row."""
-    found = NUMBERS.search(read(os.path.join(top, "docs", "ASSURANCE.md")) or "")
-    rows, numbers = list(NUMBER.finditer(found[0] if found else "")), count_proof_numbers(top)
+    result = NUMBERS.search(read(os.path.join(top, "docs", "ASSURANCE.md")) or "")
+    rows, numbers = list(NUMBER.finditer(result[0] if result else "")), count_proof_numbers(top)
     assert len(rows) == len(numbers), f"{len(rows)} rows of numbers in docs/ASSURANCE.md"
     for row, number in zip(rows, numbers):
         yield row[0], f"| {row[1]} | {number:,} |"

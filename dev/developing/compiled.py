@@ -13,7 +13,7 @@ from typing import Iterator
 
 from . import TOOLS
 
-PREFIX, WRITES_NONE = "PYTHONPYCACHEPREFIX", "PYTHONDONTWRITEBYTECODE"
+PREFIX, NO_BYTECODE = "PYTHONPYCACHEPREFIX", "PYTHONDONTWRITEBYTECODE"
 IMPORT_ALL = """
 import importlib, pkgutil, subtitles
 for module in pkgutil.walk_packages(subtitles.__path__, "subtitles."):
@@ -37,7 +37,7 @@ def share_compiled(folder: str) -> None:
 
 def make_plain_environment() -> dict[str, str]:
     """Return the environment without the variables that control bytecode."""
-    return {name: value for name, value in os.environ.items() if name not in (PREFIX, WRITES_NONE)}
+    return {name: value for name, value in os.environ.items() if name not in (PREFIX, NO_BYTECODE)}
 
 
 @contextlib.contextmanager

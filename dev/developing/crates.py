@@ -25,12 +25,12 @@ def read_lines(path: str = LIST) -> Lines:
 
 def list_dependencies(crate: str, lines: Lines) -> list[str]:
     """Return the crates of this repository on which a crate depends, each after those it uses."""
-    found: list[str] = []
+    result: list[str] = []
     for name in lines[crate]:
         if name in lines:
-            found += [lower for lower in [*list_dependencies(name, lines), name]
-                      if lower not in found]
-    return found
+            result += [lower for lower in [*list_dependencies(name, lines), name]
+                       if lower not in result]
+    return result
 
 
 def write_lines(folder: str, crates: list[str], lines: Lines) -> None:

@@ -9,12 +9,12 @@ import shutil
 import subprocess
 
 from subtitles.common.command_line import Stop
-from subtitles.common.files import name_errors
+from subtitles.common.files import add_name_to_errors
 from subtitles.common.program import PAGES, copy, list_documents, install, link, write
 
 NAME = "subttx"
-MACHINE = "amd64"
-DEPENDS = "libc6 (>= 2.34), python3 (>= 3.9)"
+ARCHITECTURE = "amd64"
+DEPENDENCIES = "libc6 (>= 2.34), python3 (>= 3.9)"
 DEFAULT_MAINTAINER = "subttx <subttx@example.com>"
 SUMMARY = "checks Teletext subtitles before they go on air"
 DESCRIPTION = """\
@@ -50,8 +50,8 @@ def find_maintainer() -> str:
 def write_gzip(path: str, data: bytes) -> None:
     """Write a gzip file whose bytes depend only on the data."""
     os.makedirs(os.path.dirname(path), exist_ok=True)
-    with open(path, "wb") as file, gzip.GzipFile("", "wb", 9, file, 0) as packed:
-        packed.write(data)
+    with open(path, "wb") as file, gzip.GzipFile("", "wb", 9, file, 0) as gzip_file:
+        gzip_file.write(data)
 
 
 def compress_man_pages(root: str) -> None:
@@ -81,8 +81,9 @@ def add_control(root: str, version: str) -> None:
     size = sum(os.path.getsize(os.path.join(root, name)) for name in list_files_below(root))
     sums = list_checksums(root, "md5")
     fields = {"Package": NAME, "Version": version, "Section": "video", "Priority": "optional",
-              "Architecture": MACHINE, "Depends": DEPENDS, "Maintainer": find_maintainer(),
-              "Installed-Size": str(size // 1024 + 1), "Description": SUMMARY}
+              "Architecture": ARCHITECTURE, "Depends": DEPENDENCIES,
+              "Maintainer": find_maintainer(), "Installed-Size": str(size // 1024 + 1),
+              "Description": SUMMARY}
     lines = "".join(f"{name}: {value}\n" for name, value in fields.items())
     write(os.path.join(root, "DEBIAN", "control"), f"{lines}{DESCRIPTION}\n")
     write(os.path.join(root, "DEBIAN", "md5sums"), sums)
@@ -116,15 +117,16 @@ def make_package(program: str, proved: str, version: str, work: str, path: str, 
     add_documents(root, version, proved, "Sat, 01 Jan 2000 00:00:00 +0000")
     add_control(root, version)
     set_modes_and_times(root, time)
-    made = os.path.join(work, "made.deb")
-    done = subprocess.run(["dpkg-deb", "--root-owner-group", "-Zxz", "--build", root, made],
-                          env={**os.environ, "SOURCE_DATE_EPOCH": str(time)},
-                          stdin=subprocess.DEVNULL, stdout=subprocess.DEVNULL,
-                          stderr=subprocess.PIPE, encoding="utf-8", errors="replace", check=False)
-    if done.returncode:
-        raise Stop(f"dpkg-deb failed: {done.stderr.strip().splitlines()[-1:]}")
-    with name_errors(path):
-        shutil.copyfile(made, path + ".new")
+    result = os.path.join(work, "made.deb")
+    process = subprocess.run(["dpkg-deb", "--root-owner-group", "-Zxz", "--build", root, result],
+                             env={**os.environ, "SOURCE_DATE_EPOCH": str(time)},
+                             stdin=subprocess.DEVNULL, stdout=subprocess.DEVNULL,
+                             stderr=subprocess.PIPE, encoding="utf-8", errors="replace",
+                             check=False)
+    if process.returncode:
+        raise Stop(f"dpkg-deb failed: {process.stderr.strip().splitlines()[-1:]}")
+    with add_name_to_errors(path):
+        shutil.copyfile(result, path + ".new")
         os.replace(path + ".new", path)
 
 

@@ -15,14 +15,15 @@ from typing import Iterable, Iterator, NamedTuple, Union
 from subtitles.common.command_line import Stop
 from .crates import list_dependencies, read_lines
 
-BEGINS = ("abbrev ", "unfoldable ", "pub record ", "pub data ", "record ", "data ")
-BETWEEN = ("use ", "pub use ", "mod ", "pub mod ", "infix")
+DEFINITION_STARTS = ("abbrev ", "unfoldable ", "pub record ", "pub data ", "record ", "data ")
+IMPORT_STARTS = ("use ", "pub use ", "mod ", "pub mod ", "infix")
 HEAD = re.compile(r"(?:(?:pub|abbrev|unfoldable|record|data) )+([^\s:(]+)")
-USE = re.compile(r"^ *(pub |ghost )?use (\S+?)(?:\.\{([^}]*)\}| as (\w+))?;?$", re.M)
+USE_STATEMENT = re.compile(r"^ *(pub |ghost )?use (\S+?)(?:\.\{([^}]*)\}| as (\w+))?;?$", re.M)
 TOKEN = re.compile(r"[^\s()\[\]{},;]+")
 # Expressions that bind names: (x y : A), λ x y. e, let x = e in, and x ← e.
-BINDS = [re.compile(form) for form in (r"[({]([^(){}:]*) : ", r"λ ([^.]*)\.", r"\blet (\S+) =",
-                                       r"(\S+) ←")]
+BINDING_PATTERNS = [re.compile(form)
+                    for form in (r"[({]([^(){}:]*) : ", r"λ ([^.]*)\.", r"\blet (\S+) =",
+                                 r"(\S+) ←")]
 CONSTRUCTOR = re.compile(r"^  (\S+) :", re.M)
 FUNCTION = re.compile(r"^( *)(?:pub )?(?:const )?fn (\w+)", re.M)
 CLAUSE = re.compile(r"^ *ensures (\w+)? ?\{", re.M)
@@ -81,8 +82,8 @@ class File:
         self.constructors: dict[str, Definition] = {}
         self.names: dict[str, tuple[str, str]] = {}
         self.aliases: dict[str, str] = {}
-        self.reexported: list[str] = []
-        for keyword, source, names, alias in USE.findall(self.text):
+        self.reexported_modules: list[str] = []
+        for keyword, source, names, alias in USE_STATEMENT.findall(self.text):
             if path.endswith(".rt") and keyword != "ghost ":
                 continue
             for name in filter(None, map(str.strip, names.split(","))):
@@ -91,7 +92,7 @@ class File:
             if alias:
                 self.aliases[alias] = source
             elif keyword == "pub " and not names:
-                self.reexported.append(source)
+                self.reexported_modules.append(source)
 
 
 class SpecsFile(File):
@@ -105,20 +106,20 @@ class SpecsFile(File):
 
     def read_definitions(self) -> dict[str, Definition]:
         """Return the definitions in a file by name, each with the comment directly above it."""
-        found: dict[str, Definition] = {}
+        result: dict[str, Definition] = {}
         comment: list[str] = []
         now: Definition | None = None
         for number, line in enumerate(self.text.split("\n"), 1):
             if line.startswith("--"):
                 comment.append(line)
                 continue
-            if line.startswith(BEGINS):
+            if line.startswith(DEFINITION_STARTS):
                 now = Definition(self, number, comment, line)
-                found[now.name] = now
-            elif now and line.strip() and not line.startswith(BETWEEN):
+                result[now.name] = now
+            elif now and line.strip() and not line.startswith(IMPORT_STARTS):
                 now.text += [*comment, line]
             comment = []
-        return found
+        return result
 
 
 def list_files(top: str, crate: str, part: str, ending: str) -> Iterator[tuple[str, str]]:
@@ -127,8 +128,8 @@ def list_files(top: str, crate: str, part: str, ending: str) -> Iterator[tuple[s
     for folder, _, names in sorted(os.walk(start)):
         for path in (os.path.join(folder, name) for name in sorted(names)):
             if path.endswith(ending):
-                inner = os.path.relpath(path, start)[:-len(ending)].replace(os.sep, ".")
-                yield path, f"Rattle.{crate}.{part}.{inner}"
+                module_name = os.path.relpath(path, start)[:-len(ending)].replace(os.sep, ".")
+                yield path, f"Rattle.{crate}.{part}.{module_name}"
 
 
 class Library:
@@ -158,12 +159,12 @@ class Library:
             if above in self.files and kind in self.files[above].definitions:
                 return self.files[above].definitions[kind]
             raise Stop(f"{module} is not a file of specs/")
-        found = self.resolve_in(file, name)
-        for source in file.reexported if not found else ():
-            found = found or self.resolve(source, name)
-        if not found:
+        result = self.resolve_in(file, name)
+        for source in file.reexported_modules if not result else ():
+            result = result or self.resolve(source, name)
+        if not result:
             raise Stop(f"{module} has no {name}")
-        return found
+        return result
 
     def resolve_in(self, file: File, name: str) -> Meaning | None:
         """Return the definition or external name to which a name in a file refers, or `None`."""
@@ -175,21 +176,21 @@ class Library:
 
     def list_uses(self, file: File, text: str, bound: set[str]) -> list[Meaning]:
         """Return the definitions and external names to which the unbound names in `text` refer."""
-        found = (self.resolve(source, name) if source else self.resolve_in(file, name)
-                 for source, name in list_names(file, file.definitions, text, bound))
-        return [meaning for meaning in found if meaning]
+        result = (self.resolve(source, name) if source else self.resolve_in(file, name)
+                  for source, name in list_names(file, file.definitions, text, bound))
+        return [meaning for meaning in result if meaning]
 
     @functools.lru_cache(None)
     def list_meanings_used(self, definition: Definition) -> list[Meaning]:
         """Return the definitions and external names to which the names in a definition refer."""
         first, *equations = definition.parts()
-        found = self.list_uses(definition.file, first, find_bound_names(first))
+        uses = self.list_uses(definition.file, first, find_bound_names(first))
         for text in equations:
             left, *right = re.split(r" =(?=\s)", text, maxsplit=1)
             bound = find_bound_names(text) | {token for token in TOKEN.findall(left)
                                               if not self.is_constructor(definition.file, token)}
-            found += self.list_uses(definition.file, " ".join([left, *right]), bound)
-        return [other for other in dict.fromkeys(found) if other is not definition]
+            uses += self.list_uses(definition.file, " ".join([left, *right]), bound)
+        return [other for other in dict.fromkeys(uses) if other is not definition]
 
     def is_constructor(self, file: File, name: str) -> bool:
         """Return whether a name in a pattern is a constructor and not a variable."""
@@ -207,15 +208,15 @@ class Library:
         """Return the file, name and text of a clause, or of all clauses of a function."""
         function, _, clause = name.partition(".")
         crate, slash, function = function.rpartition("/")
-        found: list[tuple[File, str, str]] = []
+        result: list[tuple[File, str, str]] = []
         for crate_name in [crate] if slash else self.crates:
             for path, module in list_files(self.top, crate_name, "src", ".rt"):
                 file = File(crate_name, path, module)
-                found += [(file, *part) for part in list_clauses(file.text, function, clause)]
-        if not slash and len({file.path for file, *_ in found}) > 1:
-            places = ", ".join(sorted({file.crate for file, *_ in found}))
+                result += [(file, *part) for part in list_clauses(file.text, function, clause)]
+        if not slash and len({file.path for file, *_ in result}) > 1:
+            places = ", ".join(sorted({file.crate for file, *_ in result}))
             raise Stop(f"{name} is a function of {places}: put the crate before it, as CRATE/NAME")
-        return found
+        return result
 
     def find_definitions(self, name: str) -> list[Definition]:
         """Return the definitions with the name NAME or CRATE/FILE.NAME."""
@@ -226,13 +227,13 @@ class Library:
 
     def find_roots(self, name: str) -> list[Meaning]:
         """Return the definitions named `name`, or those to which its clauses refer."""
-        found = self.find_definitions(name)
-        if len(found) > 1:
+        definitions = self.find_definitions(name)
+        if len(definitions) > 1:
             places = ", ".join(f"{definition.file.crate}/"
                                f"{definition.file.module.split('.specs.')[1]}.{definition.name}"
-                               for definition in found)
+                               for definition in definitions)
             raise Stop(f"{name} is ambiguous: give one of {places}")
-        roots: list[Meaning] = list(found)
+        roots: list[Meaning] = list(definitions)
         roots = roots or self.resolve_clauses(name)
         if not roots:
             raise Stop(f"{name} is no definition of specs/ and no function or clause of src/")
@@ -244,8 +245,8 @@ class Library:
         for path, _ in list_files(self.top, outside.crate, "src", ".rt"):
             with open(path, encoding="utf-8") as file:
                 text = file.read()
-            if found := form.search(text):
-                return path, text.count("\n", 0, found.start()) + 1
+            if result := form.search(text):
+                return path, text.count("\n", 0, result.start()) + 1
         raise Stop(f"{outside.crate} declares no {outside.name}")
 
     def find_dependencies(self, name: str) -> dict[Meaning, list[Meaning]]:
@@ -287,40 +288,43 @@ class Library:
         Each definition comes after the definitions that it uses.
         """
         used = self.find_dependencies(name)
-        needs = {definition: {meaning for meaning in names if isinstance(meaning, Definition)}
-                 for definition, names in used.items() if isinstance(definition, Definition)}
+        definition_names = {definition: {meaning for meaning in names
+                                         if isinstance(meaning, Definition)}
+                            for definition, names in used.items()
+                            if isinstance(definition, Definition)}
         outside = sorted(meaning for meaning in used if isinstance(meaning, ExternalName))
-        return self.lowest_first(needs), outside
+        return self.sort_by_dependency(definition_names), outside
 
-    def lowest_first(self, needs: dict[Definition, set[Definition]]) -> list[Definition]:
+    def sort_by_dependency(self,
+                           definition_names: dict[Definition, set[Definition]]) -> list[Definition]:
         """Sort definitions so that each follows its dependencies.
 
         Definitions of the same crate, and if possible of the same file, stay together.
         """
         ranks = {module: (self.crates.index(file.crate), at)
                  for at, (module, file) in enumerate(self.files.items())}
-        left, done = dict(needs), list[Definition]()
-        lacking = {definition: len(names & needs.keys() - {definition})
-                   for definition, names in needs.items()}
+        left, sorted_definitions = dict(definition_names), list[Definition]()
+        missing_counts = {definition: len(names & definition_names.keys() - {definition})
+                          for definition, names in definition_names.items()}
         needed_by = collections.defaultdict[Definition, list[Definition]](list)
-        for definition, names in needs.items():
+        for definition, names in definition_names.items():
             for other in names - {definition}:
                 needed_by[other].append(definition)
-        ready = {definition for definition, count in lacking.items() if not count}
+        ready = {definition for definition, count in missing_counts.items() if not count}
         while left:
-            now = done[-1].file if done else None
+            now = sorted_definitions[-1].file if sorted_definitions else None
             # Definitions that depend on each other are in one file. Keep their order in the file.
             definition = min(ready or left, key=lambda candidate: (
                 ranks[candidate.file.module][0], candidate.file is not now,
                 ranks[candidate.file.module], candidate.line))
             del left[definition]
             ready.discard(definition)
-            done.append(definition)
+            sorted_definitions.append(definition)
             for other in needed_by[definition]:
-                lacking[other] -= 1
-                if other in left and not lacking[other]:
+                missing_counts[other] -= 1
+                if other in left and not missing_counts[other]:
                     ready.add(other)
-        return done
+        return sorted_definitions
 
 
 def list_names(file: File, own: Iterable[str], text: str, bound: Iterable[str] = ()
@@ -345,17 +349,17 @@ def list_names(file: File, own: Iterable[str], text: str, bound: Iterable[str] =
 
 def find_bound_names(text: str) -> set[str]:
     """Return the names that a text binds as variables."""
-    groups = [found for form in BINDS for found in form.findall(text)]
+    groups = [result for form in BINDING_PATTERNS for result in form.findall(text)]
     return {name for group in groups for name in group.split()}
 
 
 def list_clauses(text: str, function: str, clause: str) -> Iterator[tuple[str, str]]:
     """Yield the name and text of each clause of a function, or only of the clause `clause`."""
-    for found in FUNCTION.finditer(text):
-        if found[2] != function:
+    for result in FUNCTION.finditer(text):
+        if result[2] != function:
             continue
-        end = re.compile(rf"^{found[1]}(?:\{{\}}?|.*\}};|\S.*;)$", re.M).search(text, found.end())
-        head = text[found.end():end.start() if end else len(text)]
+        end = re.compile(rf"^{result[1]}(?:\{{\}}?|.*\}};|\S.*;)$", re.M).search(text, result.end())
+        head = text[result.end():end.start() if end else len(text)]
         for start in CLAUSE.finditer(head):
             if not clause or start[1] == clause:
                 yield start[1] or "", read_braced_text(head, start.end())

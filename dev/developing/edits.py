@@ -50,14 +50,14 @@ class Edit(NamedTuple):
 
 def list_edits(folder: str) -> list[Edit]:
     """Return the edits in the subfolder `folder` of every crate."""
-    found = []
+    result = []
     for crate in sorted(os.listdir(CRATES)):
         place = os.path.join(CRATES, crate, folder)
         for file in sorted(os.listdir(place)) if os.path.isdir(place) else ():
             if not NAME.fullmatch(file):
                 raise Stop(f"crates/{crate}/{folder}/{file} is not named as an edit: NAME.edit")
-            found.append(Edit(crate, folder, file.removesuffix(".edit")))
-    return found
+            result.append(Edit(crate, folder, file.removesuffix(".edit")))
+    return result
 
 
 Lines = list[tuple[str, str]]  # key before the colon and text after the colon
@@ -146,14 +146,14 @@ def replace_once(name: str, text: str, old: str, new: str) -> str:
 
 def find_stored_tests() -> dict[str, tuple[str, str]]:
     """Return the crate and the path in src/ of each test whose name is unique."""
-    found: dict[str, list[tuple[str, str]]] = {}
+    result: dict[str, list[tuple[str, str]]] = {}
     for crate in sorted(os.listdir(CRATES)):
         top = os.path.join(CRATES, crate, "src")
         for folder, _, files in os.walk(top):
             for path in (os.path.join(folder, file) for file in files):
                 for name in TEST.findall(read(path) or ""):
-                    found.setdefault(name, []).append((crate, os.path.relpath(path, top)))
-    return {name: places[0] for name, places in found.items() if len(places) == 1}
+                    result.setdefault(name, []).append((crate, os.path.relpath(path, top)))
+    return {name: places[0] for name, places in result.items() if len(places) == 1}
 
 
 def count_applicable_edits() -> tuple[int, int]:

@@ -16,11 +16,11 @@ from .definitions import list_names, list_files
 from .sources import (
     Node, Source, find_head_names, list_contract_clauses, read_definitions, read_functions)
 
-USING = re.compile(r"using\(([^)]*)\)")
+USING_CLAUSE = re.compile(r"using\(([^)]*)\)")
 CALL = re.compile(r"(\.|\b\w+::)?\b([a-z_]\w*)(?:::<[^()]*?>)?\(")
 METHOD = re.compile(r"\( ?&?(?:'\w+ )?(?:mut )?self\b")
 GOAL = re.compile(r"-clause-(\w+)$")
-LAW = re.compile(r"(?:law|laws|example|examples)_of_\w+$")
+LAW_NAME = re.compile(r"(?:law|laws|example|examples)_of_\w+$")
 PROOF_FILES = ("Answers", "Invariants", "Given", "Walk", "Proof")  # proof files of each function
 
 
@@ -29,15 +29,15 @@ class UseGraph:
 
     def __init__(self, top: str) -> None:
         lines = read_lines(os.path.join(top, "crates.txt"))
-        self.below = {crate: list_dependencies(crate, lines) for crate in lines}
+        self.lower_crates = {crate: list_dependencies(crate, lines) for crate in lines}
         self.files: dict[str, Source] = {}
         self.nodes: list[Node] = []  # definitions, lemmas and clauses
         self.functions: list[Node] = []
         self.functions_by_name: dict[tuple[str, str], list[Node]] = collections.defaultdict(list)
-        self.bodies: dict[Node, Node] = {}
+        self.nodes_with_body: dict[Node, Node] = {}
         other_text: list[tuple[Source, str]] = []  # text in src/ outside functions
         for part, ending in (("specs", ".antt"), ("proofs", ".antt"), ("src", ".rt")):
-            for crate in self.below:
+            for crate in self.lower_crates:
                 for path, module in list_files(top, crate, part, ending):
                     file = self.files[module] = Source(top, crate, path, module)
                     if part == "src":
@@ -70,9 +70,9 @@ class UseGraph:
             return file.own[name]
         if name in file.names and module not in seen:
             return self.resolve(*file.names[name], seen | {module})
-        for source in file.reexported:
-            if source not in seen and (found := self.resolve(source, name, seen | {module})):
-                return found
+        for source in file.reexported_modules:
+            if source not in seen and (result := self.resolve(source, name, seen | {module})):
+                return result
         return None
 
     def resolve_in(self, file: Source, name: str) -> Node | None:
@@ -87,26 +87,28 @@ class UseGraph:
 
     def link_functions(self, file: Source, other_text: str) -> None:
         """Link each function to its clauses and body, and each clause to the names in it."""
-        of_file = Node("body", file, file.module, 1, [])
-        self.link(of_file, other_text)
-        self.add_lemmas(of_file, other_text)
+        file_node = Node("body", file, file.module, 1, [])
+        self.link(file_node, other_text)
+        self.add_lemmas(file_node, other_text)
         for function in file.functions:
             text, end = " ".join(function.text), 0
-            body = self.bodies[function] = Node("body", file, function.name, function.line, [])
-            body.add(of_file)
-            is_law = function.is_promise = function.is_public and bool(LAW.match(function.name))
+            body = self.nodes_with_body[function] = Node("body", file, function.name,
+                                                         function.line, [])
+            body.add(file_node)
+            is_law_name = function.is_promised = function.is_public \
+                and bool(LAW_NAME.match(function.name))
             for keyword, name, inner, end in list_contract_clauses(text):
                 if keyword == "requires":
                     self.link(body, inner)
                     continue
                 clause = Node("clause", file, f"{function.name}.{name}" if name else function.name,
-                              function.line, [], 0, function.is_public and not is_law,
+                              function.line, [], 0, function.is_public and not is_law_name,
                               owner=function.owner, function=function)
                 self.nodes.append(clause)
                 self.link(clause, inner)
                 clause.add(body)
                 function.add(clause)
-            if not any(node.kind == "clause" for node in function.uses):
+            if not any(node.kind == "clause" for node in function.used_nodes):
                 function.add(body)
             self.add_lemmas(body, text)
             for prefix, name in set(CALL.findall(text[end:])):
@@ -115,7 +117,7 @@ class UseGraph:
 
     def add_lemmas(self, node: Node, text: str) -> None:
         """Add the lemmas that tactics name, as crate::proofs::M::law, to the uses of a node."""
-        for path in filter(None, map(str.strip, ",".join(USING.findall(text)).split(","))):
+        for path in filter(None, map(str.strip, ",".join(USING_CLAUSE.findall(text)).split(","))):
             crate, *inner = path.split("::")
             if len(inner) > 1:
                 crate = node.file.crate if crate == "crate" else crate
@@ -124,17 +126,17 @@ class UseGraph:
     def find_callees(self, caller: Node, prefix: str, name: str) -> list[Node]:
         """Return the functions that a call in a body may refer to, given the name's prefix."""
         crate, text = caller.file.crate, caller.file.text
-        found = [function for lower in [crate, *self.below[crate]]
-                 for function in self.functions_by_name.get((lower, name), ())
-                 if function is not caller]
+        result = [function for lower in [crate, *self.lower_crates[crate]]
+                  for function in self.functions_by_name.get((lower, name), ())
+                  if function is not caller]
         if prefix == ".":
-            return [function for function in found if METHOD.search(" ".join(function.text))]
+            return [function for function in result if METHOD.search(" ".join(function.text))]
         if prefix:
             owner = caller.owner if prefix == "Self::" else prefix[:-2]
-            return [function for function in found if function.owner == owner] or [
-                function for function in found if function.owner]
+            return [function for function in result if function.owner == owner] or [
+                function for function in result if function.owner]
         is_imported = re.search(rf"^use [^;]*\b{name}\b", text, re.M)
-        return [function for function in found
+        return [function for function in result
                 if not function.owner and (function.file.crate == crate or is_imported)]
 
     def link_proof(self, node: Node) -> None:
@@ -151,34 +153,34 @@ class UseGraph:
         for function in nearest or functions:
             goal = GOAL.search(node.name)
             clause = f"{function.name}.{goal[1]}" if goal else ""
-            users = [other for other in function.uses
+            users = [other for other in function.used_nodes
                      if other.kind == "clause" and other.name == clause]
-            for user in users or [self.bodies[function]]:
+            for user in users or [self.nodes_with_body[function]]:
                 user.add(node)
 
     def find_unreached(self, crate: str = "") -> list[Node]:
         """Return the definitions and lemmas that no function uses directly or indirectly."""
-        done: set[Node] = set()
+        visited: set[Node] = set()
         left = list(self.functions)
         while left:
             node = left.pop()
-            if node not in done:
-                done.add(node)
-                left += node.uses
-        return [node for node in self.nodes if node.kind != "clause" and node not in done
+            if node not in visited:
+                visited.add(node)
+                left += node.used_nodes
+        return [node for node in self.nodes if node.kind != "clause" and node not in visited
                 and node.file.crate == (crate or node.file.crate)]
 
     def list_promised_definitions(self) -> list[Node]:
         """Return the definitions on which laws and the clauses of public functions depend."""
-        found: dict[Node, None] = {}
+        result: dict[Node, None] = {}
         left = [node for node in self.nodes if node.kind == "clause"
-                and (node.is_promise or node.function is not None and node.function.is_promise)]
+                and (node.is_promised or node.function is not None and node.function.is_promised)]
         while left:
-            for node in left.pop().uses:
-                if node.kind == "definition" and node not in found:
-                    found[node] = None
+            for node in left.pop().used_nodes:
+                if node.kind == "definition" and node not in result:
+                    result[node] = None
                     left.append(node)
-        return list(found)
+        return list(result)
 
     def find_unknown_head_names(self) -> dict[Source, list[str]]:
         """Return the unknown names in the first comment of each file in proofs/."""
@@ -189,19 +191,19 @@ class UseGraph:
 
     def find_promises(self, node: Node) -> list[Node]:
         """Return the guarantees (promises) that use a node, but not by way of another guarantee."""
-        found: dict[Node, None] = {}
-        done = {node}
+        result: dict[Node, None] = {}
+        visited = {node}
         left = collections.deque(node.used_by)
         while left:
             user = left.popleft()
-            if user in done:
+            if user in visited:
                 continue
-            done.add(user)
-            if user.is_promise:
-                found[user] = None
+            visited.add(user)
+            if user.is_promised:
+                result[user] = None
             else:
                 left += user.used_by
-        return list(found)
+        return list(result)
 
     def find_nodes(self, name: str) -> list[Node]:
         """Return the nodes with the name NAME or CRATE/NAME. A clause is named FUNCTION.CLAUSE."""

@@ -15,7 +15,7 @@ from typing import NamedTuple, Sequence
 
 from subtitles.common.program import TOP
 
-LEAST_CONTRAST = 4.5
+MIN_CONTRAST = 4.5
 SECONDS = 600  # time limit in seconds for a browser on a busy machine
 BROWSERS = ("chromium", "chromium-browser", "google-chrome")
 # Pairs of text colour and background colour, as variables of the style sheet.
@@ -114,9 +114,11 @@ def read_colour_schemes() -> dict[str, dict[str, str]]:
 
 def find_weak_contrasts() -> list[str]:
     """Return the pairs of colours with too little contrast."""
-    return [f"{text} on {ground}, {name}: {compute_contrast(scheme[text], scheme[ground]):.2f}"
-            for name, scheme in read_colour_schemes().items() for text, ground in PAIRS
-            if compute_contrast(scheme[text], scheme[ground]) < LEAST_CONTRAST]
+    return [f"{text} on {background_name}, {name}: "
+            f"{compute_contrast(scheme[text], scheme[background_name]):.2f}"
+            for name, scheme in read_colour_schemes().items()
+            for text, background_name in PAIRS if compute_contrast(scheme[
+            text], scheme[background_name]) < MIN_CONTRAST]
 
 
 def find_browser() -> str | None:
@@ -129,7 +131,7 @@ class BrowserView(NamedTuple):
 
     path: str
     width: int
-    is_dark: bool
+    is_dark_scheme: bool
 
 
 def find_defects(looks: Sequence[BrowserView], folder: str) -> list[list[str]]:
@@ -146,12 +148,13 @@ def find_defects(looks: Sequence[BrowserView], folder: str) -> list[list[str]]:
     command = [find_browser() or BROWSERS[0], "--headless", "--no-sandbox", "--disable-gpu",
                "--hide-scrollbars", f"--user-data-dir={os.path.join(folder, 'profile')}",
                "--virtual-time-budget=10000", "--dump-dom", f"file://{wrapper}"]
-    done = subprocess.run(command, stdin=subprocess.DEVNULL, stdout=subprocess.PIPE,
-                          stderr=subprocess.DEVNULL, timeout=SECONDS, check=False)
-    text = done.stdout.decode("utf-8", "replace")
-    found = {int(number): json.loads(html.unescape(defects)) for number, defects in re.findall(
+    process = subprocess.run(command, stdin=subprocess.DEVNULL, stdout=subprocess.PIPE,
+                             stderr=subprocess.DEVNULL, timeout=SECONDS, check=False)
+    text = process.stdout.decode("utf-8", "replace")
+    result = {int(number): json.loads(html.unescape(defect_texts)) for number, defect_texts in re.
+              findall(
         r'<pre id="defects-(\d+)">(.+?)</pre>', text, re.S)}
-    return [found.get(number, ["the browser reported nothing"]) for number in range(len(looks))]
+    return [result.get(number, ["the browser reported nothing"]) for number in range(len(looks))]
 
 
 def write_framed(look: BrowserView, folder: str, number: int) -> str:
@@ -164,7 +167,7 @@ def write_framed(look: BrowserView, folder: str, number: int) -> str:
     text = re.sub(r'<meta http-equiv="Content-Security-Policy"[^>]*/>', "", text)
     # Disable lazy layout, which the browser would repeat for each measurement.
     text = text.replace("content-visibility: auto", "content-visibility: visible")
-    if look.is_dark:
+    if look.is_dark_scheme:
         text = text.replace("(prefers-color-scheme: dark)", "(min-width: 1px)")
     with open(os.path.join(folder, name), "w", encoding="utf-8") as file:
         file.write(text.replace("</body>", f"<script>{SCRIPT}</script></body>"))

@@ -4,19 +4,19 @@ from __future__ import annotations
 from subtitles.common.times import wrap_pts
 from subtitles.formats.teletext import Page
 
-SYNC, PACKET, BEGINS, PAYLOAD = 0x47, 188, 0x40, 0x10
+SYNC, PACKET, PAYLOAD_START, PAYLOAD = 0x47, 188, 0x40, 0x10
 
 PROGRAMME, PMT_PID, PCR_PID = 1, 0x100, 0x1FF0
 RESERVED_PIDS = {PMT_PID, PCR_PID}
 FULL = 184  # bytes of a TS packet after its header
-TENTH = 9000  # ticks (90 kHz) in a tenth of a second
-LONG = 120 * 10 * TENTH  # longest pause in ticks that is filled with PCRs
+TENTH_TICKS = 9000  # ticks (90 kHz) in a tenth of a second
+LONG = 120 * 10 * TENTH_TICKS  # longest pause in ticks that is filled with PCRs
 SUBTITLES = 2  # teletext_type for subtitles in a Teletext descriptor
 ADAPTATION_ALONE = 0x20
 COUNTERS = range(16)
 
 
-def make_head(pid: int, begins: int, control: int) -> bytes:
+def make_packet_header(pid: int, begins: int, control: int) -> bytes:
     """Return the four-byte header of a TS packet."""
     return bytes([SYNC, begins | pid >> 8, pid & 255, control])
 
@@ -45,13 +45,15 @@ class Multiplex:
                            (0xE000 | PMT_PID).to_bytes(2, "big"))
         pmt = make_section(2, PROGRAMME, make_pmt_body(pid, language, page))
         # PAT, PMT and TS packet headers for each value of the continuity counter.
-        self.tables = [b"".join((make_head(table_pid, BEGINS, PAYLOAD | counter) + data)
+        self.tables = [b"".join((make_packet_header(table_pid, PAYLOAD_START,
+                                                    PAYLOAD | counter) + data)
                                 .ljust(PACKET, b"\xff")
                                 for table_pid, data in ((0, pat), (PMT_PID, pmt)))
                        for counter in COUNTERS]
-        self.first_heads = [make_head(pid, BEGINS, PAYLOAD | counter) for counter in COUNTERS]
-        self.heads = [make_head(pid, 0, PAYLOAD | counter) for counter in COUNTERS]
-        self.clock_head = make_head(PCR_PID, 0, ADAPTATION_ALONE | 15) + b"\xb7\x10"
+        self.first_headers = [make_packet_header(pid, PAYLOAD_START, PAYLOAD | counter)
+                              for counter in COUNTERS]
+        self.heads = [make_packet_header(pid, 0, PAYLOAD | counter) for counter in COUNTERS]
+        self.clock_head = make_packet_header(PCR_PID, 0, ADAPTATION_ALONE | 15) + b"\xb7\x10"
         self.clock_rest = b"\xff" * (PACKET - len(self.clock_head) - 6)
         self.parts: list[bytes] = []
         self.size = self.count = self.counter = 0
@@ -64,7 +66,7 @@ class Multiplex:
         self.count += 1
         self.add_clock(pts)
         for at in range(0, len(data), FULL):
-            parts.append(self.heads[counter] if at else self.first_heads[counter])
+            parts.append(self.heads[counter] if at else self.first_headers[counter])
             parts.append(data[at:at + FULL])
             counter = counter + 1 & 15
         self.counter = counter
@@ -72,11 +74,11 @@ class Multiplex:
 
     def add_clock(self, pts: int) -> None:
         """Add a PCR every tenth of a second, up to a tenth of a second before the PTS."""
-        end = wrap_pts(pts - TENTH)
+        end = wrap_pts(pts - TENTH_TICKS)
         if self.base is None or wrap_pts(end - self.base) > LONG:
-            self.base = wrap_pts(end - TENTH)
+            self.base = wrap_pts(end - TENTH_TICKS)
         length = wrap_pts(end - self.base)
-        for at in [*range(TENTH, length, TENTH), *([length] if length else [])]:
+        for at in [*range(TENTH_TICKS, length, TENTH_TICKS), *([length] if length else [])]:
             bits = wrap_pts(self.base + at) << 15 | 0x3F << 9
             self.parts += [self.clock_head, bits.to_bytes(6, "big"), self.clock_rest]
             self.size += PACKET

@@ -72,17 +72,18 @@ class Option(NamedTuple):
 
 def parse_commands(text: str) -> list[Command]:
     """Parse the commands in the usage text."""
-    found = []
+    result = []
     lines = re.sub(r"\n {10,}", " ", text)
     for match in COMMAND.finditer(lines):
         words = match[2].split(" ")
-        does = lines[match.end():].split("\n", 1)[0]
-        found.append(Command(match[1], " ".join(w for w in words if w.isupper() and w not in
-                                                ("TIME", "P")),
-                             [w for w in words if w.startswith("--")], does.strip()))
-    if not found:
+        effect = lines[match.end():].split("\n", 1)[0]
+        result.append(Command(match[1], " ".join(operand for operand in words if operand.isupper()
+                                                 and operand not in ("TIME", "P")),
+                              [operand for operand in words if operand.startswith("--")],
+                              effect.strip()))
+    if not result:
         raise Stop("the usage text of ./subttx lists no command")
-    return found
+    return result
 
 
 def parse_options(text: str) -> list[Option]:
@@ -93,19 +94,19 @@ def parse_options(text: str) -> list[Option]:
 
 def run_help(tool: str, *command: str) -> str:
     """Return the help text of a tool, with each option on one line."""
-    done = subprocess.run([sys.executable, os.path.join(TOP, "tools", tool), *command, "--help"],
-                          text=True, env=dict(os.environ, COLUMNS="2000"),
-                          stdin=subprocess.DEVNULL, stdout=subprocess.PIPE, check=True)
-    return done.stdout
+    process = subprocess.run([sys.executable, os.path.join(TOP, "tools", tool), *command, "--help"],
+                             text=True, env=dict(os.environ, COLUMNS="2000"),
+                             stdin=subprocess.DEVNULL, stdout=subprocess.PIPE, check=True)
+    return process.stdout
 
 
 def parse_entries(text: str) -> list[tuple[str, str, str]]:
     """Parse the options in a help text. Return the name, value and meaning of each."""
-    found = []
+    result = []
     for entry in ENTRY_LINE.finditer(text):
         name, _, value = (entry[1] or "").partition(" ")
-        found.append((entry[2] or name, value, entry[3]))
-    return found
+        result.append((entry[2] or name, value, entry[3]))
+    return result
 
 
 def escape_roff(text: str) -> str:
@@ -155,7 +156,7 @@ def format_synopsis(commands_of_program: list[Command], table: list[Option]) -> 
 
 def make_program_parts(usage: str, table: str) -> dict[str, str]:
     """Return the generated parts of the program's man page."""
-    def command_entry(command: Command) -> str:
+    def make_command_entry(command: Command) -> str:
         return (f".TP\n\\fB{command.name}\\fP \\fI{escape_roff(command.files)}\\fP\n"
                 f"{fill_paragraph(to_sentence(command.does))}\n")
 
@@ -166,7 +167,7 @@ def make_program_parts(usage: str, table: str) -> dict[str, str]:
 
     program_commands, table_options = parse_commands(usage), parse_options(table)
     return {"synopsis": format_synopsis(program_commands, table_options),
-            "commands": "".join(map(command_entry, program_commands)),
+            "commands": "".join(map(make_command_entry, program_commands)),
             "options": "".join(map(option_entry, table_options))}
 
 
@@ -210,10 +211,10 @@ def make_chapter_parts(table: str = "") -> dict[str, str]:
     It omits options that cancel another option, and the options of `check`, which have their own
     table.
     """
-    of_check = {option.name for option in parse_options(table) if "check" in option.commands}
+    check_options = {option.name for option in parse_options(table) if "check" in option.commands}
     rows = ["| Option | What it does |", "|---|---|"]
     for option in request.OPTIONS:
-        if option.name not in of_check and not option.name.startswith("--no-"):
+        if option.name not in check_options and not option.name.startswith("--no-"):
             form = option.form.replace("|", "\\|")
             rows.append(f"| `{form}` | {option.description} |")
     return {"options": "\n".join(rows) + "\n"}
@@ -254,27 +255,28 @@ def to_title(record: Record) -> str:
 
 def format_key(record: Record, member: Member) -> str:
     """Return a key with a link to its object, and with an asterisk if it has a CSV column."""
-    inner = find_record(member)
+    inner_record = find_record(member)
     key = f"`{member.name}`" + "\\*" * (record is not CUE and bool(find_column(record, member)))
-    return f"[{key}](#{inner.name.replace('_', '-')})" if inner and needs_table(inner) else key
+    return f"[{key}](#{inner_record.name.replace('_', '-')})" if inner_record \
+        and needs_table(inner_record) else key
 
 
 def find_record(member: Member) -> Record | None:
     """Return the object that a member contains, either directly or in a list, or `None`."""
-    record = next((shape for shape in (member.shape, *member.shape.inner_shapes())
+    record = next((shape for shape in (member.shape, *member.shape.list_inner_shapes())
                    if isinstance(shape, Record)), None)
     return CAUSE if record is LISTED_CAUSE else record
 
 
-def list_records(shape: Shape, found: tuple[Record, ...] = ()) -> tuple[Record, ...]:
+def list_records(shape: Shape, result: tuple[Record, ...] = ()) -> tuple[Record, ...]:
     """Return the distinct objects in a result, each after the first object that contains it."""
     if isinstance(shape, Record):
-        if shape in found:
-            return found
-        found = (*found, shape)
-    for inner in shape.inner_shapes():
-        found = list_records(inner, found)
-    return found
+        if shape in result:
+            return result
+        result = (*result, shape)
+    for inner_record in shape.list_inner_shapes():
+        result = list_records(inner_record, result)
+    return result
 
 
 def needs_table(record: Record) -> bool:
@@ -295,11 +297,13 @@ def describe_member(member: Member) -> str:
 
     Omit the description of the value if it has a table of its own.
     """
-    shape = next((shape for shape in (member.shape, *member.shape.inner_shapes()) if shape.name),
+    shape = next((shape for shape in (member.shape, *member.shape.list_inner_shapes())
+                  if shape.name),
                  None)
-    inner = find_record(member)
-    of_shape = "" if shape is None or inner and needs_table(inner) else shape.meaning
-    return " ".join(text for text in (of_shape, member.meaning) if text)
+    inner_record = find_record(member)
+    shape_meaning = "" if shape is None or inner_record and needs_table(inner_record) \
+        else shape.meaning
+    return " ".join(text for text in (shape_meaning, member.meaning) if text)
 
 
 def make_completion_parts(usage: str, table: str, help_texts: list[str]) -> dict[str, str]:
@@ -314,9 +318,10 @@ def make_completion_parts(usage: str, table: str, help_texts: list[str]) -> dict
               if value and not value.startswith("{") and not FILES.search(value)}
     flags = {name for text in help_texts for name, value, _ in parse_entries(text) if not value}
     pattern = "        " + " | ".join(sorted(named - choices.keys() - flags)) + ")\n"
-    while (long := [line for line in pattern.split("\n") if len(line) > WIDTH - 2]):
-        at = long[0].rindex(" | ", 0, WIDTH - 3) + 3
-        pattern = pattern.replace(long[0], long[0][:at] + "\\\n            " + long[0][at:])
+    while (long_lines := [line for line in pattern.split("\n") if len(line) > WIDTH - 2]):
+        at = long_lines[0].rindex(" | ", 0, WIDTH - 3) + 3
+        pattern = pattern.replace(long_lines[0],
+                                  long_lines[0][:at] + "\\\n            " + long_lines[0][at:])
     listed = ""
     for command in program_commands:
         names = " ".join(option.name for option in table_options
@@ -335,14 +340,15 @@ def format_json(value: object, indent: str = "") -> str:
     line = json.dumps(value)
     if not isinstance(value, (dict, list)) or len(indent) + len(line) < WIDTH - 20:
         return line
-    inner = indent + " "
+    inner_record = indent + " "
     if isinstance(value, list):
-        items = [format_json(item, inner) for item in value]
+        items = [format_json(item, inner_record) for item in value]
         if all(isinstance(item, str) for item in value):
-            items = fill_rows(items, WIDTH - 20 - len(inner))
-        return f"[\n{inner}" + f",\n{inner}".join(items) + f"\n{indent}]"
-    members = [f"{json.dumps(name)}: {format_json(item, inner)}" for name, item in value.items()]
-    return f"{{\n{inner}" + f",\n{inner}".join(members) + f"\n{indent}}}"
+            items = fill_rows(items, WIDTH - 20 - len(inner_record))
+        return f"[\n{inner_record}" + f",\n{inner_record}".join(items) + f"\n{indent}]"
+    members = [f"{json.dumps(name)}: {format_json(item, inner_record)}" for name, item in value.
+               items()]
+    return f"{{\n{inner_record}" + f",\n{inner_record}".join(members) + f"\n{indent}}}"
 
 
 def fill_rows(words: list[str], width: int) -> list[str]:
@@ -358,10 +364,10 @@ def fill_rows(words: list[str], width: int) -> list[str]:
 
 def replace_parts(text: str, parts: dict[str, str]) -> str:
     """Return `text` with new contents for the generated parts that `parts` contains."""
-    missing = set(parts) - {found[2] for found in MADE.finditer(text)}
+    missing = set(parts) - {result[2] for result in MADE.finditer(text)}
     if missing:
         raise Stop(f"add a line `made: NAME` for these parts: {', '.join(sorted(missing))}")
-    return MADE.sub(lambda found: found[1] + parts.get(found[2], found[3]) + found[4], text)
+    return MADE.sub(lambda result: result[1] + parts.get(result[2], result[3]) + result[4], text)
 
 
 def make_pages() -> dict[str, str]:
@@ -371,13 +377,13 @@ def make_pages() -> dict[str, str]:
 
     usage, table = text("subttx").partition("usage: ")[2].partition("\nEND\n")[0], text(TABLE)
     help_texts = {tool: run_help(tool) for tool in TOOLS}
-    of_commands = {command: run_help("air", command) for command in ("record", "judge")}
+    command_helps = {command: run_help("air", command) for command in ("record", "judge")}
     parts = {PROGRAM_PAGE: make_program_parts(usage, table),
              QC_PAGE: make_tool_parts(help_texts["qc"]),
-             AIR_PAGE: make_air_parts(help_texts["air"], of_commands),
+             AIR_PAGE: make_air_parts(help_texts["air"], command_helps),
              QC_CHAPTER: make_chapter_parts(table), RESULTS_CHAPTER: make_results_parts(),
              COMPLETION: make_completion_parts(usage, table,
-                                               [*help_texts.values(), *of_commands.values()])}
+                                               [*help_texts.values(), *command_helps.values()])}
     numbers = text(NUMBERS)
     for row, counted in correct_number_rows(TOP):
         numbers = numbers.replace(row, counted)

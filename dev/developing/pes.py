@@ -3,7 +3,7 @@ from __future__ import annotations
 
 from typing import Iterable, Iterator, Protocol, Sequence
 
-from subtitles.common.files import Damaged
+from subtitles.common.files import DamagedFile
 from subtitles.formats.teletext import CODE_WORDS, NUMBER, START, is_odd
 
 HEAD = 6  # bytes of a PES packet up to and including PES_packet_length
@@ -17,7 +17,7 @@ READ_SIZE = 1 << 18  # number of bytes to read at once
 NATIONAL = 12, 13, 14  # national option bits of a header, C12 to C14
 
 # Table of bytes with reversed bits: a data unit transmits bit 1 first.
-MIRROR = bytes(int(f"{byte:08b}"[::-1], 2) for byte in range(256))
+REVERSED_BITS = bytes(int(f"{byte:08b}"[::-1], 2) for byte in range(256))
 
 # The positions of the 18 data bits in three Hamming 24/18 bytes, counted from 1. The powers of 2
 # and the last position are check bits.
@@ -40,7 +40,7 @@ def add_odd_parity(code: int) -> int:
 
 def reverse_bits(data: bytes) -> bytes:
     """Reverse the order of the bits in each byte."""
-    return data.translate(MIRROR)
+    return data.translate(REVERSED_BITS)
 
 
 def make_packet(magazine: int, number: int, numbers: Iterable[int], codes: Iterable[int]) -> bytes:
@@ -80,13 +80,13 @@ def get_page_number(header: bytes) -> int:
 
 def find_headers(packets: Iterable[bytes]) -> list[Header]:
     """Return the magazine, the page number and the decoded values of each page header."""
-    found = []
+    result = []
     for packet in packets:
         address = decode_address(packet)
         header = decode_header(packet) if address and address[1] == 0 else None
         if address and header:
-            found.append((address[0], get_page_number(header), header))
-    return found
+            result.append((address[0], get_page_number(header), header))
+    return result
 
 
 def encode_pts(pts: int) -> bytes:
@@ -124,25 +124,25 @@ def find_starts(data: bytes) -> list[int]:
 
 def split_complete_packets(data: bytes) -> list[bytes]:
     """Return the complete PES packets at the start of `data`."""
-    return cut_at(data, find_starts(data))
+    return split_at(data, find_starts(data))
 
 
-def cut_at(data: bytes, begins: Sequence[int]) -> list[bytes]:
+def split_at(data: bytes, begins: Sequence[int]) -> list[bytes]:
     return [data[begin:end] for begin, end in zip(begins, begins[1:])]
 
 
 def read_pes_packets(file: Source) -> Iterator[bytes]:
-    """Yield the PES packets in a file. Raise `Damaged` if other bytes follow them."""
-    unread, count = b"", 0
+    """Yield the PES packets in a file. Raise `DamagedFile` if other bytes follow them."""
+    rest_of_data, count = b"", 0
     while new_data := file.read(READ_SIZE):
-        data = unread + new_data
+        data = rest_of_data + new_data
         begins = find_starts(data)
-        yield from cut_at(data, begins)
-        unread, count = data[begins[-1]:], count + len(begins) - 1
-        if len(unread) >= HEAD and not unread.startswith(START):
-            raise Damaged(f"PES packet {count} does not begin with 00 00 01 BD")
-    if unread:
-        raise Damaged(f"PES packet {count} is incomplete")
+        yield from split_at(data, begins)
+        rest_of_data, count = data[begins[-1]:], count + len(begins) - 1
+        if len(rest_of_data) >= HEAD and not rest_of_data.startswith(START):
+            raise DamagedFile(f"PES packet {count} does not begin with 00 00 01 BD")
+    if rest_of_data:
+        raise DamagedFile(f"PES packet {count} is incomplete")
 
 
 def has_pts(data: bytes) -> bool:
@@ -157,9 +157,9 @@ def get_data_field(data: bytes) -> bytes:
 
 def get_teletext_packets(field: bytes) -> list[bytes]:
     """Return the Teletext packets in a data field, with bits in the order of EN 300 706."""
-    at, found = 1, []
+    at, result = 1, []
     while at + UNIT <= len(field):
         if field[at] in (2, 3) and field[at + 1] == 0x2C:
-            found.append(reverse_bits(field[at + 4:at + UNIT]))
+            result.append(reverse_bits(field[at + 4:at + UNIT]))
         at += 2 + field[at + 1]
-    return found
+    return result

@@ -63,9 +63,9 @@ class StopAtFailure(runner.Counts):
             self.stop()
 
 
-def get_unit_name(unit: runner.Several) -> str:
+def get_unit_name(unit: runner.SeveralTests) -> str:
     """Return the name of a test, or of the class if its tests share a fixture and run together."""
-    name = runner.name_of(unit[0])
+    name = runner.get_test_name(unit[0])
     return name.rpartition(".")[0] if runner.has_fixture(type(unit[0])) else name
 
 
@@ -78,11 +78,11 @@ def strip_nested(name: str) -> str:
     return ".".join(part for part in name.split(".") if not part.startswith("<"))
 
 
-def get_module_level_code(codes_of_module: list[CodeType]) -> list[object]:
+def get_module_level_code(module_codes: list[CodeType]) -> list[object]:
     """Return the code that runs when a module is loaded, in a form that can be compared."""
     return [(code.co_code, code.co_names,
              [repr(value) for value in code.co_consts if not isinstance(value, CodeType)])
-            for code in codes_of_module if not code.co_flags & HAS_LOCALS]
+            for code in module_codes if not code.co_flags & HAS_LOCALS]
 
 
 def patch_functions(path: str, before: str, text: str) -> bool:
@@ -141,24 +141,24 @@ class LoadedCopy:
 
     def select_tests(self, name: str) -> list[unittest.TestCase]:
         """Return the tests of the group `name`, or the tests whose names contain `name`."""
-        found = self.units.get(name) or [test for unit in self.units.values() for test in unit
-                                         if name in runner.name_of(test)]
-        if not found:
+        result = self.units.get(name) or [test for unit in self.units.values() for test in unit
+                                          if name in runner.get_test_name(test)]
+        if not result:
             raise Stop(f"no test is named {name}")
-        return list(found)
+        return list(result)
 
     def run_changed(self, texts: dict[str, str], names: Sequence[str], seconds: float) -> Answer:
         """Run tests with changed files in the copy, then restore the files."""
         before = {path: read(os.path.join(self.top, path)) or "" for path in texts}
 
-        def planted() -> Answer:
+        def run_with_edit() -> Answer:
             if not all([patch_functions(os.path.join(self.top, path), before[path], text)
                         for path, text in texts.items()]):
                 self.reload()
             return self.run(names)
 
         with replace_files(self.top, texts):
-            return run_forked(planted, seconds)
+            return run_forked(run_with_edit, seconds)
 
     def trace_calls(self, name: str, seconds: float) -> Answer:
         """Run a test. Return the called functions, its duration in seconds, and its failure."""

@@ -24,10 +24,10 @@ def list_indexed_clauses(text: str) -> list[str]:
 
 def find_unknown_clauses(text: str, library: Library) -> list[str]:
     """Return a message for each clause in the index that is not in the sources."""
-    found: list[str] = []
+    result: list[str] = []
     for clause in list_indexed_clauses(text):
         try:
             library.find_roots(clause)
         except Stop as reason:
-            found.append(str(reason))
-    return found
+            result.append(str(reason))
+    return result

@@ -21,15 +21,15 @@ from typing import NamedTuple
 from subtitles.common.command_line import Stop
 from subtitles.common.program import TOP, copy, read, write
 
-OUT, DIST = os.path.join(TOP, "out"), os.path.join(TOP, "dist")
-LINES_FILE = os.path.join(OUT, "lines")
+OUT_FOLDER, DIST = os.path.join(TOP, "out"), os.path.join(TOP, "dist")
+LINES_FILE = os.path.join(OUT_FOLDER, "lines")
 BUILT_PROGRAM = os.path.join(TOP, "crates", "subttx", "out",
                              "subttx")  # the program that rt builds
 
 Crates = dict[str, tuple[str, str]]
 
 
-class Proved(NamedTuple):
+class ProvedProgram(NamedTuple):
     """The contents of a PROVED file. `crates` maps a name to a checksum and the prover's line."""
 
     sources: str | None
@@ -38,7 +38,7 @@ class Proved(NamedTuple):
     crates: Crates
 
 
-def parse_proved(text: str | None) -> Proved:
+def parse_proved(text: str | None) -> ProvedProgram:
     """Parse a PROVED file, or out/lines, which has no `sources` or `program` line."""
     values: dict[str, str | None] = dict.fromkeys(("sources", "program", "toolchain"))
     crates: Crates = {}
@@ -49,10 +49,10 @@ def parse_proved(text: str | None) -> Proved:
             crates[name] = digest, prover_line
         elif word in values:
             values[word] = rest
-    return Proved(values["sources"], values["program"], values["toolchain"], crates)
+    return ProvedProgram(values["sources"], values["program"], values["toolchain"], crates)
 
 
-def format_proved(proved: Proved) -> str:
+def format_proved(proved: ProvedProgram) -> str:
     """Return the text of the PROVED file."""
     lines = [f"{word} {getattr(proved, word)}" for word in ("sources", "program", "toolchain")
              if getattr(proved, word)]
@@ -60,7 +60,7 @@ def format_proved(proved: Proved) -> str:
     return "".join(line + "\n" for line in lines)
 
 
-def read_proved(folder: str) -> Proved:
+def read_proved(folder: str) -> ProvedProgram:
     return parse_proved(read(os.path.join(folder, "PROVED")))
 
 
@@ -92,7 +92,7 @@ def read_toolchain_version() -> str:
 
 def parse_log(log: str) -> dict[str, str]:
     """Return the prover's lines in the output of `rt ci`, by crate, without test crates."""
-    found: dict[str, str] = {}
+    result: dict[str, str] = {}
     crate: str | None = None
     proof: str | None = None
     for line in log.splitlines():
@@ -101,8 +101,8 @@ def parse_log(log: str) -> dict[str, str]:
         elif line.startswith("logic=proved "):
             proof = line
         elif proof and crate and line == f"rt: {crate} proved":
-            found[crate] = proof
-    return found
+            result[crate] = proof
+    return result
 
 
 def store_lines(lines: dict[str, str], sums: dict[str, str]) -> None:
@@ -110,19 +110,19 @@ def store_lines(lines: dict[str, str], sums: dict[str, str]) -> None:
     version, notes = read_toolchain_version(), parse_proved(read(LINES_FILE))
     crates = notes.crates if notes.toolchain == version else {}
     crates |= {name: (sums[name], line) for name, line in lines.items() if name in sums}
-    write(LINES_FILE, format_proved(Proved(None, None, version, crates)))
+    write(LINES_FILE, format_proved(ProvedProgram(None, None, version, crates)))
 
 
 def list_known_lines(version: str | None) -> dict[tuple[str, str], str]:
     """Return the stored lines of the prover for a toolchain version, by crate and checksum."""
-    found: dict[tuple[str, str], str] = {}
+    result: dict[tuple[str, str], str] = {}
     for proved in (read_proved(DIST), parse_proved(read(LINES_FILE))):
         if proved.toolchain == version:
-            found |= {(name, digest): line for name, (digest, line) in proved.crates.items()}
-    return found
+            result |= {(name, digest): line for name, (digest, line) in proved.crates.items()}
+    return result
 
 
-def add_known_lines(proved: Proved) -> Proved:
+def add_known_lines(proved: ProvedProgram) -> ProvedProgram:
     """Add all stored lines that belong to the current sources."""
     known = list_known_lines(proved.toolchain)
     return proved._replace(crates={name: (digest, known[name, digest])
@@ -132,13 +132,13 @@ def add_known_lines(proved: Proved) -> Proved:
 
 def keep_built_program(of_sources: str, program: str = BUILT_PROGRAM) -> None:
     """Copy the program that rt has proved and built to out/, and write its PROVED file."""
-    proved = add_known_lines(Proved(of_sources, compute_digest(program), read_toolchain_version(),
-                                    {}))
-    copy(program, os.path.join(OUT, "subttx"), 0o755)
-    write(os.path.join(OUT, "PROVED"), format_proved(proved))
+    proved = add_known_lines(ProvedProgram(of_sources, compute_digest(program),
+                                           read_toolchain_version(), {}))
+    copy(program, os.path.join(OUT_FOLDER, "subttx"), 0o755)
+    write(os.path.join(OUT_FOLDER, "PROVED"), format_proved(proved))
 
 
-def find_crates_without_line(proved: Proved) -> list[str]:
+def find_crates_without_line(proved: ProvedProgram) -> list[str]:
     """Return the crates whose current sources have no line in a PROVED file."""
     return [name for name, digest in list_crate_sums().items()
             if proved.crates.get(name, ("", ""))[0] != digest]

@@ -27,27 +27,28 @@ WARNING = re.compile(r"^(\S+ )?warning:", re.M)
 
 
 class Prover:
-    """The toolchain's prover, found through `rt` on the PATH. `made` holds the built libraries."""
+    """The toolchain's prover, found through `rt` on the PATH. `build_folder` holds the built
+    libraries."""
 
-    def __init__(self, lines: Lines, made: str) -> None:
+    def __init__(self, lines: Lines, build_folder: str) -> None:
         rt = shutil.which("rt")
         if not rt:
             raise Stop("the toolchain's rt is not on the PATH")
         self.programs = os.path.dirname(os.path.realpath(rt))
-        self.kit = os.path.dirname(self.programs)
-        self.lines, self.made = lines, made
+        self.kit_folder = os.path.dirname(self.programs)
+        self.lines, self.build_folder = lines, build_folder
 
     def get_toolchain_path(self, *names: str) -> str:
-        return os.path.join(self.kit, *names)
+        return os.path.join(self.kit_folder, *names)
 
     def get_library_path(self, name: str) -> str:
         """Return the path of the library for a crate of this repository or of the toolchain."""
-        folder = self.made if name in self.lines else self.get_toolchain_path("rlibs")
+        folder = self.build_folder if name in self.lines else self.get_toolchain_path("rlibs")
         return os.path.join(folder, f"{name}.rlib")
 
     def get_output_path(self, crate: str) -> str:
         """Return the path of a crate's library, or of the program's object file."""
-        return (os.path.join(self.made, "subttx.o") if crate == PROGRAM
+        return (os.path.join(self.build_folder, "subttx.o") if crate == PROGRAM
                 else self.get_library_path(crate))
 
     def make_prove_command(self, crate: str, jobs: int) -> list[str]:
@@ -56,7 +57,7 @@ class Prover:
         words = [os.path.join(self.programs, "rattle"), "build", "--crate-name", crate, root]
         for name in ["std", *self.lines[crate]]:
             words += ["--extern", f"{name}={self.get_library_path(name)}"]
-        for folder in (self.get_toolchain_path("rlibs"), self.made):
+        for folder in (self.get_toolchain_path("rlibs"), self.build_folder):
             words += ["-L", f"dependency={folder}"]
         words += ["--antt-project", self.get_toolchain_path("rattle", "logic", "antt-project.json")]
         words += ["--logic-built", self.get_toolchain_path("logic_built"), "--jobs", str(jobs)]
@@ -81,9 +82,9 @@ def parse_prover_line(output: str) -> str | None:
     Return `None` if the line has an unknown word, or if the output has a warning, for example about
     a contract that no call can satisfy.
     """
-    found = [] if WARNING.search(output) else LINE.findall(output)
-    words = {word.partition("=")[0] for word in found[-1].split()[1:]} if found else set[str]()
-    return found[-1] if words and words <= WORDS else None
+    result = [] if WARNING.search(output) else LINE.findall(output)
+    words = {word.partition("=")[0] for word in result[-1].split()[1:]} if result else set[str]()
+    return result[-1] if words and words <= WORDS else None
 
 
 class BuildRecord:
@@ -93,7 +94,7 @@ class BuildRecord:
         self.prover, self.sums, self.toolchain = prover, sums, read_toolchain_version()
 
     def get_note_path(self, crate: str) -> str:
-        return os.path.join(self.prover.made, f"{crate}.of")
+        return os.path.join(self.prover.build_folder, f"{crate}.of")
 
     def compute_sum(self, crate: str) -> str:
         """Return a checksum of the toolchain and the sources of a crate and its dependencies."""
@@ -107,7 +108,7 @@ class BuildRecord:
         is_there = os.path.exists(self.prover.get_output_path(crate))
         return line.strip() if is_there and digest == self.compute_sum(crate) else None
 
-    def forget(self, crate: str) -> None:
+    def remove_crate(self, crate: str) -> None:
         with contextlib.suppress(FileNotFoundError):
             os.remove(self.get_note_path(crate))
 
@@ -121,8 +122,8 @@ def compute_remaining_work(lines: Lines, sizes: dict[str, int]) -> dict[str, int
     A path leads from a crate to a crate that uses it. `sizes` gives the work of each crate, and
     lists each after the crates that it uses. The result has the opposite order.
     """
-    found: dict[str, int] = {}
+    result: dict[str, int] = {}
     for name in reversed(sizes):
-        above = (work for user, work in found.items() if name in lines[user])
-        found[name] = sizes[name] + max(above, default=0)
-    return found
+        above = (work for user, work in result.items() if name in lines[user])
+        result[name] = sizes[name] + max(above, default=0)
+    return result

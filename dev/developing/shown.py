@@ -17,7 +17,7 @@ class Line:
 def find_commands(path: str) -> list[Line]:
     inside = False
     current: Line | None = None
-    found: list[Line] = []
+    result: list[Line] = []
     with open(path, encoding="utf-8") as file:
         for number, line in enumerate(file, 1):
             if path.endswith(".1"):
@@ -28,10 +28,10 @@ def find_commands(path: str) -> list[Line]:
                 current.command += "\n" + line.rstrip("\n")
             elif inside and re.match(r"\$ |\./subttx ", line):
                 current = Line(number, line.rstrip("\n").removeprefix("$ "))
-                found.append(current)
+                result.append(current)
             elif inside and current:
                 current.shown += line
-    return found
+    return result
 
 
 def has_expected_status(status: int | None, command: str, output: str) -> bool:
@@ -48,9 +48,9 @@ def has_expected_status(status: int | None, command: str, output: str) -> bool:
 def run_command(command: str, folder: str, env: dict[str, str]) -> tuple[str, int | None]:
     """Run a command line. Return its output and its exit status (`None` after a timeout)."""
     try:
-        done = subprocess.run(["sh", "-c", command], cwd=folder, env=env, check=False,
-                              stdin=subprocess.DEVNULL, stdout=subprocess.PIPE,
-                              stderr=subprocess.STDOUT, timeout=SECONDS)
+        process = subprocess.run(["sh", "-c", command], cwd=folder, env=env, check=False,
+                                 stdin=subprocess.DEVNULL, stdout=subprocess.PIPE,
+                                 stderr=subprocess.STDOUT, timeout=SECONDS)
     except subprocess.TimeoutExpired:
         return f"did not end within {SECONDS} seconds", None
-    return done.stdout.decode("utf-8", "replace"), done.returncode
+    return process.stdout.decode("utf-8", "replace"), process.returncode

@@ -36,18 +36,18 @@ def count_code(text: str, sizes: collections.Counter[str]) -> None:
 
 def count_lines(top: str) -> dict[str, collections.Counter[str]]:
     """Return the line counts of each crate in a repository, keyed by crate name."""
-    found: dict[str, collections.Counter[str]] = collections.defaultdict(collections.Counter)
+    result: dict[str, collections.Counter[str]] = collections.defaultdict(collections.Counter)
     for path in glob.glob(os.path.join(top, "crates", "*", "*", "**", "*.*"), recursive=True):
         crate, part = os.path.relpath(path, os.path.join(top, "crates")).split(os.sep)[:2]
         lines = [line for line in (read(path) or "").split("\n") if line.strip()] \
             if part in ("src", "specs", "proofs") else []
         if crate in TESTS:
-            found[crate]["tests"] += len(lines)
+            result[crate]["tests"] += len(lines)
         elif path.endswith(".antt"):
-            found[crate][part] += len(lines)
+            result[crate][part] += len(lines)
         elif path.endswith(".rt"):
-            count_code("\n".join(lines), found[crate])
-    return found
+            count_code("\n".join(lines), result[crate])
+    return result
 
 
 def add_sizes(sizes: dict[str, collections.Counter[str]]) -> collections.Counter[str]:

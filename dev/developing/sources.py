@@ -8,7 +8,7 @@ import re
 from dataclasses import dataclass, field
 from typing import Iterator
 
-from .definitions import USE, File, read_braced_text
+from .definitions import USE_STATEMENT, File, read_braced_text
 
 HEAD = re.compile(r"((?:(?:pub|abbrev|unfoldable|opaque|record|data|ruleset) )*)"
                   r"([^\s:(){},;]+)(?=[\s:]|$)")
@@ -31,16 +31,16 @@ class Node:
     line: int
     text: list[str]
     lines: int = 1
-    is_promise: bool = False
+    is_promised: bool = False
     is_public: bool = False
     owner: str = ""
     function: Node | None = None  # the function to which a clause belongs
-    uses: dict[Node, None] = field(default_factory=dict)
+    used_nodes: dict[Node, None] = field(default_factory=dict)
     used_by: dict[Node, None] = field(default_factory=dict)
 
     def add(self, other: Node | None) -> None:
         if other is not None and other is not self:
-            self.uses[other] = None
+            self.used_nodes[other] = None
             other.used_by[self] = None
 
     def format_place(self) -> str:
@@ -71,48 +71,49 @@ def read_definitions(file: Source, kind: str) -> Iterator[Node]:
     modules: list[tuple[int, list[str], int]] = []
     is_head = False  # whether the line is within the parameters of a module
     for number, line in enumerate(file.text.split("\n"), 1):
-        bare = line.strip()
-        if not bare or bare.startswith(("--", "pub mod ")) or USE.match(line):
+        stripped = line.strip()
+        if not stripped or stripped.startswith(("--", "pub mod ")) or USE_STATEMENT.match(line):
             continue
         depth = len(line) - len(line.lstrip())
         if is_head:
-            modules[-1][1].append(bare)
-            is_head = not ends_head(bare)
+            modules[-1][1].append(stripped)
+            is_head = not is_end_of_head(stripped)
             continue
         while modules and depth <= modules[-1][0]:
             modules.pop()
         if modules and not modules[-1][2]:
             modules[-1] = *modules[-1][:2], depth
         is_level = depth == (modules[-1][2] if modules else 0)
-        if is_level and bare.startswith("module "):
-            modules.append((depth, [bare], 0))
-            is_head, now = not ends_head(bare), None
-        elif is_level and (name := find_defined_name(bare)):
-            around = [part for _, parts, _ in modules for part in parts]
-            now = Node(kind, file, name, number, [*around, bare])
+        if is_level and stripped.startswith("module "):
+            modules.append((depth, [stripped], 0))
+            is_head, now = not is_end_of_head(stripped), None
+        elif is_level and (name := find_defined_name(stripped)):
+            outer_modules = [part for _, parts, _ in modules for part in parts]
+            now = Node(kind, file, name, number, [*outer_modules, stripped])
             yield now
         elif now:
-            now.text.append(bare)
+            now.text.append(stripped)
             now.lines += 1
 
 
-def ends_head(bare: str) -> bool:
+def is_end_of_head(stripped: str) -> bool:
     """Return whether a line is the last line of a module's parameters."""
-    return bare == "where" or bare.endswith(" where")
+    return stripped == "where" or stripped.endswith(" where")
 
 
-def find_defined_name(bare: str) -> str | None:
+def find_defined_name(stripped: str) -> str | None:
     """Return the name of the definition that begins on a line, or `None` for an equation."""
-    head = HEAD.match(bare)
-    return head[2] if head and (head[1] or re.match(r" *:(?:\s|$)", bare[head.end():])) else None
+    head = HEAD.match(stripped)
+    return head[2] if head and (head[1]
+                                or re.match(r" *:(?:\s|$)", stripped[head.end():])) else None
 
 
 def find_head_names(text: str) -> set[str]:
     """Return the quoted names in a file's first comment, and the names after `main lemmas:`."""
     lines = itertools.takewhile(lambda line: line.startswith("--"), text.split("\n"))
     head = " ".join(line[2:].strip() for line in lines)
-    listed_there = (re.split(r"[`,;\s]+", names) for names in MAIN.findall(head))
-    return {*QUOTED.findall(head), *itertools.chain(*listed_there)} - {"", "and"}
+    main_names = (re.split(r"[`,;\s]+", names) for names in MAIN.findall(head))
+    return {*QUOTED.findall(head), *itertools.chain(*main_names)} - {"", "and"}
 
 
 def read_functions(file: Source) -> list[str]:
@@ -122,7 +123,7 @@ def read_functions(file: Source) -> list[str]:
     owner, at = "", 0
     lines = file.text.split("\n")
     while at < len(lines):
-        line, bare = lines[at], lines[at].strip()
+        line, stripped = lines[at], lines[at].strip()
         if head := FUNCTION.match(line):
             last = find_end_of_function(lines, at, head[1])
             text = [*attributes, *map(str.strip, lines[at:last + 1])]
@@ -132,16 +133,16 @@ def read_functions(file: Source) -> list[str]:
                 is_public=bool(head[2]) and "(" not in head[2]))
             at, attributes = last + 1, []
             continue
-        if bare.startswith("#["):
-            attributes.append(bare)
-        elif not bare.startswith("//"):
+        if stripped.startswith("#["):
+            attributes.append(stripped)
+        elif not stripped.startswith("//"):
             attributes = []
         if line.startswith("}"):
             owner = ""
         elif block := BLOCK.match(line):
             owner = block[1]
-        if not bare.startswith(NO_TEXT):
-            other_lines.append(bare)
+        if not stripped.startswith(NO_TEXT):
+            other_lines.append(stripped)
         at += 1
     return other_lines
 
@@ -151,11 +152,12 @@ def find_end_of_function(lines: list[str], at: int, indent: str) -> int:
     depth = 0  # depth of braces in the contract
     for number in range(at, len(lines)):
         line = lines[number].rstrip()
-        is_clause = CLAUSE.search(line) or depth
-        if not is_clause and line.endswith(("{}", "{ }")):
+        is_in_clause = CLAUSE.search(line) or depth
+        if not is_in_clause and line.endswith(("{}", "{ }")):
             return number
-        if not is_clause and line.endswith("{"):
-            return next((k for k in range(number, len(lines)) if lines[k] == indent + "}"), number)
+        if not is_in_clause and line.endswith("{"):
+            return next((line_index for line_index in range(number, len(lines)) if lines[
+                                                            line_index] == indent + "}"), number)
         depth += line.count("{") - line.count("}")
         if not depth and line.endswith(";"):
             return number  # a trait's function without a body
@@ -165,9 +167,9 @@ def find_end_of_function(lines: list[str], at: int, indent: str) -> int:
 def list_contract_clauses(text: str) -> Iterator[tuple[str, str, str, int]]:
     """Yield the keyword, name, text and end offset of each clause in a contract."""
     at = 0
-    while found := CLAUSE.search(text, at):
-        inner = read_braced_text(text, found.end())
-        at = found.end() + len(inner) + 1
-        yield found[1], found[2], inner, at
+    while result := CLAUSE.search(text, at):
+        clause_text = read_braced_text(text, result.end())
+        at = result.end() + len(clause_text) + 1
+        yield result[1], result[2], clause_text, at
 
 

@@ -58,6 +58,6 @@ def make_subtitle_blocks(number: int, begin: int, end: int, row: int, justify: i
                     for field, ebn in zip(fields, numbers))
 
 
-def box_line(text: bytes, colour: bytes = b"") -> bytes:
+def make_box_line(text: bytes, colour: bytes = b"") -> bytes:
     """Return a double-height line with doubled box codes, as most files have them."""
     return DOUBLE_HEIGHT + colour + START_BOX * 2 + text + END_BOX * 2

@@ -27,13 +27,13 @@ SHELL_MESSAGES = re.compile(r"(sh|strace): ")
 # Printed faults that need an explanation on standard error, and how that explanation begins.
 EXPLANATIONS = [(re.compile(rb"^fault \d+ (Open|Read|Write)\b", re.MULTILINE), "subttx: "),
                 (re.compile(rb"^usage 0 Words$", re.MULTILINE), "error: ")]
-UNREAD = "subttx: cannot read the command line: "  # printed if memory runs out
+COMMAND_LINE_ERROR = "subttx: cannot read the command line: "  # printed if memory runs out
 # Number of faults that `check --all` reports for each PES packet in an input except the last.
 FAULTS_PER_PACKET = {"long.pes": 0, "even.pes": 2, "unread.pes": 1}
 
 
 # Let the malloc or realloc call with the number REFUSE_AT fail, and create the file REFUSED.
-REFUSER = rb"""
+REFUSING_LIBRARY = rb"""
 #define _GNU_SOURCE
 #include <dlfcn.h>
 #include <fcntl.h>
@@ -112,7 +112,7 @@ class Command(NamedTuple):
     printed: bytes
     written: bytes | None
 
-    def with_output(self, path: str) -> Command:
+    def replace_output(self, path: str) -> Command:
         return self._replace(program_args=[*self.program_args[:2], path], out=path)
 
 
@@ -146,8 +146,8 @@ class RunResult(NamedTuple):
     changed: tuple[str, ...] = ()
 
 
-Found = tuple[str, Union[RunResult, Command], list[str]]  # name, run and faults of a case
-Case = Callable[[], list[Found]]  # runs the program, and returns the result of each run
+CaseResult = tuple[str, Union[RunResult, Command], list[str]]  # name, run and faults of a case
+Case = Callable[[], list[CaseResult]]  # runs the program, and returns the result of each run
 End = tuple[int, bytes]  # expected status and output
 
 
@@ -168,7 +168,7 @@ def read_files(place: str, command: Command) -> dict[str, bytes | None]:
 
 def parse_calls(log: bytes) -> list[Call]:
     """Return the system calls in a log from strace."""
-    found: list[Call] = []
+    calls: list[Call] = []
     numbers: dict[str, int] = {}
     for line in log[:MAX_LOG_BYTES].decode("utf-8", "replace").splitlines():
         match = CALL.match(line)
@@ -179,10 +179,10 @@ def parse_calls(log: bytes) -> list[Call]:
         on, _, path = arguments.partition(",")[0].rstrip(">").partition("<")
         if name in ("openat", "statx"):
             on = arguments.split('"')[1]
-        found.append(Call(name, on, os.path.basename(path),
+        calls.append(Call(name, on, os.path.basename(path),
                           int(result, 0) if result != "?" else None,
                           "(INJECTED)" in rest, numbers[name]))
-    return found
+    return calls
 
 
 class Setup(NamedTuple):
@@ -198,8 +198,8 @@ def split_output(printed: bytes, errors: bytes, count: int) -> list[tuple[int, b
     texts, error_text = printed.split(end), errors.split(end)
     if (len(texts), len(error_text)) != (2 * count + 1, count + 1):
         raise ValueError("the shell ended before its runs")
-    return [(128 - status if status > 128 else status, text, one)
-            for text, status, one in zip(texts[::2], map(int, texts[1::2]), error_text)]
+    return [(128 - status if status > 128 else status, text, item)
+            for text, status, item in zip(texts[::2], map(int, texts[1::2]), error_text)]
 
 
 def collect_run(place: str, command: Command, before: dict[str, bytes | None], status: int,
@@ -225,8 +225,8 @@ class Trial:
         self.skipped: list[str] = []
         self.has_strace = self.can_run([*STRACE, "-o", os.devnull, "true"])
         # Root may read every file, so permission tests run as another user.
-        self.as_user: dict[str, int] = {} if os.geteuid() else {"user": ANOTHER_USER}
-        self.has_user = self.can_run(["test", "-x", program], **self.as_user)
+        self.user_arguments: dict[str, int] = {} if os.geteuid() else {"user": ANOTHER_USER}
+        self.can_change_user = self.can_run(["test", "-x", program], **self.user_arguments)
 
     @staticmethod
     def can_run(command: Sequence[str], **more: Any) -> bool:
@@ -269,18 +269,19 @@ class Trial:
             os.chmod(place, 0o777)
             if prepare:
                 prepare(place)
-            before_it = read_files(place, command)
+            files_before = read_files(place, command)
             script = f'ulimit -c 0; ulimit -t {SECONDS}; {setup} exec "$@"'
             line = ["sh", "-c", script, "sh", *before, self.program, *command.program_args]
             try:
-                done = subprocess.run(line, stdout=stdout, stderr=subprocess.PIPE, cwd=place,
-                                      stdin=subprocess.DEVNULL, timeout=MAX_SECONDS, check=False,
-                                      **more)
+                process = subprocess.run(line, stdout=stdout, stderr=subprocess.PIPE, cwd=place,
+                                         stdin=subprocess.DEVNULL, timeout=MAX_SECONDS, check=False,
+                                         **more)
             except (OSError, subprocess.SubprocessError) as error:
                 return RunResult(str(error), b"", None, [])
-            return collect_run(place, command, before_it, done.returncode, done.stdout, done.stderr)
+            return collect_run(place, command, files_before, process.returncode, process.stdout,
+                               process.stderr)
 
-    def run_each(self, command: Command, setups: Sequence[Setup]) -> list[RunResult]:
+    def run_with_setups(self, command: Command, setups: Sequence[Setup]) -> list[RunResult]:
         """Run the program with each setup in a new folder, all from one shell to save time."""
         places = [tempfile.mkdtemp(dir=self.folder) for _ in setups]
         script = f"ulimit -c 0; ulimit -t {SECONDS}\n" + "".join(
@@ -289,11 +290,11 @@ class Trial:
             f"printf '{END_FORMAT}%d{END_FORMAT}' $?; printf '{END_FORMAT}' >&2\n"
             for place, setup in zip(places, setups))
         try:
-            done = subprocess.run(["sh", "-c", script], stdout=subprocess.PIPE,
-                                  stderr=subprocess.PIPE, stdin=subprocess.DEVNULL,
-                                  timeout=MAX_SECONDS, check=False)
+            process = subprocess.run(["sh", "-c", script], stdout=subprocess.PIPE,
+                                     stderr=subprocess.PIPE, stdin=subprocess.DEVNULL,
+                                     timeout=MAX_SECONDS, check=False)
             return [collect_run(place, command, {}, *ended) for place, ended in zip(
-                places, split_output(done.stdout, done.stderr, len(setups)))]
+                places, split_output(process.stdout, process.stderr, len(setups)))]
         except (OSError, ValueError, subprocess.SubprocessError) as error:
             return [RunResult(str(error), b"", None, []) for _ in setups]
         finally:
@@ -302,7 +303,7 @@ class Trial:
 
     def run_traced(self, command: Command, injections: Sequence[str]) -> list[RunResult]:
         """Run a command under strace once for each fault injection."""
-        return self.run_each(command, [
+        return self.run_with_setups(command, [
             Setup("", [*STRACE, "-o", "calls", *(["-e", injection] if injection else [])])
             for injection in injections])
 
@@ -360,14 +361,14 @@ def check_memory_failure(command: Command, run_result: RunResult) -> list[str]:
     The output must be the normal output, or must report that memory ran out. Then the explanation
     of wrong arguments may be missing or incomplete.
     """
-    found = NO_MEMORY.search(run_result.printed or b"")
-    if not found or run_result.printed is None:
+    result = NO_MEMORY.search(run_result.printed or b"")
+    if not result or run_result.printed is None:
         if command.status == 2 and (not run_result.error_text
-                                    or run_result.error_text.startswith(UNREAD)):
+                                    or run_result.error_text.startswith(COMMAND_LINE_ERROR)):
             run_result = run_result._replace(error_text="error: ")
         return compare_with_normal_run(command, run_result)
-    before = run_result.printed[:found.start()]
-    faults = find_faults(run_result, 2, before + found[0], run_result.written)
+    before = run_result.printed[:result.start()]
+    faults = find_faults(run_result, 2, before + result[0], run_result.written)
     if not command.printed.startswith(before):
         faults.append("the output before is not a prefix of the complete output")
     if not (command.written or b"").startswith(run_result.written or b""):
@@ -442,16 +443,16 @@ def judge(trial: Trial, command: Command, run_result: RunResult) -> list[str]:
 
     A failed write to standard error must not change the rest of the output.
     """
-    injected = [call for call in run_result.calls if call.is_injected]
-    if not injected:
+    injected_calls = [call for call in run_result.calls if call.is_injected]
+    if not injected_calls:
         return ["no call failed"] + compare_with_normal_run(command, run_result)
-    if any(is_explanation(call) for call in injected):
+    if any(is_explanation(call) for call in injected_calls):
         run_result = run_result._replace(error_text="error: \nsubttx: ")
-    failed = {(call.name, call.on): call for call in reversed(injected)
+    failed = {(call.name, call.on): call for call in reversed(injected_calls)
               if not is_explanation(call)}
     if not failed:
         return compare_with_normal_run(command, run_result)
-    first = next(iter(call for call in injected if not is_explanation(call)))
+    first = next(iter(call for call in injected_calls if not is_explanation(call)))
     text, written = command.printed, command.written
     if is_output_check(run_result.calls, first):
         text = expect_write_fault(command)
@@ -466,9 +467,9 @@ def judge(trial: Trial, command: Command, run_result: RunResult) -> list[str]:
     elif first.on != "1":
         text = expect_write_fault(command)
         written = (command.written or b"")[:count_bytes_before(run_result.calls, first)]
-    at_output = failed.get(("write", "1"))
-    if at_output:
-        text = text[:count_bytes_before(run_result.calls, at_output)]
+    output_failure = failed.get(("write", "1"))
+    if output_failure:
+        text = text[:count_bytes_before(run_result.calls, output_failure)]
     faults = find_faults(run_result, 2, text, written)
     for (name, on), call in failed.items():
         after = [other for other in run_result.calls[run_result.calls.index(call) + 1:]

@@ -7,7 +7,7 @@ import sys
 from subtitles.common.program import TOP
 from subtitles.formats.stl import GSI, NEW_LINE
 from .pes import DATA, UNIT, find_starts
-from .stl import box_line, make_tti_block
+from .stl import make_box_line, make_tti_block
 from .trial import Trial, read
 
 SUBTITLES = 1700  # enough subtitles to fill each 64 KiB buffer three times
@@ -41,7 +41,7 @@ COMMANDS = [
 
 def make_subtitle(number: int) -> bytes:
     """Return a TTI block with two double-height lines, shown in second `number`."""
-    lines = [box_line((b"%s line %5d " % (word, number)).ljust(34, b"x"))
+    lines = [make_box_line((b"%s line %5d " % (word, number)).ljust(34, b"x"))
              for word in (b"Upper", b"Lower")]
     return make_tti_block(number, 25 * number, 25 * number + 25, 20, 2,
                           (NEW_LINE * 2).join(lines))

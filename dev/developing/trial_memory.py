@@ -13,10 +13,10 @@ from typing import Callable, Iterable, Iterator
 from subtitles.common.program import TOP
 from subtitles.formats.stl import TTI
 
-from .stl import box_line, make_gsi_block, make_tti_block
+from .stl import make_box_line, make_gsi_block, make_tti_block
 from .trial import (
-    RUNS_PER_SHELL, Case, Command, Found, REFUSER, RunResult, Setup, Trial, check_memory_failure,
-    compare_with_normal_run)
+    RUNS_PER_SHELL, Case, Command, CaseResult, REFUSING_LIBRARY, RunResult, Setup, Trial,
+    check_memory_failure, compare_with_normal_run)
 from .trial_inputs import HEADER
 
 KIBIBYTES = [96 * 1024, 64 * 1024, 32 * 1024, 16 * 1024, *range(8192, 1024, -48)]
@@ -24,7 +24,7 @@ START_MEMORY = 8192  # KiB of memory; enough to start the program
 STACK_SIZE = 64  # KiB; each command needs less than 48
 SURVEY_STACK_SIZE = 160  # KiB; `survey` needs between 144 and 152
 MAX_SUBTITLES = 99_999  # maximum number of subtitles in a file, with one block each
-MEMORY_BESIDE_TEXTS = 10_000_000  # bytes; enough for MAX_SUBTITLES without their texts
+MEMORY_WITHOUT_TEXTS = 10_000_000  # bytes; enough for MAX_SUBTITLES without their texts
 TOO_LITTLE_MEMORY = 1_000_000  # bytes; not enough for MAX_SUBTITLES subtitles
 # Commands whose memory requests are refused in turn, with files from examples/.
 REFUSED_REQUESTS = [line.split() for line in f"""
@@ -59,23 +59,23 @@ def run_parallel(trial: Trial, command: Command, numbers: Iterable[int], setup: 
     """Run a command once for each number, RUNS_PER_SHELL runs at a time."""
     waiting = iter(numbers)
     while some := list(itertools.islice(waiting, RUNS_PER_SHELL)):
-        yield from zip(some, trial.run_each(command, [Setup(setup(one)) for one in some]))
+        yield from zip(some, trial.run_with_setups(command, [Setup(setup(item)) for item in some]))
 
 
 def run_with_less_memory(trial: Trial) -> Iterator[Case]:
-    def shrink(command: Command) -> list[Found]:
-        found: list[Found] = []
+    def run_with_limit(command: Command) -> list[CaseResult]:
+        result: list[CaseResult] = []
         for size, run_result in run_parallel(trial, command, KIBIBYTES,
                                              lambda size: f"ulimit -v {size};"):
             name = f"{command.name} in {size} KiB"
             # With too little memory, the loader ends the program before its first instruction.
             if run_result.status in (127, -9, -11) and not run_result.printed:
-                found.append((name, run_result, [] if size < START_MEMORY else ["not started"]))
+                result.append((name, run_result, [] if size < START_MEMORY else ["not started"]))
                 break
-            found.append((name, run_result, check_memory_failure(command, run_result)))
-        return found
+            result.append((name, run_result, check_memory_failure(command, run_result)))
+        return result
 
-    return (partial(shrink, command) for command in trial.commands.values())
+    return (partial(run_with_limit, command) for command in trial.commands.values())
 
 
 def resolve_examples(program_args: list[str]) -> list[str]:
@@ -88,7 +88,7 @@ def run_with_small_stack(trial: Trial) -> Iterator[Case]:
     others = (trial.make_command(" ".join(program_args), resolve_examples(program_args))
               for program_args in STACK_COMMANDS)
     for command in [*trial.commands.values(), *others]:
-        def run(command: Command = command) -> list[Found]:
+        def run(command: Command = command) -> list[CaseResult]:
             size = SURVEY_STACK_SIZE if command.program_args[0] == "survey" else STACK_SIZE
             # Clear the environment, which is also on the stack.
             run_result = trial.run(command, before=["env", "-i"], setup=f"ulimit -s {size};")
@@ -98,24 +98,24 @@ def run_with_small_stack(trial: Trial) -> Iterator[Case]:
 
 
 def run_with_refused_memory(trial: Trial) -> Iterator[Case]:
-    library = trial.build_library("refused memory", REFUSER)
+    library = trial.build_library("refused memory", REFUSING_LIBRARY)
     if not library:
         return
 
-    def refused(number: int, program_args: list[str]) -> list[Found]:
+    def refused(number: int, program_args: list[str]) -> list[CaseResult]:
         name, mark = " ".join(program_args)[:60], os.path.join(trial.folder, f"refused-{number}")
         command = trial.make_command(name, resolve_examples(program_args))
-        found: list[Found] = []
+        result: list[CaseResult] = []
         for call, run_result in run_parallel(
                 trial, command, itertools.count(1), lambda call: f"export LD_PRELOAD={library} "
                 f"REFUSE_AT={call} REFUSED={mark}-{call};"):
             if not os.path.exists(f"{mark}-{call}"):
                 break
-            found.append((f"{name}: call {call}", run_result,
-                          check_memory_failure(command, run_result)))
-        faults = (compare_with_normal_run(command, run_result) if found
+            result.append((f"{name}: call {call}", run_result,
+                           check_memory_failure(command, run_result)))
+        faults = (compare_with_normal_run(command, run_result) if result
                   else ["no memory call was seen: is the program linked to libc?"])
-        return [*found, (f"{name}: no more calls", run_result, faults)]
+        return [*result, (f"{name}: no more calls", run_result, faults)]
 
     for number, program_args in enumerate(REFUSED_REQUESTS):
         yield partial(refused, number, program_args)
@@ -123,7 +123,7 @@ def run_with_refused_memory(trial: Trial) -> Iterator[Case]:
 
 def run_with_many_subtitles(trial: Trial) -> Iterator[Case]:
     """Check the maximum number of subtitles in little more memory than their texts need."""
-    texts = [box_line(b"Subtitle %05d" % number) for number in range(MAX_SUBTITLES)]
+    texts = [make_box_line(b"Subtitle %05d" % number) for number in range(MAX_SUBTITLES)]
     blocks = [make_tti_block(number & 0xFFFF, 20 * number, 20 * number + 20, 22, 2, text)
               for number, text in enumerate(texts)]
     trial.add_input("many.stl", make_gsi_block(b"Many", len(blocks), MAX_SUBTITLES) +
@@ -135,9 +135,9 @@ def run_with_many_subtitles(trial: Trial) -> Iterator[Case]:
     files = ["../many.stl", "../many.pes", "--every", "25"]
     commands = [schedule, trial.make_command("check", ["check", *files]),
                 trial.make_command("check --all", ["check", *files, "--all"])]
-    most = MEMORY_BESIDE_TEXTS + sum(map(len, texts))
+    most = MEMORY_WITHOUT_TEXTS + sum(map(len, texts))
     for command in commands:
-        def run(command: Command = command) -> list[Found]:
+        def run(command: Command = command) -> list[CaseResult]:
             run_result, short = (trial.run(command, setup=f"ulimit -d {size // 1024};")
                           for size in (most, TOO_LITTLE_MEMORY))
             kept = check_memory_failure(command, short)

@@ -4,7 +4,7 @@ from __future__ import annotations
 import re
 from typing import NamedTuple
 
-from subtitles.common.times import CLOCK, FRAMES_OF_A_DAY, frame_of
+from subtitles.common.times import CLOCK, FRAMES_OF_A_DAY, parse_frame
 from subtitles.formats.layout import Layout, PLAIN, parse_layout
 from subtitles.formats.teletext import Page
 from .national import BITS
@@ -98,7 +98,7 @@ def parse_options(arguments: list[str]) -> Options:
     pace = parse_number(given["--pace"]) if "--pace" in given else None
     if "--pace" in given and (pace is None or not 1 <= pace <= FRAMES_OF_A_DAY):
         raise UsageFault("92 Pace")
-    ends = [frame_of(given[name]) if name in given else whole
+    ends = [parse_frame(given[name]) if name in given else whole
             for name, whole in (("--from", 0), ("--to", FRAMES_OF_A_DAY))]
     if ends[0] is None or ends[1] is None:
         raise UsageFault("6 BadTime")
@@ -110,7 +110,7 @@ def parse_options(arguments: list[str]) -> Options:
 
 def parse_range(text: str) -> tuple[int, int | None]:
     """Parse a range of PES packets. The second number is `None` if the range has no end."""
-    found = re.fullmatch(r"([0-9]{1,10})-([0-9]{1,10})?", text)
-    if not found or found[2] and int(found[1]) > int(found[2]):
+    result = re.fullmatch(r"([0-9]{1,10})-([0-9]{1,10})?", text)
+    if not result or result[2] and int(result[1]) > int(result[2]):
         raise UsageFault("88 Range")
-    return int(found[1]), int(found[2]) if found[2] else None
+    return int(result[1]), int(result[2]) if result[2] else None

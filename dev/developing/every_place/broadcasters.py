@@ -12,7 +12,7 @@ from typing import NamedTuple
 from developing.pes import (
     add_odd_parity, decode_pts, make_packet as teletext_packet, make_pes_packet, read_pes_packets)
 from developing.stl import encode_time_code
-from subtitles.common.times import FRAMES_OF_A_DAY, frame_of_code, time_of
+from subtitles.common.times import FRAMES_OF_A_DAY, decode_frame, format_frame
 from subtitles.formats.layout import FLAGS, NUMBER_RANGES
 from subtitles.formats.stl import GSI, TTI
 from subtitles.formats.teletext import CODE_WORDS, NUMBER
@@ -21,7 +21,7 @@ from .broken import LETTERS, MAX_PACKETS, read_teletext
 DISPLAY_CODE = 11  # offset of DSC in the GSI block
 CODES = [0x0A, 0x0B, 0x0B, 0x0D, 0x07, 0x03, 0x01, 0x0C]
 WRONG_LAYOUTS = ["", "fit,fit", "Fit", "before=0", "left=40", "after=0A*", "row=+1", "strip=20"]
-WRONG_PACES = ["0", "2160001", "", "x", "+1", "00000000001"]
+INVALID_PACES = ["0", "2160001", "", "x", "+1", "00000000001"]
 WRONG_TIMES = ["", "24:00:00:00", "1:00:00:00", "10:00:00:25", "10:00:00"]
 SUBCODE, S2_C4, S4_C6 = 4, 5, 7  # offsets of fields in a page header
 
@@ -59,13 +59,13 @@ def make_part_options(rng: Random, stl: bytes) -> list[str]:
     """Return --from and --to options with times near the start of subtitles."""
     arguments: list[str] = []
     begins = [frame for block in split_blocks(stl)
-              if (frame := frame_of_code(bytes(block[5:9]))) is not None] or [0]
+              if (frame := decode_frame(bytes(block[5:9]))) is not None] or [0]
     for name in ("--from", "--to"):
         if rng.random() < 0.6:
             frame = rng.choice(begins) + rng.choice([0, 0, 1, -1, 30])
             wrong = rng.random() < 0.04
             arguments += [name, rng.choice(WRONG_TIMES) if wrong
-                          else time_of(min(max(frame, 0), FRAMES_OF_A_DAY - 1))]
+                          else format_frame(min(max(frame, 0), FRAMES_OF_A_DAY - 1))]
     return arguments
 
 
@@ -97,15 +97,15 @@ def change_header(rng: Random, teletext: list[bytes], subcode: int, keeps_page: 
 def change_page_body(rng: Random, teletext: list[bytes]) -> None:
     """Change the packets after a header: for example, remove rows, add rows or change a byte."""
     at, way = rng.randrange(1, len(teletext)), rng.randrange(9)
-    one = bytearray(teletext[at])
+    item = bytearray(teletext[at])
     if way < 3:
         del teletext[at]
     elif way == 3:
-        one[rng.randrange(2, 42)] ^= 0x80
-        teletext[at] = bytes(one)
+        item[rng.randrange(2, 42)] ^= 0x80
+        teletext[at] = bytes(item)
     elif way == 4:
-        one[rng.randrange(10, 42)] = add_odd_parity(rng.choice(LETTERS))
-        teletext[at] = bytes(one)
+        item[rng.randrange(10, 42)] = add_odd_parity(rng.choice(LETTERS))
+        teletext[at] = bytes(item)
     elif way == 5:
         text = rng.choice([b" " * 40, bytes(rng.choices(LETTERS, k=40))])
         teletext.insert(at, teletext_packet(0, rng.randrange(1, 25), [], text))
@@ -156,7 +156,7 @@ def spoil_subtitles(rng: Random, stl: bytes) -> bytes:
             field, value = rng.choice([(14, 4), (4, 1), (8, 25), (12, 25), (9, 23), (13, 24)])
             block[field] = value
         elif way == 3:  # the subtitle ends during or after the next subtitle
-            tco = frame_of_code(bytes(block[9:13])) or 0
+            tco = decode_frame(bytes(block[9:13])) or 0
             block[9:13] = encode_time_code(min(tco + rng.randrange(1, 90), FRAMES_OF_A_DAY - 1))
         elif way == 4:
             blocks.insert(at, blocks.pop(rng.randrange(len(blocks))))
@@ -167,5 +167,5 @@ def spoil_subtitles(rng: Random, stl: bytes) -> bytes:
 
 def make_pace_options(rng: Random) -> list[str]:
     wrong = rng.random() < 0.04
-    return ["--pace", rng.choice(WRONG_PACES) if wrong
+    return ["--pace", rng.choice(INVALID_PACES) if wrong
             else str(rng.choice([1, 2, 25, 26, 50, 100, 250, 2160000]))]

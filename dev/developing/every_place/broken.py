@@ -5,7 +5,7 @@ import io
 from random import Random
 
 from developing.pes import (
-    DATA, MIRROR, STUFFING_UNIT, UNIT, add_odd_parity, decode_pts, encode_pts,
+    DATA, REVERSED_BITS, STUFFING_UNIT, UNIT, add_odd_parity, decode_pts, encode_pts,
     make_packet as teletext_packet, make_pes_packet, read_pes_packets, reverse_bits)
 from subtitles.common.times import CLOCK, FRAMES_OF_A_DAY, TICKS
 from subtitles.formats.teletext import CODE_WORDS
@@ -27,8 +27,8 @@ def read_teletext(packet: bytes | bytearray) -> list[bytes]:
 
 def make_random_header(rng: Random) -> bytes:
     """Return a header of the page, another page or another magazine, with random control bits."""
-    units, tens = rng.choice([8, 8, 15]), rng.choice([8, 8, 15])
-    numbers = [units, tens, 0, rng.choice([8, 8, 0]), 0, rng.choice([8, 8, 12]),
+    units, tens_of_page = rng.choice([8, 8, 15]), rng.choice([8, 8, 15])
+    numbers = [units, tens_of_page, 0, rng.choice([8, 8, 0]), 0, rng.choice([8, 8, 12]),
                rng.choice([1, 1, 9]), rng.choice([0, 0, 8, 1])]
     return teletext_packet(rng.choice([0, 0, 1]), 0, numbers, b" " * 32)
 
@@ -58,7 +58,7 @@ def change_pes_packet(way: str, rng: Random, packet: bytearray) -> None:
         place = rng.choice([rng.randrange(2, 10), rng.randrange(10, 42)])
         code = rng.choice([CODE_WORDS[rng.randrange(16)],
                            add_odd_parity(rng.randrange(128))])
-        packet[at + place] = MIRROR[code]
+        packet[at + place] = REVERSED_BITS[code]
     elif way == "drop":
         at = rng.choice(units)
         packet[at:at + UNIT] = STUFFING_UNIT
@@ -69,10 +69,10 @@ def change_pes_packet(way: str, rng: Random, packet: bytearray) -> None:
         teletext[1:1] = [teletext_packet(0, rng.randrange(25, 29), [], b" " * 40)]
         packet[:] = make_pes_packet(decode_pts(packet), teletext)
     elif way == "swap":  # swap two packets, for example a row and its header
-        one, other = (rng.choice(units) + PACKET_OFFSET for _ in range(2))
+        item, other = (rng.choice(units) + PACKET_OFFSET for _ in range(2))
         end = UNIT - PACKET_OFFSET
-        packet[one:one + end], packet[other:other + end] = \
-            packet[other:other + end], packet[one:one + end]
+        packet[item:item + end], packet[other:other + end] = \
+            packet[other:other + end], packet[item:item + end]
     elif way == "frame":
         frames = rng.choice([-1, 1, 2, rng.randrange(-60, 60)])
         shift_pts(packet, rng.choice([TICKS * frames] * 6 + [frames]))
@@ -94,13 +94,13 @@ def change_field(rng: Random, packet: bytearray) -> None:
 
 def add_packet(rng: Random, teletext: list[bytes]) -> None:
     """Insert a Teletext packet: a new packet, a copy, or a changed copy."""
-    made, way = make_random_packet(rng), rng.random()
+    result, way = make_random_packet(rng), rng.random()
     if way < 0.6:
-        made = rng.choice(teletext)
+        result = rng.choice(teletext)
         if way < 0.3:
             at = rng.randrange(10, 42)
-            made = made[:at] + bytes([add_odd_parity(rng.choice(LETTERS))]) + made[at + 1:]
-    teletext.insert(rng.randrange(len(teletext) + 1), made)
+            result = result[:at] + bytes([add_odd_parity(rng.choice(LETTERS))]) + result[at + 1:]
+    teletext.insert(rng.randrange(len(teletext) + 1), result)
 
 
 def shift_pts(packet: bytearray, ticks: int) -> None:
@@ -169,7 +169,7 @@ def damage_packets(rng: Random, packets: list[bytearray]) -> None:
             damage_packet(Random(rng.random() if seed is None else seed), packet)
 
 
-def damage_head(rng: Random, packets: list[bytearray]) -> None:
+def damage_packet_header(rng: Random, packets: list[bytearray]) -> None:
     """Change the start code or the length of a PES packet."""
     packet = rng.choice(packets)
     if rng.random() < 0.3:
@@ -190,7 +190,7 @@ def break_transmission(rng: Random, data: bytes) -> bytes:
         if packets:
             damage_packets(rng, packets)
     if packets and rng.random() < 0.06:
-        damage_head(rng, packets)
+        damage_packet_header(rng, packets)
     data = b"".join(packets)
     way = rng.random()
     if way < 0.05:

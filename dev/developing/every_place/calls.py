@@ -73,15 +73,15 @@ def find_first_fault(lines: list[str]) -> list[str]:
 def extract_items(data: bytes, options: Options, is_failing: bool) -> Answer:
     """Return the PES packets and gap markers of a transport stream."""
     assert options.pid is not None
-    found = read_stream(data, options.pid, options.size)
-    count = len(found.pieces)
-    if found.end_fault is not None:
-        line = format_refused(found.end_fault, f"pes {count}")
+    stream = read_stream(data, options.pid, options.size)
+    count = len(stream.pieces)
+    if stream.end_fault is not None:
+        line = format_refused(stream.end_fault, f"pes {count}")
     elif is_failing:
         line = f"fault 41 Read pes {count}"
     else:
-        line = f"written {count} pes {sum(found.marks)} gaps" if count else format_refused(60)
-    return Answer([line], found.data)
+        line = f"written {count} pes {sum(stream.marks)} gaps" if count else format_refused(60)
+    return Answer([line], stream.data)
 
 
 def define_answer(call: Call) -> Answer:

@@ -7,7 +7,7 @@ from __future__ import annotations
 from typing import Iterable
 
 from developing.pes import decode_address
-from subtitles.common.times import time_of
+from subtitles.common.times import format_frame
 from .due import ExpectedPages, judge_subtitles
 from .ends import FrameEnds
 from .on_air import Packet, erases_page, decode, find_packet_faults, get_page
@@ -85,7 +85,7 @@ class Transmission:
         if not self.frames:
             self.ends.first = frame
             if begin is not None and begin < frame:
-                self.report_fault(63, f"frame {time_of(frame)}", pes)
+                self.report_fault(63, f"frame {format_frame(frame)}", pes)
             return
         if frame <= self.frames[-1]:
             self.event_log.has_rising_frames = False
@@ -95,10 +95,11 @@ class Transmission:
     def receive_packets(self, pes: int, frame: int, teletext: list[bytes]) -> bool:
         """Process Teletext packets. Return whether one of them is a header that erases the page."""
         page, has_erased = self.options.page, False
-        for one in teletext:
-            packet = Packet(one, decode_address(one), decode_header(one))
+        for item in teletext:
+            packet = Packet(item, decode_address(item), decode_header(item))
             for fault in find_packet_faults(packet, self.packets, self.options):
-                self.report_fault(fault, f"frame {time_of(frame)} packet {self.count}", pes, frame)
+                self.report_fault(fault, f"frame {format_frame(frame)} packet {self.count}",
+                                  pes, frame)
             self.packets.append(packet)
             self.count += 1
             if get_page(packet) == page:
@@ -112,7 +113,7 @@ class Transmission:
             return
         pes, frame, self.sending = self.sending, self.frames[-1], None
         if self.is_first and not self.headers:
-            self.report_fault(71, f"frame {time_of(frame)}", pes)
+            self.report_fault(71, f"frame {format_frame(frame)}", pes)
         self.is_first = False
         self.end_frames(pes, [frame])
 
@@ -140,7 +141,7 @@ class Transmission:
             self.report_fault(60, "", None)
         elif self.frames and (self.ends.incomplete_since is not None and not self.ends.is_late
                               or end is not None and end > self.frames[-1]):
-            self.report_fault(74, f"frame {time_of(self.frames[-1])}", None)
+            self.report_fault(74, f"frame {format_frame(self.frames[-1])}", None)
 
     def format_accepted(self) -> str:
         """Return the line that reports an accepted transmission."""
@@ -172,7 +173,7 @@ def check_all(stl: bytes, pes: bytes, options: Options, is_failing: bool = False
         return [*subtitle_lines, f"{len(subtitle_lines)} faults"]
     read = select_data(pes, options)
     pieces, end_fault = split_packets(read.data)
-    due = ExpectedPages(subtitles.records, subtitles.has_fault_before, options)
+    due = ExpectedPages(subtitles.records, subtitles.has_preceding_fault, options)
     transmission = Transmission(due, options, read.first)
     for number, piece in enumerate(pieces):
         sending = read_packet(piece, options.origin, options.within)

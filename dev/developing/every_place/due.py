@@ -12,13 +12,13 @@ from .arguments import Options
 class Subtitles(NamedTuple):
     """The faults in a subtitle file, and the records that can be checked.
 
-    For each record, and for the end of the file, `has_fault_before` is true if a subtitle with a
+    For each record, and for the end of the file, `has_preceding_fault` is true if a subtitle with a
     fault precedes it directly. `records` is `None` if the PES file is not read.
     """
 
     lines: list[str]
     records: list[Record] | None
-    has_fault_before: list[bool]
+    has_preceding_fault: list[bool]
 
 
 def record_faults(record: Record, before: Record | None, options: Options) -> Iterator[str]:
@@ -43,26 +43,26 @@ def judge_subtitles(data: bytes, options: Options) -> Subtitles:
     groups: list[Record | None] = []  # requested subtitles, or `None` for a faulty subtitle
     faults: dict[int, list[str]] = {}  # fault lines of each record, by its index in `groups`
     before: Record | None = None
-    found: list[Record | StlFault | OutsideSubtitle] = list(
+    result: list[Record | StlFault | OutsideSubtitle] = list(
         read_subtitles(data, options.is_open, options.from_frame, options.to_frame))
-    for one in found:
-        if isinstance(one, StlFault):
-            lines.append(format_refused(one.number, f"block {one.block}"))
+    for item in result:
+        if isinstance(item, StlFault):
+            lines.append(format_refused(item.number, f"block {item.block}"))
             groups.append(None)
-        elif isinstance(one, Record):
-            faults[len(groups)] = list(record_faults(one, before, options))
+        elif isinstance(item, Record):
+            faults[len(groups)] = list(record_faults(item, before, options))
             lines += faults[len(groups)]
-            groups.append(one)
-            before = one
+            groups.append(item)
+            before = item
     places = list(faults)
     judged_positions = [place for place, after in zip(places, [*places[1:], None])
               if not faults[place] and not (after and any(map(is_order_fault, faults[after])))]
     records = [record for place in judged_positions if (record := groups[place])]
     has_fault_before = [second - first > 1 for first,
                         second in zip([-1, *judged_positions], [*judged_positions, len(groups)])]
-    is_known = not any(isinstance(one, StlFault) and one.number not in FIRST_BLOCK_FAULTS
-                       for one in found)
-    are_in_order = all(one.tci >= earlier.tco for at, one in enumerate(records)
+    is_known = not any(isinstance(item, StlFault) and item.number not in FIRST_BLOCK_FAULTS
+                       for item in result)
+    are_in_order = all(item.tci >= earlier.tco for at, item in enumerate(records)
                        for earlier in records[:at])
     is_read = not lines or is_known and bool(records) and are_in_order
     return Subtitles(lines, records if is_read else None, has_fault_before)
@@ -73,7 +73,7 @@ class ExpectedPages:
 
     def __init__(self, records: list[Record], has_fault_before: list[bool],
                  options: Options) -> None:
-        self.has_fault_before = has_fault_before
+        self.has_preceding_fault = has_fault_before
         self.pages = [(one.tci, one.tco, draw_page(one, options.option, options.layout))
                       for one in records]
 
@@ -83,8 +83,8 @@ class ExpectedPages:
     def is_undecided(self, frame: int) -> bool:
         """Return whether a faulty subtitle may be on air, with no other page expected."""
         count = sum(tci <= frame for tci, _, _ in self.pages)
-        return self.has_fault_before[count] and not any(tci <= frame < tco for tci, tco,
-                                                        _ in self.pages)
+        return self.has_preceding_fault[count] and not any(tci <= frame < tco for tci, tco,
+                                                           _ in self.pages)
 
     def first(self) -> int | None:
         return self.pages[0][0] if self.pages else None

@@ -3,9 +3,9 @@ from __future__ import annotations
 
 from typing import Iterator
 
-from subtitles.common.times import time_of
+from subtitles.common.times import format_frame
 from .due import ExpectedPages
-from .on_air import Decoded
+from .on_air import DecodedFrames
 from .rows import COLUMNS, SPACE
 from .told import format_ended, format_refused
 from .arguments import Options
@@ -24,7 +24,8 @@ class FrameEnds:
         self.incomplete_since: int | None = None
         self.is_late = False
 
-    def find_active_faults(self, frame: int, decoded: Decoded, headers: list[int], sent: list[int]
+    def find_active_faults(self, frame: int, decoded: DecodedFrames, headers: list[int],
+                           sent: list[int]
                       ) -> dict[int, int]:
         """Return the active faults at the end of a frame, with their cells.
 
@@ -43,14 +44,14 @@ class FrameEnds:
         cell = different_cell if self.is_late else None
         cell = self.find_unexpected_cell(decoded.page, frame) if cell is None else cell
         is_repeat_overdue = frame >= self.first + options.every - 1
-        found = {
+        result = {
             72: cell is not None,
-            73: is_repeat_overdue and not any(frame < one + options.every for one in headers),
+            73: is_repeat_overdue and not any(frame < item + options.every for item in headers),
             77: self.is_late and is_open,
             78: any(map(self.due.is_undecided, self.list_allowed_frames(frame))),
-            79: options.pace and not any(frame < one + options.pace for one in sent)}
+            79: options.pace and not any(frame < item + options.pace for item in sent)}
         return {number: cell if number == 72 and cell is not None else NO_CELL
-                for number, is_so in found.items() if is_so}
+                for number, is_so in result.items() if is_so}
 
     def list_allowed_frames(self, frame: int) -> list[int]:
         """Return `frame`, and as many frames before it as --within allows."""
@@ -74,36 +75,36 @@ class FrameEnds:
         frames = self.list_allowed_frames(frame)
         if any(map(self.due.is_undecided, frames)):
             return None
-        expected_pages = [self.due.at(one) for one in frames]
+        expected_pages = [self.due.at(item) for item in frames]
         if page in expected_pages:
             return None
         return next((at for at, code in enumerate(page)
                      if code != SPACE and all(due[at] != code for due in expected_pages)), None)
 
-    def at(self, frame: int, decoded: Decoded, headers: list[int], sent: list[int]
+    def at(self, frame: int, decoded: DecodedFrames, headers: list[int], sent: list[int]
            ) -> Iterator[tuple[int, str]]:
         """Yield the number and the printed line of each fault that begins or ends at a frame.
 
         `headers` and `sent` are the frames with a header of the page and with a PES packet.
         """
-        found = self.find_active_faults(frame, decoded, headers, sent)
+        active_faults = self.find_active_faults(frame, decoded, headers, sent)
         for number in (72, 73, 77, 78, 79):
-            now, before = found.get(number), self.active.get(number)
+            now, before = active_faults.get(number), self.active.get(number)
             if now == before:
                 continue
             if before is not None:
-                yield number, format_ended(number, f"frame {time_of(self.frame)}")
+                yield number, format_ended(number, f"frame {format_frame(self.frame)}")
             if now is not None:
                 yield number, format_refused(number, self.describe_place(number, frame, now))
-        self.active, self.frame = found, frame
+        self.active, self.frame = active_faults, frame
 
     @staticmethod
     def describe_place(number: int, frame: int, cell: int) -> str:
-        arguments = f"frame {time_of(frame)}"
+        arguments = f"frame {format_frame(frame)}"
         return f"{arguments} row {cell // COLUMNS + 1} column {cell % COLUMNS}" if number == 72 \
             else arguments
 
     def list_final_lines(self) -> Iterator[tuple[int, str]]:
         """Yield a line for the end of each fault that is active after the last frame."""
         for number in sorted(self.active):
-            yield number, format_ended(number, f"frame {time_of(self.frame)}")
+            yield number, format_ended(number, f"frame {format_frame(self.frame)}")

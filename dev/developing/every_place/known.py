@@ -9,7 +9,7 @@ from subtitles.common.program import TOP
 from subtitles.common.times import TICKS
 from subtitles.formats.stl import GSI
 from .calls import KnownCall, make_known_check
-from .one_rule import CLOSING, FIRST, HEADER, PACKET_26, PAGE, make_packet
+from .one_rule import CLOSING, FIRST_FRAME, HEADER, PACKET_26, PAGE, make_packet
 
 
 def read_example(name: str) -> bytes:
@@ -28,10 +28,10 @@ def replace_bytes(data: bytes, changes: dict[int, int]) -> bytes:
 HELLO, SENT = read_example("hello.stl"), read_example("hello.pes")
 SENT_25 = read_example("hello-25.pes")  # the subtitle is also sent at 10:00:01:00
 BLANK = SENT_25[368:]  # the last PES packet: a page without rows
-EVEN_H = {117: 0x12}  # gives the H in the row even parity
+H_WITH_EVEN_PARITY = {117: 0x12}  # gives the H in the row even parity
 ROW = reverse_bits(SENT[96:138])  # row 22
 OTHER_ROW = replace_bytes(ROW, {21: 0x68})  # row 22 with an h instead of the H
-WHOLE = [HEADER, ROW, CLOSING]
+COMPLETE_PAGE = [HEADER, ROW, CLOSING]
 HI = b"\x0d\x0b\x0bHi\x0a\x0a"
 
 
@@ -81,7 +81,7 @@ def format_accepted_line(frames: int, transmissions: int) -> str:
     return f"accepted {frames} frames {transmissions} transmissions"
 
 
-TRUNCATED, DATA_ID, LAST = "refused 30 Truncated pes", "refused 37 DataId pes", \
+TRUNCATED_LINE, DATA_ID, LAST = "refused 30 Truncated pes", "refused 37 DataId pes", \
     format_trusted_line("02:00", "02:00")
 LATE = format_refused_line("74 Late", "00:00")
 EARLY_WRONG = ["refused 72 Content frame 09:59:59:24 row 22 column 16",
@@ -91,7 +91,7 @@ EARLY_WRONG = ["refused 72 Content frame 09:59:59:24 row 22 column 16",
 def make_stl_file(*texts: tuple[int, int, int, bytes]) -> bytes:
     """Return a file with subtitles: TCI and TCO in frames after 10:00:00:00, row, and text."""
     return HELLO[:GSI] + b"".join(
-        make_subtitle_blocks(number, FIRST + tci, FIRST + tco, row, 2, text)
+        make_subtitle_blocks(number, FIRST_FRAME + tci, FIRST_FRAME + tco, row, 2, text)
         for number, (tci, tco, row, text) in enumerate(texts))
 
 
@@ -106,7 +106,7 @@ BLOCKS_OF_EIGHT = ["refused 51 Control block 1 at 0", "refused 50 Character bloc
                    "refused 54 DoubleRow block 5 at 0", "refused 55 Hidden block 6 at 1",
                    "refused 57 Overlap block 7", "refused 51 Control block 7 at 0",
                    "refused 56 OutOfOrder block 8"]
-OPEN_NINTH = replace_bytes(make_subtitle_blocks(8, FIRST, FIRST + 50, 22, 2, HI),
+OPEN_NINTH = replace_bytes(make_subtitle_blocks(8, FIRST_FRAME, FIRST_FRAME + 50, 22, 2, HI),
                            {3: 0})  # a block with several faults
 
 
@@ -122,7 +122,8 @@ TEXTS = [add_blocks_after_eight("no more", b""),
 
 def make_pes_at(*frames: tuple[int, list[bytes]]) -> bytes:
     """Return PES packets from their frames after 10:00:00:00 and their Teletext packets."""
-    return b"".join(make_pes_packet((FIRST + frame) * TICKS, packets) for frame, packets in frames)
+    return b"".join(make_pes_packet((FIRST_FRAME + frame) * TICKS, packets)
+                    for frame, packets in frames)
 
 
 def break_every_rule() -> bytes:
@@ -166,10 +167,10 @@ def make_repeat_pair(name: str, first: list[bytes], later: list[bytes], end: int
 
 
 # The last two PES packets have an invalid data_identifier.
-LAST_TWO_UNREADABLE = replace_bytes(SENT_25, {229: 0x20, 413: 0x20})
+UNREADABLE_END = replace_bytes(SENT_25, {229: 0x20, 413: 0x20})
 GAP = format_lasting_fault("73 Gap", "01:00", "01:24")
 
-KNOWN = [
+KNOWN_CALLS = [
     *TEXTS,
     make_pair("one that can't be read on both sides of one that can",
          replace_bytes(SENT_25, {45: 0x20, 413: 0x20}), f"{DATA_ID} 0",
@@ -184,7 +185,7 @@ KNOWN = [
                       format_refused_line("71 NoFirstHeader", "00:00"),
                       format_wrong_row("00:00")[0], "fault 41 Read pes 1", arguments="--page 100"),
     make_failing_pair("two that can't be read, and a source that fails after them",
-                      LAST_TWO_UNREADABLE, f"{DATA_ID} 1", "fault 41 Read pes 3"),
+                      UNREADABLE_END, f"{DATA_ID} 1", "fault 41 Read pes 3"),
     make_failing_pair("one that can't be read, from a source that fails later",
                       replace_bytes(SENT_25, {413: 0x20}),
                       format_trusted_line("00:00", "00:24"), f"{DATA_ID} 2", "fault 41 Read pes 3"),
@@ -197,7 +198,8 @@ KNOWN = [
               replace_bytes(SENT_25, {184 + 117: 0x12}),
          format_trusted_line("00:00", "00:24"), format_refused_line("68 Parity", "01:00",
                                                                     "packet 1"), LAST),
-    make_pair("an even byte in the first PES packet alone", replace_bytes(SENT, EVEN_H)[:184],
+    make_pair("an even byte in the first PES packet alone",
+              replace_bytes(SENT, H_WITH_EVEN_PARITY)[:184],
               format_refused_line("68 Parity", "00:00", "packet 1"), LATE),
     make_pair("each rule of packets after another", break_every_rule(),
               format_refused_line("63 Early", "00:01"),
@@ -212,13 +214,13 @@ KNOWN = [
     make_pair("all that stands ends at the end", make_unfinished_page()[:552], *ENDS, *ALL_END,
               LATE_END, arguments="--every 25 --complete"),
     make_pair("all that stands ends before a part of a PES packet", make_unfinished_page()[:553],
-              *ENDS, *ALL_END, f"{TRUNCATED} 3", arguments="--every 25 --complete"),
+              *ENDS, *ALL_END, f"{TRUNCATED_LINE} 3", arguments="--every 25 --complete"),
     make_pair("all that stands ends after a PTS of no frame", make_unfinished_page(), *ENDS,
               "refused 61 OffFrame pes 3", *ALL_END, LATE_END, arguments="--every 25 --complete"),
-    make_repeat_pair("whole", WHOLE, WHOLE, 50, 1, format_accepted_line(51, 51)),
+    make_repeat_pair("whole", COMPLETE_PAGE, COMPLETE_PAGE, 50, 1, format_accepted_line(51, 51)),
     make_repeat_pair("twice in a frame", [HEADER, ROW] * 2, [HEADER, ROW] * 2, 50, 1,
                      format_accepted_line(51, 101)),
-    make_repeat_pair("without a header", WHOLE, [CLOSING], 50, 25,
+    make_repeat_pair("without a header", COMPLETE_PAGE, [CLOSING], 50, 25,
                      format_trusted_line("00:00", "00:24"), *GAP, LAST),
     make_repeat_pair("another row before the header", [OTHER_ROW, HEADER, ROW],
                      [OTHER_ROW, HEADER, ROW], 50, 1, format_trusted_line("00:00", "00:00"),

@@ -23,12 +23,13 @@ class Part(NamedTuple):
 
 
 FIELD = TICKS // 2
-EARLIEST, LATEST = -(TICKS // 4), TICKS - TICKS // 4 - 1  # range of a PTS in its frame, in ticks
+# range of a PTS in its frame, in ticks
+MIN_PTS_OFFSET, MAX_PTS_OFFSET = -(TICKS // 4), TICKS - TICKS // 4 - 1
 
 
 def find_frame_start(time: int) -> int:
     """Return the start time of the frame that contains a time."""
-    return (time - EARLIEST) // TICKS * TICKS
+    return (time - MIN_PTS_OFFSET) // TICKS * TICKS
 
 
 def spread_page(rng: Random, part: Part, most: int) -> list[Part]:
@@ -49,32 +50,34 @@ def send_pages(rng: Random, parts: list[Part], most: int) -> list[Part]:
     Parts of a late page are sent before the next page, or between its parts.
     """
     seed = rng.random() if rng.random() < 0.5 else None
-    made: list[Part] = []
+    result: list[Part] = []
     for part in parts:
-        made += spread_page(Random(rng.random() if seed is None else seed), part, most)
+        result += spread_page(Random(rng.random() if seed is None else seed), part, most)
     if rng.random() < 0.5:
-        return sorted(made, key=lambda one: one.time)
-    for at in range(1, len(made)):
-        made[at] = made[at]._replace(time=max(made[at].time, made[at - 1].time))
-    return made
+        return sorted(result, key=lambda item: item.time)
+    for at in range(1, len(result)):
+        result[at] = result[at]._replace(time=max(result[at].time, result[at - 1].time))
+    return result
 
 
 def move_parts(rng: Random, parts: list[Part]) -> None:
     """Move each PTS within its frame, or occasionally to another frame."""
-    first, last = rng.choice([(EARLIEST, LATEST)] * 6 + [(EARLIEST - 1, LATEST + 1), (-2000, 0)])
+    first, last = rng.choice([(MIN_PTS_OFFSET, MAX_PTS_OFFSET)] * 6
+                             + [(MIN_PTS_OFFSET - 1, MAX_PTS_OFFSET + 1), (-2000, 0)])
     for at, part in enumerate(parts):
         ticks = rng.choice([first, last, rng.randrange(first, last + 1)])
         parts[at] = part._replace(time=find_frame_start(part.time) + ticks)
 
 
 # Kinds of faults and additions. Frequent kinds occur several times.
-ACCIDENTS = ["leave out", "leave out", "empty the last", "empty the last", "open", "hold back",
-             "hold back", "send again", "send again", "erase", "erase", "misspell", "misspell"]
+LATE_PAGE_CHANGES = ["leave out", "leave out", "empty the last", "empty the last", "open",
+                     "hold back", "hold back", "send again", "send again", "erase", "erase",
+                     "misspell", "misspell"]
 
 
-def add_accident(rng: Random, parts: list[Part]) -> None:
+def change_late_page(rng: Random, parts: list[Part]) -> None:
     """Add a fault or another PES packet. The parts stay in ascending order of time."""
-    way, count = rng.choice(ACCIDENTS), len(parts)
+    way, count = rng.choice(LATE_PAGE_CHANGES), len(parts)
     if way == "leave out":  # often the first PES packet, occasionally the last
         del parts[rng.choice([0, rng.randrange(max(1, count - 1))])]
     elif way == "empty the last":  # remove packets from the last page
@@ -102,22 +105,22 @@ def add_accident(rng: Random, parts: list[Part]) -> None:
     else:
         misspell_row(rng, parts)
     if way not in ("leave out", "empty the last", "open"):
-        parts.sort(key=lambda one: one.time)
+        parts.sort(key=lambda item: item.time)
 
 
 def misspell_row(rng: Random, parts: list[Part]) -> None:
     """Change a character in a row, or its parity. Often also send the original PES packet."""
     at = rng.randrange(len(parts))
-    rows = [place for place, one in enumerate(parts[at].packets) if one[1] not in (0x15, 0xEA)]
+    rows = [place for place, item in enumerate(parts[at].packets) if item[1] not in (0x15, 0xEA)]
     if not rows:
         return
     place, packets = rng.choice(rows), list(parts[at].packets)
-    one = bytearray(packets[place])
+    item = bytearray(packets[place])
     if rng.random() < 0.4:
-        one[rng.randrange(2, 42)] ^= 0x80
+        item[rng.randrange(2, 42)] ^= 0x80
     else:
-        one[rng.randrange(10, 42)] = add_odd_parity(rng.choice(LETTERS))
-    packets[place] = bytes(one)
+        item[rng.randrange(10, 42)] = add_odd_parity(rng.choice(LETTERS))
+    packets[place] = bytes(item)
     time = parts[at].time
     other = parts[at]._replace(packets=packets)
     way = rng.random()
@@ -146,13 +149,14 @@ def insert_unreadable_packets(rng: Random, packets: list[bytearray], origin: int
     for _ in range(rng.choice([1, 1, 2])):
         at = rng.randrange(len(packets))
         count = rng.choice([1, 1, 1, 2, 3])
-        one = bytearray(packets[at])
+        item = bytearray(packets[at])
         if rng.random() < 0.2:
-            ticks = rng.choice([EARLIEST - 1, -TICKS, TICKS * FRAMES_OF_A_DAY + EARLIEST])
-            one[9:14] = encode_pts((origin + ticks) % CLOCK)
+            ticks = rng.choice([MIN_PTS_OFFSET - 1, -TICKS,
+                                TICKS * FRAMES_OF_A_DAY + MIN_PTS_OFFSET])
+            item[9:14] = encode_pts((origin + ticks) % CLOCK)
         else:
-            damage_packet(rng, one)
-        packets[at:at + (rng.random() < 0.3)] = [bytearray(one) for _ in range(count)]
+            damage_packet(rng, item)
+        packets[at:at + (rng.random() < 0.3)] = [bytearray(item) for _ in range(count)]
 
 
 def delay_transmission(rng: Random, data: bytes, within: int, origin: int) -> bytes:
@@ -164,7 +168,7 @@ def delay_transmission(rng: Random, data: bytes, within: int, origin: int) -> by
     parts = send_pages(rng, parts, max(0, within + rng.choice([0, 0, 0, 0, -1, 1])))
     for _ in range(rng.choice([0, 0, 0, 0, 1, 1, 2, 3])):
         if parts:
-            add_accident(rng, parts)
+            change_late_page(rng, parts)
     if rng.random() < 0.5:
         move_parts(rng, parts)
     packets = join_parts(parts, first)

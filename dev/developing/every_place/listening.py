@@ -4,7 +4,7 @@ from __future__ import annotations
 from typing import Iterator, NamedTuple
 
 from developing.pes import decode_address, decode_pts
-from subtitles.common.times import frame_of, time_of
+from subtitles.common.times import format_frame, parse_frame
 from subtitles.formats.teletext import is_odd
 from .definitions import find_failure_line, select_data
 from .on_air import ERASE, SERIAL
@@ -71,11 +71,11 @@ class ListenOptions(NamedTuple):
 def parse_listen_options(arguments: list[str]) -> ListenOptions:
     """Parse the options of `listen` that other commands do not have."""
     given = parse_arguments(arguments)
-    last = frame_of(given["--at"])
+    last = parse_frame(given["--at"])
     assert last is not None
-    flips = [[int(number) for number in one.split(":")]
-             for one in given.get("--flip", "").split(",") if one]
-    lost = [int(one) for one in given.get("--lose", "").split(",") if one]
+    flips = [[int(number) for number in item.split(":")]
+             for item in given.get("--flip", "").split(",") if item]
+    lost = [int(item) for item in given.get("--lose", "").split(",") if item]
     return ListenOptions(last, int(given.get("--skip", "0")), flips, lost,
                          given.get("--receiver", "blank"), "--complete" in arguments)
 
@@ -85,7 +85,7 @@ class Receiver:
 
     def __init__(self, options: Options, kind: str) -> None:
         self.page, self.kind = options.page, kind
-        self.is_heard = self.is_open = False
+        self.has_header = self.is_open = False
         self.decoded = [bytes([NOT_RECEIVED]) * COLUMNS] * ROWS
         self.shown: list[bytes] | None = None
 
@@ -93,7 +93,7 @@ class Receiver:
         """Process a Teletext packet as EN 300 706 requires."""
         address, header = decode_address(packet), decode_header(packet)
         if header and header[0] == self.page:
-            self.is_heard = self.is_open = True
+            self.has_header = self.is_open = True
             if ERASE in header[1] or self.kind == "anew":
                 self.decoded = [bytes([SPACE]) * COLUMNS] * ROWS
         elif header and (header[0][0] == self.page[0] or SERIAL in header[1]):
@@ -114,8 +114,8 @@ class Receiver:
 
     def list_lines(self, is_complete: bool) -> Iterator[str]:
         """Yield the printed lines about the state of this receiver."""
-        yield "heard yes" if self.is_heard else "heard no"
-        if not self.is_heard:
+        yield "heard yes" if self.has_header else "heard no"
+        if not self.has_header:
             return
         yield "open yes" if self.is_open else "open no"
         page = self.shown if is_complete else self.decoded
@@ -152,7 +152,7 @@ def list_receiver_lines(data: bytes, options: Options, arguments: list[str],
         for packet in packets:
             if number >= heard.skip and number in heard.lost:
                 if (decode_address(packet) or (0, 0))[1] == 0:
-                    return [f"refused 76 LostHeader frame {time_of(frame)} packet {place}"]
+                    return [f"refused 76 LostHeader frame {format_frame(frame)} packet {place}"]
             elif number >= heard.skip:
                 receiver.receive(heard.flip_bits(number, packet))
             number, place = number + 1, place + 1

@@ -10,11 +10,11 @@ from __future__ import annotations
 BITS: dict[str, set[int]] = {
     "english": set(), "german": {14}, "swedish": {13}, "italian": {13, 14}, "french": {12},
     "spanish": {12, 14}, "czech": {12, 13}}
-ALL_BITS = {12, 13, 14}
+ALL_OPTION_BITS = {12, 13, 14}
 
 # Bytes with the same meaning in each sub-set: spacing attributes, digits, letters, symbols.
-SAME_IN_ALL = (*range(0x01, 0x0E), 0x1C, 0x1D, *range(0x20, 0x23), *range(0x25, 0x40),
-               *range(0x41, 0x5B), *range(0x61, 0x7B))
+COMMON_CODES = (*range(0x01, 0x0E), 0x1C, 0x1D, *range(0x20, 0x23), *range(0x25, 0x40),
+                *range(0x41, 0x5B), *range(0x61, 0x7B))
 
 # For each cell that differs between sub-sets, the bytes in a text that give it: a byte, several
 # alternatives, or a pair. Each sub-set has 13 such cells; some English and German cells have no
@@ -38,13 +38,13 @@ CELL_TEXTS = """
 
 def map_cells_by_option() -> dict[str, dict[bytes, int]]:
     """Return, for each sub-set, a dictionary that maps the bytes of a character to its cell."""
-    found = {option: {bytes([code]): code for code in SAME_IN_ALL} for option in BITS}
+    result = {option: {bytes([code]): code for code in COMMON_CODES} for option in BITS}
     for line in CELL_TEXTS.split("\n")[1:-1]:
         cell, *columns = line.split()
         for option, arguments in zip(BITS, columns):
             for word in arguments.split(",") if arguments != "-" else []:
-                found[option][bytes.fromhex(word.replace(".", ""))] = int(cell, 16)
-    return found
+                result[option][bytes.fromhex(word.replace(".", ""))] = int(cell, 16)
+    return result
 
 
 CELLS = map_cells_by_option()

@@ -4,13 +4,13 @@ from __future__ import annotations
 from typing import NamedTuple, Sequence
 
 from subtitles.formats.teletext import CODE_WORDS, Page, is_odd
-from .national import ALL_BITS, BITS
+from .national import ALL_OPTION_BITS, BITS
 from .reading import Header, decode_subcode
 from .rows import BLANK, COLUMNS, SPACE
 from .arguments import Options
 
 ERASE, SERIAL = 4, 11
-WITHOUT_PARITY = bytes(byte & 0x7F for byte in range(256))
+PARITY_REMOVED = bytes(byte & 0x7F for byte in range(256))
 
 
 class Packet(NamedTuple):
@@ -33,10 +33,10 @@ def find_page_span(packets: Sequence[Packet], page: Page) -> tuple[Sequence[Pack
 
 
 def find_last_header(packets: Sequence[Packet], page: Page,
-                     has_to_erase: bool = False) -> int | None:
+                     must_erase: bool = False) -> int | None:
     """Return the index of the last header of the page, or of the last header that erases it."""
     return next((at for at in reversed(range(len(packets))) if get_page(packets[at]) == page
-                 and (erases_page(packets[at]) or not has_to_erase)), None)
+                 and (erases_page(packets[at]) or not must_erase)), None)
 
 
 def ends_open_page(packet: Packet, page: Page) -> bool:
@@ -89,10 +89,10 @@ def read_rows(span: Sequence[Packet], page: Page) -> dict[int, bytes]:
 
 
 def get_codes(packet: Packet) -> bytes:
-    return packet.data[2:].translate(WITHOUT_PARITY)
+    return packet.data[2:].translate(PARITY_REMOVED)
 
 
-class Decoded(NamedTuple):
+class DecodedFrames(NamedTuple):
     """A decoded page: 960 codes, whether the page is open, and the rows since its last header."""
 
     page: bytes
@@ -110,12 +110,12 @@ class Decoded(NamedTuple):
         return None
 
 
-def decode(packets: Sequence[Packet], options: Options) -> Decoded:
+def decode(packets: Sequence[Packet], options: Options) -> DecodedFrames:
     """Return the page that a receiver decodes from the packets, starting with a blank page."""
     span, is_open = find_page_span(packets, options.page)
     rows = read_rows(find_kept_span(packets, options.page, options.may_keep), options.page)
-    return Decoded(b"".join(rows.get(row, BLANK[:COLUMNS]) for row in range(1, 25)), is_open,
-                   {*read_rows(span, options.page)})
+    return DecodedFrames(b"".join(rows.get(row, BLANK[:COLUMNS]) for row in range(1, 25)), is_open,
+                         {*read_rows(span, options.page)})
 
 
 def is_exact(codes: bytes) -> bool:
@@ -124,7 +124,7 @@ def is_exact(codes: bytes) -> bool:
 
 def is_plain_subtitle_header(control: set[int], option: str) -> bool:
     """Return whether C6 and C7 are set, C5 and C10 are clear, and C12 to C14 are correct."""
-    return control >= {6, 7} and not control & {5, 10} and control & ALL_BITS == BITS[option]
+    return control >= {6, 7} and not control & {5, 10} and control & ALL_OPTION_BITS == BITS[option]
 
 
 def is_repeat(packet: Packet, before: Sequence[Packet], is_open: bool, options: Options) -> bool:
@@ -132,7 +132,7 @@ def is_repeat(packet: Packet, before: Sequence[Packet], is_open: bool, options: 
 
     Its subcode must be that of the previous header. With --complete the page must also be closed.
     """
-    last = next((one for one in reversed(before) if get_page(one) == options.page), None)
+    last = next((item for item in reversed(before) if get_page(item) == options.page), None)
     return (options.may_keep and not (options.is_complete and is_open)
             and (last is None or decode_subcode(last.data) == decode_subcode(packet.data)))
 
@@ -142,10 +142,10 @@ def find_packet_faults(packet: Packet, before: Sequence[Packet], options: Option
     address, header, page = packet.address, packet.header, options.page
     _, is_open = find_page_span(before, page)
     is_stored = is_open and is_row(packet, page)
-    headers = (one.header for one in before if one.header)
+    headers = (item.header for item in before if item.header)
     rows = read_rows(find_kept_span(before, page, options.may_keep), page)
     known = rows.get(address[1]) if address and is_stored else None
-    broken: dict[int, object] = {
+    broken_faults: dict[int, object] = {
         64: not is_exact(packet.data[:2]),
         65: address and address[1] == 0 and not is_exact(packet.data[2:10]),
         66: header and (SERIAL in header[1]) != (SERIAL in next(headers, header)[1]),
@@ -156,4 +156,4 @@ def find_packet_faults(packet: Packet, before: Sequence[Packet], options: Option
         69: known is not None and known != get_codes(packet),
         70: is_open and address and address[0] == page[0] and 25 <= address[1] <= 28,
     }
-    return [number for number, is_so in broken.items() if is_so]
+    return [number for number, is_so in broken_faults.items() if is_so]

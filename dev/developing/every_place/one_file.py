@@ -14,10 +14,12 @@ from subtitles.common.times import TICKS
 from subtitles.formats.stl import GSI, TEXT, TTI, USER_DATA
 from .calls import KnownCall, make_known_check
 from .known import replace_bytes, add_count_line
-from .one_rule import CLOSING, FIRST, HEADER
+from .one_rule import CLOSING, FIRST_FRAME, HEADER
 from .reading import FIRST_BLOCK_FAULTS
 
-EBN, CS, TCI, TCO, VP, JC, CF = 3, 4, 5, 9, 13, 14, 15  # offsets of fields in a TTI block
+# offsets of fields in a TTI block
+EXTENSION_NUMBER, CUMULATIVE_STATUS, TCI, TCO, VERTICAL_POSITION = 3, 4, 5, 9, 13
+JUSTIFICATION, COMMENT_FLAG = 14, 15
 
 
 def expect_refused(fault: str) -> list[str]:
@@ -43,24 +45,31 @@ def make_file() -> bytes:
         make_tti_block(0x106, 50, 124, 1, 0, b"Hi", group=7)])
 
 
-WHOLE = make_file()
-TWO, LAST_OF_TWO = GSI + TTI, GSI + 3 * TTI  # offsets of the first subtitle's blocks
+COMPLETE_FILE = make_file()
+SECOND_BLOCK, LAST_BLOCK_OF_TWO = GSI + TTI, GSI + 3 * TTI  # offsets of the first subtitle's blocks
 
 # Changed bytes and the reported fault: limits that the tests of the crates do not cover, and blocks
 # with two faults. The program ignores CS, times, VP and JC of further blocks.
 BLOCK_CASES: list[tuple[str, dict[int, int]]] = [
     ("60 Empty", {11: ord("2")}), ("13 Display block 0", {11: ord(" ")}),
     ("11 Format block 0", {3: ord(" ")}), ("11 Format block 0", {10: ord("2")}),
-    ("17 CommentFlag block 2", {TWO + CF: 0xFF}), ("20 Time block 2", {TWO + TCI + 1: 60}),
-    ("20 Time block 2", {TWO + TCI + 2: 60}), ("22 Sequence block 4", {LAST_OF_TWO: 8}),
-    ("22 Sequence block 4", {LAST_OF_TWO + 2: 0}),
-    ("60 Empty", {LAST_OF_TWO + field: 99 for field in (CS, *range(TCI, VP), VP, JC)}),
-    ("15 Extension block 2", {TWO + EBN: 0xF0, TWO + CF: 2}),
-    ("17 CommentFlag block 2", {TWO + CF: 2, TWO + CS: 1}),
-    ("16 Cumulative block 2", {TWO + CS: 1, TWO + JC: 4}),
-    ("18 Justify block 2", {TWO + JC: 4, TWO + VP: 0}),
-    ("19 Row block 2", {TWO + VP: 0, TWO + TCI + 3: 25}),
-    ("20 Time block 2", {TWO + TCI + 3: 25, TWO + TCO + 2: 1}),
+    ("17 CommentFlag block 2", {SECOND_BLOCK + COMMENT_FLAG: 0xFF}),
+    ("20 Time block 2", {SECOND_BLOCK + TCI + 1: 60}),
+    ("20 Time block 2", {SECOND_BLOCK + TCI + 2: 60}),
+    ("22 Sequence block 4", {LAST_BLOCK_OF_TWO: 8}),
+    ("22 Sequence block 4", {LAST_BLOCK_OF_TWO + 2: 0}),
+    ("60 Empty",
+     {LAST_BLOCK_OF_TWO + field: 99 for field in (CUMULATIVE_STATUS, *range(TCI, VERTICAL_POSITION),
+                                                  VERTICAL_POSITION, JUSTIFICATION)}),
+    ("15 Extension block 2",
+     {SECOND_BLOCK + EXTENSION_NUMBER: 0xF0, SECOND_BLOCK + COMMENT_FLAG: 2}),
+    ("17 CommentFlag block 2",
+     {SECOND_BLOCK + COMMENT_FLAG: 2, SECOND_BLOCK + CUMULATIVE_STATUS: 1}),
+    ("16 Cumulative block 2",
+     {SECOND_BLOCK + CUMULATIVE_STATUS: 1, SECOND_BLOCK + JUSTIFICATION: 4}),
+    ("18 Justify block 2", {SECOND_BLOCK + JUSTIFICATION: 4, SECOND_BLOCK + VERTICAL_POSITION: 0}),
+    ("19 Row block 2", {SECOND_BLOCK + VERTICAL_POSITION: 0, SECOND_BLOCK + TCI + 3: 25}),
+    ("20 Time block 2", {SECOND_BLOCK + TCI + 3: 25, SECOND_BLOCK + TCO + 2: 1}),
 ]
 
 
@@ -83,7 +92,8 @@ def make_name(text: bytes, what: str) -> str:
 
 def make_text_file(text: bytes, row: int, justify: int) -> bytes:
     """Return a subtitle file with one subtitle, which lasts one frame."""
-    return make_gsi_block(b"One text", 1, 1) + make_subtitle_blocks(1, FIRST, FIRST + 1, row,
+    return make_gsi_block(b"One text", 1, 1) + make_subtitle_blocks(1, FIRST_FRAME,
+                                                                    FIRST_FRAME + 1, row,
                                                                     justify, text)
 
 
@@ -94,7 +104,7 @@ def make_row_packet(line: Line) -> bytes:
 
 def make_transmission(lines: Iterable[Line]) -> bytes:
     """Return a transmission with exactly these lines in one frame, and a blank page in the next."""
-    return b"".join(make_pes_packet((FIRST + frame) * TICKS, [HEADER, *rows, CLOSING])
+    return b"".join(make_pes_packet((FIRST_FRAME + frame) * TICKS, [HEADER, *rows, CLOSING])
                     for frame, rows in enumerate((map(make_row_packet, lines), [])))
 
 
@@ -112,7 +122,7 @@ def expect_refused_text(text: bytes, row: int, fault: str, at: int) -> KnownCall
 
 
 FULL = b"A" * 36  # longest text that fits a row with its box
-DRAWN = [
+DRAWN_CASES = [
     expect_drawn(b"\x80A\x81", 5, 1, Line(5, 0, make_box(b"A"))),
     expect_drawn(FULL, 5, 2, Line(5, 0, make_box(FULL))),
     expect_refused_text(FULL + b"A", 5, "52 RowTooLong", 0),
@@ -122,6 +132,7 @@ DRAWN = [
     expect_refused_text(b"\x0dA\x8a\x0e", 23, "51 Control", 3),  # bytes are checked first
 ]
 
-ONE_FILE = [*(make_known_check(f"{fault}: {bytes_at}", replace_bytes(WHOLE, bytes_at), b"", "",
+ONE_FILE = [*(make_known_check(f"{fault}: {changed_bytes}",
+                               replace_bytes(COMPLETE_FILE, changed_bytes), b"", "",
                                expect_refused(fault))
-              for fault, bytes_at in BLOCK_CASES), *DRAWN]
+              for fault, changed_bytes in BLOCK_CASES), *DRAWN_CASES]

@@ -13,8 +13,8 @@ from developing.pes import make_pes_packet
 from developing.stl import make_gsi_block, make_subtitle_blocks
 from subtitles.common.times import CLOCK, FRAMES_OF_A_DAY, TICKS
 
-FIRST = 900_000  # frame number of 10:00:00:00
-TICKS_OFF = {"+": TICKS // 2, "-": -TICKS // 4}
+FIRST_FRAME = 900_000  # frame number of 10:00:00:00
+PTS_OFFSETS = {"+": TICKS // 2, "-": -TICKS // 4}
 
 
 class OneRule(NamedTuple):
@@ -50,7 +50,7 @@ SERIAL_CLOSING = make_packet("15 15 EA EA EA 2F EA 5E 15 02")  # sets C11
 NO_HEADER = make_packet("15 15 D3 D0 15 D0 15 D0 02 15")  # undecodable page units
 PACKET_26 = make_packet("15 B6")
 ROW_22 = bytes.fromhex("15 9B") + b"\x20" * 17 + bytes.fromhex("0B 0B C8 E9 8A 8A") + b"\x20" * 17
-MARK = make_row_1(0xA1)  # an exclamation mark with odd parity
+EXCLAMATION_MARK = make_row_1(0xA1)  # an exclamation mark with odd parity
 PAGE = [HEADER, CLOSING]
 
 
@@ -59,23 +59,23 @@ def parse_transmission(packets: str, meaning: dict[str, bytes]) -> list[bytes]:
 
     The module's docstring describes the format. `meaning` maps the names in the list to packets.
     """
-    made = []
+    result = []
     for frame, *names in map(str.split, packets.split(",")):
-        ticks = (FIRST + int(frame.rstrip("+-"))) * TICKS + TICKS_OFF.get(frame[-1], 0)
-        made.append(make_pes_packet(ticks, [meaning[name] for name in names]))
-    return made
+        ticks = (FIRST_FRAME + int(frame.rstrip("+-"))) * TICKS + PTS_OFFSETS.get(frame[-1], 0)
+        result.append(make_pes_packet(ticks, [meaning[name] for name in names]))
+    return result
 
 
 def make_programme(text: bytes | None = None, begin: int = 0, end: int = 1) -> bytes:
     """Return a file without subtitles, or with one on row 22 from frame `begin` to `end`."""
     if text is None:
         return make_gsi_block(b"One rule", 0, 0)
-    return make_gsi_block(b"One rule", 1, 1) + make_subtitle_blocks(1, FIRST + begin, FIRST + end,
-                                                                    22, 2, text)
+    return make_gsi_block(b"One rule", 1, 1) + make_subtitle_blocks(1, FIRST_FRAME + begin,
+                                                                    FIRST_FRAME + end, 22, 2, text)
 
 
 NONE, BLANK, HI = make_programme(), make_programme(b""), make_programme(b"Hi")
-HI_OF_9, HI_LATER = make_programme(b"Hi", 0, 9), make_programme(b"Hi", 2, 9)
+HI_PAGE_9, HI_TWO_LATER = make_programme(b"Hi", 0, 9), make_programme(b"Hi", 2, 9)
 
 
 def make_case(name: str, number: int, packets: str, tested_packet: bytes = b"",
@@ -86,7 +86,7 @@ def make_case(name: str, number: int, packets: str, tested_packet: bytes = b"",
 
 def make_pair_at_day_bound(name: str, *ticks: int) -> OneRule:
     """Return a pair with a page without rows at these ticks, one of which is outside the day."""
-    pes = b"".join(make_pes_packet(one % CLOCK, PAGE) for one in ticks)
+    pes = b"".join(make_pes_packet(tick % CLOCK, PAGE) for tick in ticks)
     return OneRule(name, 61, NONE, pes, "--every 1")
 
 
@@ -110,11 +110,11 @@ PLAIN = [
     make_case("C14 is clear where German is asked for", 67, "0 h c",
               arguments="--every 1 --option german"),
     make_case("a row with a space of even parity", 68, "0 h * c", make_row_1(0xA0)),
-    make_case("a second packet of a row that differs", 69, "0 h s * c", MARK),
+    make_case("a second packet of a row that differs", 69, "0 h s * c", EXCLAMATION_MARK),
     make_case("a packet X/26 while the page is open", 70, "0 h * c", PACKET_26),
     make_case("a frame without a header of the page", 73, "0 h c, 1 c"),
     make_case("a first frame without one", 71, "0 c, 1 h c", arguments="--every 2"),
-    make_case("a letter that is not due", 72, "0 h * c", MARK),
+    make_case("a letter that is not due", 72, "0 h * c", EXCLAMATION_MARK),
     make_case("no row where one is due", 72, "0 h c, 1 h c", stl=HI),
     make_case("a row that stands for a frame too long", 72, "0 h r c, 2 h c", arguments="--every 2",
               stl=HI),
@@ -135,17 +135,18 @@ LATE = [
     make_case("another mode in the second PES packet of a frame", 66, "0 h, 0 *", SERIAL_CLOSING),
     make_case("an even byte in the second PES packet of a frame", 68, "0 h, 0 * c",
               make_row_1(0xA0)),
-    make_case("another row in the second PES packet of a frame", 69, "0 h s, 0 * c", MARK),
+    make_case("another row in the second PES packet of a frame", 69, "0 h s, 0 * c",
+              EXCLAMATION_MARK),
     make_case("a packet X/26 in the second PES packet of a frame", 70, "0 h, 0 * c", PACKET_26),
     make_case("two PES packets of the first frame without a header", 71, "0 c, 0 c, 1 h c",
               arguments="--every 2"),
     make_case("a frame of two PES packets without a header", 73, "0 h c, 1 c, 1 c"),
     make_case("a row three frames after its header", 72, "0 h, 3 r c, 9 h c", arguments="",
-              stl=HI_OF_9),
+              stl=HI_PAGE_9),
     make_case("a page that is not whole before its TCO", 72, "0 h c, 1 h r c, 2 h c", arguments="",
               stl=HI),
-    make_case("a letter that was never due", 72, "0 h * c, 1 h c", MARK, arguments=""),
-    make_case("a page a frame early", 72, "0 h c, 1 h r c, 9 h c", arguments="", stl=HI_LATER),
+    make_case("a letter that was never due", 72, "0 h * c, 1 h c", EXCLAMATION_MARK, arguments=""),
+    make_case("a page a frame early", 72, "0 h c, 1 h r c, 9 h c", arguments="", stl=HI_TWO_LATER),
     make_case("a page of three frames before", 72, "0 h r c, 1 h c, 3 h r c, 4 h c", arguments="",
               stl=HI),
     make_case("a page that is open for three frames", 77, "0 h, 3 c", arguments="--complete"),

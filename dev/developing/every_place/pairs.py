@@ -18,7 +18,7 @@ from .broadcasters import (
 from .broken import LETTERS, break_transmission
 from .due import judge_subtitles
 from .late import delay_transmission
-from .national import BITS, CELLS, SAME_IN_ALL
+from .national import BITS, CELLS, COMMON_CODES
 from .arguments import UsageFault, parse_options
 
 Schedule = Callable[[bytes, list[str]], bytes]  # returns the transmission for a file
@@ -54,7 +54,7 @@ def add_letters(rng: Random, text: bytes, option: str) -> bytes:
     if rng.random() < 0.1:
         option = rng.choice(OPTIONS)
     own = [letter for letter, cell in CELLS[option].items()
-           if cell not in SAME_IN_ALL] * 4 + [b"\xc2"]
+           if cell not in COMMON_CODES] * 4 + [b"\xc2"]
     for _ in range(rng.choice([1, 2, 5])):
         letter = bytes([rng.choice(LETTERS)])
         text = text.replace(letter, rng.choice(own), rng.choice([1, 2]))
@@ -79,48 +79,48 @@ def make_random_text(rng: Random, row: int, option: str) -> bytes:
 def make_random_subtitles(rng: Random, option: str) -> list[Subtitle]:
     """Return subtitles in ascending order of time. Some of them are adjacent."""
     frame = rng.choice([0, 25, 900_000, rng.randrange(FRAMES_OF_A_DAY - 2000)])
-    made = []
+    result = []
     for _ in range(rng.choice([1, 1, 2, 3, 4, 6])):
         frame += rng.choice([0, 0, 1, 2, rng.randrange(80)])
         end = frame + rng.choice([1, 2, 25, 25, *(rng.randrange(1, 120) for _ in range(3))])
         row = rng.randrange(1, 23)
         text = make_random_text(rng, row, option)
-        made.append(Subtitle(frame, end, row, rng.randrange(4), text))
+        result.append(Subtitle(frame, end, row, rng.randrange(4), text))
         frame = end
-    return made
+    return result
 
 
 def make_stl_file(rng: Random, subtitles: list[Subtitle]) -> bytes:
     """Return a subtitle file, sometimes with comments or user data between its blocks."""
-    made = make_gsi_block(b"At random", 0, len(subtitles))
-    for number, one in enumerate(subtitles):
-        made += make_subtitle_blocks(number, *one)
+    gsi_block = make_gsi_block(b"At random", 0, len(subtitles))
+    for number, subtitle in enumerate(subtitles):
+        gsi_block += make_subtitle_blocks(number, *subtitle)
         if rng.random() < 0.1:
-            skipped = bytearray(made[-TTI:])
+            skipped = bytearray(gsi_block[-TTI:])
             at, value = rng.choice([(15, 1), (3, USER_DATA)])
             skipped[at] = value
-            made += skipped
-    return made
+            gsi_block += skipped
+    return gsi_block
 
 
 def change_subtitle(rng: Random, subtitles: list[Subtitle], option: str) -> list[Subtitle]:
     """Change a subtitle, so that it does not match the original transmission."""
     subtitles = list(subtitles)
     at = rng.randrange(len(subtitles))
-    one = subtitles[at]
+    item = subtitles[at]
     way = rng.randrange(5)
     if way == 0:
-        one = one._replace(tci=min(max(0, one.tci + rng.randrange(-30, 30)), one.tco - 1))
+        item = item._replace(tci=min(max(0, item.tci + rng.randrange(-30, 30)), item.tco - 1))
     elif way == 1:
-        one = one._replace(tco=one.tci + rng.randrange(1, 90))
+        item = item._replace(tco=item.tci + rng.randrange(1, 90))
     elif way == 2:
-        one = one._replace(text=make_random_text(rng, one.row, option))
+        item = item._replace(text=make_random_text(rng, item.row, option))
     elif way == 3:
-        one = one._replace(justify=rng.randrange(4))
+        item = item._replace(justify=rng.randrange(4))
     else:
         del subtitles[at]
         return subtitles
-    subtitles[at] = one
+    subtitles[at] = item
     return subtitles
 
 
@@ -159,19 +159,19 @@ def corrupt_stl_file(rng: Random, whole: bytes) -> bytes:
         blocks = (len(data) - GSI) // TTI
         if blocks < 1:
             break
-        one, other = (GSI + TTI * rng.randrange(blocks) for _ in range(2))
+        item, other = (GSI + TTI * rng.randrange(blocks) for _ in range(2))
         way = rng.random()
         if way < 0.75:
-            corrupt_block(rng, data, one)
+            corrupt_block(rng, data, item)
         elif way < 0.8:
             data[rng.choice([3, 6, 11, 12, rng.randrange(GSI)])] = rng.randrange(256)
         elif way < 0.88:
-            data[one:one + TTI], data[other:other + TTI] = \
-                data[other:other + TTI], data[one:one + TTI]
+            data[item:item + TTI], data[other:other + TTI] = \
+                data[other:other + TTI], data[item:item + TTI]
         elif way < 0.91:
-            data[one:one + TTI] = repeat_block(rng, data[one:one + TTI])
+            data[item:item + TTI] = repeat_block(rng, data[item:item + TTI])
         elif way < 0.95:
-            data[one + 16:one + TTI] = rng.choice([b"xx", b"x\x8a"]) * 56
+            data[item + 16:item + TTI] = rng.choice([b"xx", b"x\x8a"]) * 56
         else:
             del data[rng.randrange(len(data)):]
     return bytes(data)
@@ -219,18 +219,18 @@ def add_refused_subtitles(broadcaster_rng: Random, stl: bytes, arguments: list[s
     if not is_sure:
         return spoil_subtitles(broadcaster_rng, stl) if broadcaster_rng.random() < 0.15 else stl
     for _ in range(MAX_TRIES):
-        broken = spoil_subtitles(broadcaster_rng, stl)
+        spoiled_stl = spoil_subtitles(broadcaster_rng, stl)
         with contextlib.suppress(UsageFault):
-            if judge_subtitles(broken, parse_options(arguments)).lines:
-                return broken
+            if judge_subtitles(spoiled_stl, parse_options(arguments)).lines:
+                return spoiled_stl
     return stl
 
 
 def make_random_pair(seed: int, schedule: Schedule, is_refused: bool = False,
-                     keeps_pages: bool = False) -> Pair:
+                     has_keeping_headers: bool = False) -> Pair:
     """Return a random pair of files, whose transmission `schedule` makes.
 
-    `is_refused` asks for refused subtitles, `keeps_pages` for headers that keep the page.
+    `is_refused` asks for refused subtitles, `has_keeping_headers` for headers that keep the page.
     """
     rng, broadcaster_rng = Random(seed), Random(f"house {seed}")
     arguments = make_random_options(rng)
@@ -247,7 +247,7 @@ def make_random_pair(seed: int, schedule: Schedule, is_refused: bool = False,
     if not pes:  # these options select no subtitles
         draw_page = part = []
         pes = schedule(stl, [*list_arguments(arguments), *flags, *mode])
-    if keeps := keeps_pages or broadcaster_rng.random() < 0.2:
+    if is_page_kept := has_keeping_headers or broadcaster_rng.random() < 0.2:
         pes = keep_pages(broadcaster_rng, pes)
         flags += ["--keeping"] if broadcaster_rng.random() < 0.9 else []
     is_late = rng.random() < (0.9 if within else 0.1)
@@ -256,7 +256,7 @@ def make_random_pair(seed: int, schedule: Schedule, is_refused: bool = False,
         if rng.random() < 0.7:
             arguments["--every"] = str(int(arguments["--every"]) + within)
     # Pairs with late pages, kept pages or refused subtitles often get no other fault.
-    is_broken = not (is_late or is_refused or keeps and broadcaster_rng.random() < 0.6) \
+    is_broken = not (is_late or is_refused or is_page_kept and broadcaster_rng.random() < 0.6) \
         or rng.random() < 0.4
     if is_broken and rng.random() < 0.3:
         stl = make_stl_file(rng, change_subtitle(rng, subtitles, arguments["--option"]))
@@ -268,8 +268,8 @@ def make_random_pair(seed: int, schedule: Schedule, is_refused: bool = False,
         pes = break_transmission(rng, pes)
         arguments = change_options(rng, arguments)
     pace = make_pace_options(broadcaster_rng) if broadcaster_rng.random() < 0.12 else []
-    asked = [*list_arguments(arguments), *make_within_option(rng, within), *draw_page, *part, *pace,
-             *flags]
+    requested_options = [*list_arguments(arguments), *make_within_option(rng, within), *draw_page,
+                         *part, *pace, *flags]
     if rng.random() < 0.4:
-        asked.append("--complete")
-    return Pair(stl, pes, asked, rng.random() < 0.25)
+        requested_options.append("--complete")
+    return Pair(stl, pes, requested_options, rng.random() < 0.25)

@@ -5,7 +5,7 @@ import contextlib
 import shlex
 from random import Random
 
-from subtitles.common.times import FRAMES_OF_A_DAY, time_of
+from subtitles.common.times import FRAMES_OF_A_DAY, format_frame
 from .calls import ALL, Call
 from .pairs import (
     Pair, Schedule, list_arguments, make_random_options, make_random_pair, make_random_subtitles,
@@ -41,8 +41,8 @@ def make_range_options(rng: Random, count: int) -> list[str]:
 
 def make_recording_options(rng: Random, pid: int, size: int, count: int) -> list[str]:
     """Return the options for a recording, occasionally with a wrong PID or packet size."""
-    asked = pid ^ 1 if rng.random() < 0.03 else pid
-    arguments = ["--pid", format_pid(rng, asked)]
+    requested_pid = pid ^ 1 if rng.random() < 0.03 else pid
+    arguments = ["--pid", format_pid(rng, requested_pid)]
     if size != SIZES[0] or rng.random() < 0.2:
         wrong = rng.choice(["188", "204", "189", "", "0188"])
         arguments += ["--packet-size", wrong if rng.random() < 0.03 else str(size)]
@@ -61,10 +61,10 @@ def make_listen_options(rng: Random, arguments: list[str], packets: list[bytes])
     frames = [0]
     with contextlib.suppress(UsageFault):
         options = parse_options(arguments)
-        sendings = (read_packet(one, options.origin, options.within) for one in packets)
-        frames += [one[0] for one in sendings if not isinstance(one, int)]
+        sendings = (read_packet(item, options.origin, options.within) for item in packets)
+        frames += [item[0] for item in sendings if not isinstance(item, int)]
     frame = rng.choice(frames) + rng.choice([0, 0, 1, -1, 30])
-    arguments = ["--at", time_of(min(max(0, frame), FRAMES_OF_A_DAY - 1))]
+    arguments = ["--at", format_frame(min(max(0, frame), FRAMES_OF_A_DAY - 1))]
     count = 3 * len(packets)
     if rng.random() < 0.3:
         arguments += ["--skip", str(rng.randrange(count + 2))]
@@ -85,15 +85,18 @@ def make_accepted_pair(rng: Random, schedule: Schedule) -> Pair:
     return Pair(stl, schedule(stl, list_arguments(arguments)), list_arguments(arguments))
 
 
-def make_random_calls(seed: int, schedule: Schedule, keeps_pages: bool = False) -> list[Call]:
+def make_random_calls(seed: int, schedule: Schedule,
+                      has_keeping_headers: bool = False) -> list[Call]:
     """Return random calls on a stream with a random transmission that `schedule` makes."""
     rng = Random(f"recording {seed}")
-    pair = make_accepted_pair(rng, schedule) if rng.random() < 0.6 and not keeps_pages else \
-        make_random_pair(seed, schedule, False, keeps_pages)
+    pair = make_accepted_pair(rng,
+                              schedule) if rng.random() < 0.6 and not has_keeping_headers else \
+        make_random_pair(seed, schedule, False, has_keeping_headers)
     packets = split_packets(pair.pes)[0][:MAX_PACKETS]
     pid, size = rng.choice([0x101, 0x1001, rng.randrange(0x1FFF)]), rng.choice(SIZES)
     stream = make_random_stream(rng, packets, pid, size)
-    name, of_stream = f"recording {seed}", make_recording_options(rng, pid, size, len(packets))
+    name, recording_options = f"recording {seed}", make_recording_options(rng, pid, size,
+                                                                          len(packets))
     given = dict(zip(pair.options[::2], pair.options[1::2]))
     shared = [word for key in LISTEN_OPTIONS if key in given for word in (key, given[key])]
     pieces = make_range_options(rng, len(packets))
@@ -103,6 +106,6 @@ def make_random_calls(seed: int, schedule: Schedule, keeps_pages: bool = False) 
     def call(command: str, arguments: list[str], *files: bytes) -> Call:
         return Call(name, command, (*files, stream), shlex.join(arguments), is_failing)
 
-    return [call("check", [*pair.options, *of_stream, *pieces, ALL], pair.stl),
-            call("extract", of_stream), call("packets", [*of_stream, *pieces]),
-            call("listen", [*shared, *of_stream, *pieces, *heard])]
+    return [call("check", [*pair.options, *recording_options, *pieces, ALL], pair.stl),
+            call("extract", recording_options), call("packets", [*recording_options, *pieces]),
+            call("listen", [*shared, *recording_options, *pieces, *heard])]

@@ -9,7 +9,7 @@ from __future__ import annotations
 from typing import Iterator, NamedTuple
 
 from developing.pes import decode_address, reverse_bits, decode_pts
-from subtitles.common.times import CLOCK, FRAMES_OF_A_DAY, TICKS, frame_at, frame_of_code
+from subtitles.common.times import CLOCK, FRAMES_OF_A_DAY, TICKS, decode_frame, find_frame_of_day
 from subtitles.formats.stl import GSI, LAST_BLOCK, TTI, USER_DATA
 from subtitles.formats.teletext import NUMBER, Page
 
@@ -68,7 +68,7 @@ def find_gsi_fault(data: bytes, accepts_open: bool) -> int | None:
 
 def find_first_block_fault(block: bytes) -> int | None:
     """Return the fault number for the first block of a subtitle, or `None`."""
-    tci, tco = frame_of_code(block[5:9]), frame_of_code(block[9:13])
+    tci, tco = decode_frame(block[5:9]), decode_frame(block[9:13])
     for number, is_broken in ((16, block[4] != 0), (18, block[14] > 3),
                               (19, not 1 <= block[13] <= 23)):
         if is_broken:
@@ -102,7 +102,7 @@ def make_record(group: list[bytes], number: int) -> Record:
     """Return the subtitle from a complete group of blocks."""
     head = group[0]
     text = b"".join(block[16:].partition(b"\x8f")[0] for block in group)
-    tci, tco = frame_of_code(head[5:9]), frame_of_code(head[9:13])
+    tci, tco = decode_frame(head[5:9]), decode_frame(head[9:13])
     assert tci is not None and tco is not None  # an invalid time is a fault in the first block
     return Record(number, tci, tco, head[13], head[14], text)
 
@@ -125,7 +125,7 @@ def read_subtitles(data: bytes, accepts_open: bool = False, begin: int = 0,
         block = data[GSI + TTI * count:GSI + TTI * (count + 1)]
         count += 1
         if not group and len(block) == TTI:
-            tci = frame_of_code(block[5:9])
+            tci = decode_frame(block[5:9])
             is_outside = tci is not None and not begin <= tci < end
         number = 25 if count > MAX_BLOCKS else 10 if len(block) < TTI \
             else find_block_fault(block, group, is_outside)
@@ -223,15 +223,15 @@ def read_packet_at(data: bytes, begin: int) -> bytes | int:
 
 def split_packets(data: bytes) -> tuple[list[bytes], int | None]:
     """Return the PES packets and gap markers in a file, and the fault of the remaining bytes."""
-    found: list[bytes] = []
+    result: list[bytes] = []
     begin = 0
     while begin < len(data):
-        piece = read_packet_at(data, begin) if len(found) < MAX_PES_PACKETS else 44
+        piece = read_packet_at(data, begin) if len(result) < MAX_PES_PACKETS else 44
         if isinstance(piece, int):
-            return found, piece
-        found.append(piece)
+            return result, piece
+        result.append(piece)
         begin += len(piece)
-    return found, None
+    return result, None
 
 
 def find_frame(pts: int, origin: int) -> int | None:
@@ -251,7 +251,8 @@ def read_packet(piece: bytes, origin: int, within: int) -> ReadPacket | int:
     packets, number = read_units(piece)
     if number is not None:
         return number
-    frame = find_frame(decode_pts(piece), origin) if within else frame_at(decode_pts(piece), origin)
+    frame = find_frame(decode_pts(piece),
+                       origin) if within else find_frame_of_day(decode_pts(piece), origin)
     return 61 if frame is None else (frame, packets)
 
 

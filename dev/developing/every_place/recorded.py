@@ -13,11 +13,11 @@ ACCEPTED = "accepted 51 frames 2 transmissions"
 LOST = "refused 45 Lost pes 1"
 PID = "--pid 257"
 
-FIRST, SECOND = SENT[:184], SENT[184:]
-X0, X1 = b"\x47\x41\x01\x10" + FIRST, b"\x47\x41\x01\x11" + SECOND
+FIRST_PACKET, SECOND_PACKET = SENT[:184], SENT[184:]
+PACKET_0, PACKET_1 = b"\x47\x41\x01\x10" + FIRST_PACKET, b"\x47\x41\x01\x11" + SECOND_PACKET
 NULL = b"\x47\x1f\xff\x10" + b"\xff" * 184
 # A TS packet of the Teletext PID that has no payload and announces a counter jump.
-JUMP = b"\x47\x01\x01\x20\xb7\x80" + b"\0" * 182
+JUMP_PACKET = b"\x47\x01\x01\x20\xb7\x80" + b"\0" * 182
 
 
 def set_counter(packet: bytes, counter: int) -> bytes:
@@ -34,12 +34,13 @@ def make_adaptation_packet(packet: bytes, payload: bytes, flags: int = 0) -> byt
 
 def make_first_packet(counter: int, flags: int = 0) -> bytes:
     """Return a TS packet with the first half of the PES packet SECOND."""
-    return make_adaptation_packet(set_counter(X1, counter), SECOND[:100], flags)
+    return make_adaptation_packet(set_counter(PACKET_1, counter), SECOND_PACKET[:100], flags)
 
 
 def make_second_packet(counter: int) -> bytes:
     """Return a TS packet with the second half of the PES packet SECOND."""
-    return replace_bytes(make_adaptation_packet(set_counter(X1, counter), SECOND[100:]), {1: 0x01})
+    return replace_bytes(make_adaptation_packet(set_counter(PACKET_1, counter),
+                                                SECOND_PACKET[100:]), {1: 0x01})
 
 
 def expect_check(name: str, line: str, *units: bytes, arguments: str = PID) -> KnownCall:
@@ -54,38 +55,43 @@ def expect_listen(name: str, recording: bytes, arguments: str, *lines: str) -> K
     return KnownCall(Call(name, "listen", (recording,), arguments), Answer(list(lines)))
 
 
-WRONG_X0 = replace_bytes(X0, {1: 0xC1})
-SPOILED = replace_bytes(X0, {7: 0xBE})  # wrong start code
+WRONG_X0 = replace_bytes(PACKET_0, {1: 0xC1})
+WRONG_START_CODE = replace_bytes(PACKET_0, {7: 0xBE})  # wrong start code
 PACKET_CASES = [
     expect_check("a repeat that announces no jump, though the first one does", ACCEPTED,
-                 X0, make_first_packet(9, 0x80), make_first_packet(9), make_second_packet(10)),
+                 PACKET_0, make_first_packet(9, 0x80), make_first_packet(9),
+                 make_second_packet(10)),
     expect_check("a packet again that announces a jump, as the first one does not", LOST,
-                 X0, make_first_packet(1), make_first_packet(1, 0x80), make_second_packet(2)),
+                 PACKET_0, make_first_packet(1), make_first_packet(1, 0x80), make_second_packet(2)),
     expect_check("a wrong packet without a payload", LOST,
-                 X0, bytes.fromhex("47 81 01 20 B7").ljust(188, b"\0"), X1),
-    expect_check("a jump that a wrong packet announces", LOST, X0, replace_bytes(JUMP, {1: 0x81}),
-                 set_counter(X1, 9)),
-    expect_extract("the end of a PES packet behind a jump", "written 1 pes 0 gaps", FIRST,
-            X0, JUMP, replace_bytes(make_adaptation_packet(set_counter(X0, 9), FIRST[100:]),
-                                    {1: 0x01})),
-    expect_extract("several gaps in a row", "written 3 pes 1 gaps", FIRST + GAP_MARKER + SECOND,
-                   X0, make_first_packet(2), WRONG_X0, make_first_packet(7), make_first_packet(9),
-                   set_counter(X1, 12)),
-    expect_extract("several gaps at the end", "written 2 pes 1 gaps", FIRST + GAP_MARKER,
-                   X0, make_first_packet(2), make_first_packet(7), WRONG_X0),
+                 PACKET_0, bytes.fromhex("47 81 01 20 B7").ljust(188, b"\0"), PACKET_1),
+    expect_check("a jump that a wrong packet announces", LOST, PACKET_0,
+                 replace_bytes(JUMP_PACKET, {1: 0x81}), set_counter(PACKET_1, 9)),
+    expect_extract("the end of a PES packet behind a jump", "written 1 pes 0 gaps", FIRST_PACKET,
+            PACKET_0, JUMP_PACKET, replace_bytes(make_adaptation_packet(set_counter(PACKET_0, 9),
+                                                                        FIRST_PACKET[100:]),
+                                                 {1: 0x01})),
+    expect_extract("several gaps in a row", "written 3 pes 1 gaps",
+                   FIRST_PACKET + GAP_MARKER + SECOND_PACKET, PACKET_0, make_first_packet(2),
+                   WRONG_X0, make_first_packet(7), make_first_packet(9), set_counter(PACKET_1, 12)),
+    expect_extract("several gaps at the end", "written 2 pes 1 gaps", FIRST_PACKET + GAP_MARKER,
+                   PACKET_0, make_first_packet(2), make_first_packet(7), WRONG_X0),
     expect_extract("another start code behind a PES packet", "refused 31 Start pes 1",
-                   FIRST + SPOILED[4:], X0, set_counter(SPOILED, 1), X1),
+                   FIRST_PACKET + WRONG_START_CODE[4:], PACKET_0, set_counter(WRONG_START_CODE, 1),
+                   PACKET_1),
     expect_extract("another start code, six bytes in three packets", "refused 31 Start pes 0",
-                   SPOILED[4:10],
-                   *(replace_bytes(make_adaptation_packet(set_counter(X0, at),
-                                                          SPOILED[4 + at * 2:6 + at * 2]),
+                   WRONG_START_CODE[4:10],
+                   *(replace_bytes(make_adaptation_packet(set_counter(PACKET_0, at),
+                                                          WRONG_START_CODE[4 + at * 2:6 + at * 2]),
                                    {1: 1 if at else 0x41}) for at in range(5))),
-    expect_check("16 bytes behind each but the last", ACCEPTED, X0, b"\xff" * 16, NULL,
-                 b"\xff" * 16, X1, arguments=f"{PID} --packet-size 204"),
-    *[expect_check(f"{count} bytes between, 204 from one to the next", line, X0, bytes(16 + count),
-                   NULL, bytes(16), X1, bytes(16), arguments=f"{PID} --packet-size 204")
+    expect_check("16 bytes behind each but the last", ACCEPTED, PACKET_0, b"\xff" * 16, NULL,
+                 b"\xff" * 16, PACKET_1, arguments=f"{PID} --packet-size 204"),
+    *[expect_check(f"{count} bytes between, 204 from one to the next", line, PACKET_0,
+                   bytes(16 + count), NULL, bytes(16), PACKET_1, bytes(16),
+                   arguments=f"{PID} --packet-size 204")
       for count, line in ((15 * 204 - 20, ACCEPTED), (15 * 204, LOST))],
-    expect_listen("a mark behind the time", X0 + set_counter(X1, 2), f"{PID} --at {TIME}", LOST),
+    expect_listen("a mark behind the time", PACKET_0 + set_counter(PACKET_1, 2),
+                  f"{PID} --at {TIME}", LOST),
 ]
 
 RANGES = [
@@ -104,12 +110,13 @@ RANGES = [
                   f"--pes 2-3 --at {TIME} --skip 1", "heard no"),
 ]
 
-FAILING = [
-    KnownCall(Call("a stream that fails behind a range", "check", (HELLO, X0 + NULL + X1),
-                   f"{PID} --pes 0-1", True), Answer([ACCEPTED])),
+FAILING_RECORDINGS = [
+    KnownCall(Call("a stream that fails behind a range", "check",
+                   (HELLO, PACKET_0 + NULL + PACKET_1), f"{PID} --pes 0-1", True),
+              Answer([ACCEPTED])),
     KnownCall(Call("a stream that fails behind a gap", "extract",
-                   (X0 + replace_bytes(X1, {1: 0xC1}),), PID,
-                   True), Answer(["fault 41 Read pes 2"], FIRST + GAP_MARKER)),
+                   (PACKET_0 + replace_bytes(PACKET_1, {1: 0xC1}),), PID,
+                   True), Answer(["fault 41 Read pes 2"], FIRST_PACKET + GAP_MARKER)),
 ]
 
-RECORDING_CASES = [*PACKET_CASES, *RANGES, *FAILING]
+RECORDING_CASES = [*PACKET_CASES, *RANGES, *FAILING_RECORDINGS]

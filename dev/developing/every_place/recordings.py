@@ -19,7 +19,7 @@ MAX_UNSEEN_PACKETS = 15  # maximum number of missing packets that a continuity c
 GAP_MARKER = b"\0\0\1\xbd\0\xb2" + b"\xff" * 178
 
 
-class Skipped(NamedTuple):
+class SkippedBytes(NamedTuple):
     """Skipped bytes between packets."""
 
     length: int
@@ -43,32 +43,32 @@ class TransportPacket:
         self.payload = data[5 + data[4]:] if has_field else data[4:]
 
 
-def find_packets(data: bytes, size: int) -> Iterator[TransportPacket | Skipped]:
+def find_packets(data: bytes, size: int) -> Iterator[TransportPacket | SkippedBytes]:
     """Yield the packets in a stream, and the skipped bytes between them.
 
     If no packet follows the previous packet, search for two sync bytes a packet size apart.
     """
     data = data[:MAX_RECORDING_BYTES]
     place = TIME_STAMP if size == 192 else 0
-    is_in_step, skipped = True, 0
+    is_synchronized, skipped = True, 0
     while len(data) - place >= PACKET:
-        if not is_in_step and data[place:place + 1] + data[place + size:place + size + 1] \
+        if not is_synchronized and data[place:place + 1] + data[place + size:place + size + 1] \
                 == bytes([SYNC, SYNC]):
-            is_in_step = True
-        elif not is_in_step:
+            is_synchronized = True
+        elif not is_synchronized:
             after = data.find(SYNC, place + 1, len(data) - PACKET + 1)
             after = after if after > 0 else len(data) - PACKET + 1
             skipped, place = skipped + after - place, after
         elif data[place] != SYNC:
-            is_in_step = False
+            is_synchronized = False
         else:
             if skipped:
-                yield Skipped(skipped)
+                yield SkippedBytes(skipped)
             skipped = 0
             yield TransportPacket(data[place:place + PACKET])
             place += size
     if skipped:
-        yield Skipped(skipped)
+        yield SkippedBytes(skipped)
 
 
 class GoodPacket(NamedTuple):
@@ -88,7 +88,7 @@ class Stretch:
 
     def __init__(self, before: TransportPacket | None) -> None:
         self.before = before
-        self.has_repeat = self.has_jump = self.is_hurt = False
+        self.has_repeat = self.has_jump = self.has_lost_packets = False
 
     def is_repeat(self, packet: TransportPacket) -> bool:
         """Return whether a packet is the first duplicate (2.4.3.3) of the previous packet.
@@ -106,29 +106,29 @@ class Stretch:
             return GoodPacket(packet, False, False)
         is_announced = self.has_jump or packet.announces_jump
         is_continued = packet.counter == (self.before.counter + 1) % 16
-        is_break = self.is_hurt or not is_announced and not is_continued
+        is_break = self.has_lost_packets or not is_announced and not is_continued
         return GoodPacket(packet, is_break, is_announced and not is_break)
 
 
 def find_good_packets(data: bytes, pid: int, size: int) -> tuple[list[GoodPacket], bool]:
     """Return the intact packets of a PID, and whether a faulty packet follows the last."""
-    found: list[GoodPacket] = []
-    stretch, is_wrong_last = Stretch(None), False
-    for one in find_packets(data, size):
-        if isinstance(one, Skipped):
-            stretch.is_hurt |= one.length >= MAX_UNSEEN_PACKETS * size
-        elif one.pid != pid:
+    result: list[GoodPacket] = []
+    stretch, is_last_packet_wrong = Stretch(None), False
+    for packet in find_packets(data, size):
+        if isinstance(packet, SkippedBytes):
+            stretch.has_lost_packets |= packet.length >= MAX_UNSEEN_PACKETS * size
+        elif packet.pid != pid:
             continue
-        elif one.is_wrong:
-            stretch.is_hurt = is_wrong_last = True
-        elif not one.has_payload:
-            stretch.has_jump |= one.announces_jump
-        elif stretch.is_repeat(one):
+        elif packet.is_wrong:
+            stretch.has_lost_packets = is_last_packet_wrong = True
+        elif not packet.has_payload:
+            stretch.has_jump |= packet.announces_jump
+        elif stretch.is_repeat(packet):
             stretch.has_repeat = True
         else:
-            found.append(stretch.make_good_packet(one))
-            stretch, is_wrong_last = Stretch(one), False
-    return found, is_wrong_last and bool(found)
+            result.append(stretch.make_good_packet(packet))
+            stretch, is_last_packet_wrong = Stretch(packet), False
+    return result, is_last_packet_wrong and bool(result)
 
 
 class Part:
@@ -136,13 +136,13 @@ class Part:
 
     def __init__(self, packets: list[GoodPacket]) -> None:
         self.has_break = packets[0].is_break
-        payloads = [one.packet.payload for one in packets]
+        payloads = [item.packet.payload for item in packets]
         self.payload = b"".join(payloads)
-        found = read_length(self.payload) if packets[0].packet.begins else None
+        result = read_length(self.payload) if packets[0].packet.begins else None
         # The length of the PES packet, or the fault in its first six bytes. `None` if they are
         # unknown.
-        self.wrong_head = found if found in (START, LENGTH) else None
-        self.length = None if self.wrong_head else found
+        self.wrong_head = result if result in (START, LENGTH) else None
+        self.length = None if self.wrong_head else result
         self.is_whole = self.length is not None and len(self.payload) >= self.length
         self.head = b""  # the payloads up to the one that completes the first six bytes
         for payload in payloads:
@@ -152,10 +152,11 @@ class Part:
 def cut_parts(good_packets: list[GoodPacket]) -> list[Part]:
     """Split intact packets at each start of a PES packet, each break and each announced jump."""
     parts: list[list[GoodPacket]] = []
-    for one in good_packets:
-        if not parts or one.packet.begins or one.is_break or one.is_announced_jump:
+    for good_packet in good_packets:
+        if not parts or good_packet.packet.begins or good_packet.is_break \
+                or good_packet.is_announced_jump:
             parts.append([])
-        parts[-1].append(one)
+        parts[-1].append(good_packet)
     return [Part(packets) for packets in parts]
 
 
@@ -178,7 +179,7 @@ class StreamContent(NamedTuple):
 
 def read_stream(data: bytes, pid: int, size: int) -> StreamContent:
     """Return the PES packets of a PID, with a gap marker wherever packets may be missing."""
-    good_packets, is_wrong_last = find_good_packets(data, pid, size)
+    good_packets, is_last_packet_wrong = find_good_packets(data, pid, size)
     parts = cut_parts(good_packets)
     pieces: list[bytes] = []
     marks: list[bool] = []
@@ -199,9 +200,9 @@ def read_stream(data: bytes, pid: int, size: int) -> StreamContent:
             pieces.append(part.payload[:part.length])
             marks.append(False)
             has_gap = len(part.payload) > len(pieces[-1])
-        elif number < len(parts) or is_wrong_last:
+        elif number < len(parts) or is_last_packet_wrong:
             has_gap = True
-    has_gap |= is_wrong_last
+    has_gap |= is_last_packet_wrong
     mark()
     return StreamContent(pieces, marks, b"", None)
 

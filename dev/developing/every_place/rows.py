@@ -24,13 +24,13 @@ def split_lines(text: bytes, option: str, strip: bytes) -> list[bytes]:
     lines: list[list[int]] = [[]]
     at = 0
     while at < len(text):
-        byte, one, pair = text[at], text[at:at + 1], text[at:at + 2]
+        byte, item, pair = text[at], text[at:at + 1], text[at:at + 2]
         if byte == NEW_LINE:
             lines.append([])
         elif byte in strip or byte in NO_CELL:
             pass
-        elif one in CELLS[option]:
-            lines[-1].append(CELLS[option][one])
+        elif item in CELLS[option]:
+            lines[-1].append(CELLS[option][item])
         elif pair in CELLS[option]:
             lines[-1].append(CELLS[option][pair])
             at += 1

@@ -41,12 +41,12 @@ def make_pes_packet(pts: int, packets: list[bytes]) -> bytes:
 
 def make_page_packets(page: bytes, options: Options, is_serial: bool) -> list[bytes]:
     """Return the packets of a page: header, rows that are not blank, and closing header."""
-    made = [make_header(options.page, options.option, is_serial)]
+    result = [make_header(options.page, options.option, is_serial)]
     for row in range(1, ROWS + 1):
         codes = page[(row - 1) * COLUMNS:row * COLUMNS]
         if codes.strip(bytes([SPACE])):
-            made.append(make_packet(options.page[0], row, [], codes))
-    return [*made, make_closing_header(options.page, is_serial)]
+            result.append(make_packet(options.page[0], row, [], codes))
+    return [*result, make_closing_header(options.page, is_serial)]
 
 
 def schedule(stl: bytes, options: Options, is_serial: bool) -> tuple[list[str], bytes]:
@@ -54,16 +54,16 @@ def schedule(stl: bytes, options: Options, is_serial: bool) -> tuple[list[str], 
     subtitles = judge_subtitles(stl, options)
     if subtitles.lines:
         return subtitles.lines[:1], b""
-    due = ExpectedPages(subtitles.records or [], subtitles.has_fault_before, options)
+    due = ExpectedPages(subtitles.records or [], subtitles.has_preceding_fault, options)
     first, last = due.first(), due.last()
     if first is None or last is None:
         return ["refused 82 NoSubtitles"], b""
-    made, base, before = [], first, BLANK
+    result, base, before = [], first, BLANK
     for frame in range(first, last + 1):
         page = due.at(frame)
         if page != before:
             base, before = frame, page
         if (frame - base) % options.every == 0 or frame == last:
-            made.append(make_pes_packet(pts_of(frame, options.origin),
-                                        make_page_packets(page, options, is_serial)))
-    return [f"written {len(made)} transmissions"], b"".join(made)
+            result.append(make_pes_packet(pts_of(frame, options.origin),
+                                          make_page_packets(page, options, is_serial)))
+    return [f"written {len(result)} transmissions"], b"".join(result)

@@ -1,8 +1,8 @@
 """Make random transport streams: the output of a multiplexer, with losses and other faults.
 
-`multiplex` sends PES packets as a multiplexer does. `lose_units` removes and corrupts units as in a
-recording that lost packets. `make_random_stream` also repeats, moves and changes units, inserts
-bytes, and cuts both ends.
+`multiplex` sends PES packets as a multiplexer does. `drop_random_units` removes and corrupts units
+as in a recording that lost packets. `make_random_stream` also repeats, moves and changes units,
+inserts bytes, and cuts both ends.
 """
 from __future__ import annotations
 
@@ -11,8 +11,8 @@ from typing import NamedTuple
 
 from .recordings import PACKET, SYNC, TIME_STAMP, MAX_UNSEEN_PACKETS
 
-MOST = 184  # maximum payload of a packet in bytes
-JUMP, BEGINS, WRONG = 0x80, 0x40, 0x80  # bits in bytes 5, 1 and 1 of a packet
+MAX_PAYLOAD = 184  # maximum payload of a packet in bytes
+DISCONTINUITY_BIT, PAYLOAD_START, WRONG = 0x80, 0x40, 0x80  # bits in bytes 5, 1 and 1 of a packet
 NULL_PID = 0x1FFF
 
 
@@ -39,37 +39,37 @@ def make_random_bytes(rng: Random, count: int) -> bytes:
     return bytes(rng.choices([0, 1, 0x47, 0xBD, 0xFF, *range(256)], k=count))
 
 
-def make_adaptation_field(rng: Random, length: int, is_jump: bool) -> bytes:
+def make_adaptation_field(rng: Random, length: int, has_discontinuity: bool) -> bytes:
     """Return an adaptation field of this length. To announce a jump, it needs at least one byte."""
     if length == 0:
         return b"\0"
-    flags = rng.choice([0, 0, 0x40, 0x10]) | JUMP * is_jump
+    flags = rng.choice([0, 0, 0x40, 0x10]) | DISCONTINUITY_BIT * has_discontinuity
     return bytes([length, flags]) + make_random_bytes(rng, length - 1)
 
 
 def make_packet(rng: Random, pid: int, counter: int, payload: bytes, begins: bool = False,
-                is_jump: bool = False) -> bytes:
+                has_discontinuity: bool = False) -> bytes:
     """Return a packet with a payload. A short payload follows an adaptation field."""
     field = b""
-    if len(payload) < MOST:
-        field = make_adaptation_field(rng, MOST - 1 - len(payload), is_jump)
+    if len(payload) < MAX_PAYLOAD:
+        field = make_adaptation_field(rng, MAX_PAYLOAD - 1 - len(payload), has_discontinuity)
     priority = rng.choice([0, 0, 0x20])
-    head = [SYNC, BEGINS * begins | priority | pid >> 8, pid & 255,
+    head = [SYNC, PAYLOAD_START * begins | priority | pid >> 8, pid & 255,
             counter | (0x30 if field else 0x10)]
     return bytes(head) + field + payload
 
 
-def make_packet_without_payload(rng: Random, pid: int, is_jump: bool) -> bytes:
+def make_packet_without_payload(rng: Random, pid: int, has_discontinuity: bool) -> bytes:
     """Return a packet that has only an adaptation field, and a random counter."""
     head = bytes([SYNC, pid >> 8, pid & 255, rng.randrange(16) | 0x20])
-    return head + make_adaptation_field(rng, MOST - 1, is_jump)
+    return head + make_adaptation_field(rng, MAX_PAYLOAD - 1, has_discontinuity)
 
 
 def make_packet_of_other_pid(rng: Random, pid: int) -> bytes:
     other = rng.choice([NULL_PID, pid ^ 1, pid ^ 0x1000, rng.randrange(0x2000)])
     if other == pid:
         other ^= 1
-    head = bytes([SYNC, rng.choice([0, BEGINS, WRONG]) | other >> 8, other & 255,
+    head = bytes([SYNC, rng.choice([0, PAYLOAD_START, WRONG]) | other >> 8, other & 255,
                   rng.randrange(256)])
     return head + rng.choice([b"\xb7\x80", b"\1\x80", b"\0\0"]) + make_random_bytes(rng, 182)
 
@@ -106,21 +106,22 @@ class Multiplexer:
     def send(self, pes: int, data: bytes) -> None:
         rng = self.rng
         self.send_other_packets(None)
-        is_jump = self.announce_jump(pes)
-        sizes = rng.choice([[MOST], [MOST, 183, 182, 1, 92, 100], [*range(1, 185)]])
+        has_discontinuity = self.announce_jump(pes)
+        sizes = rng.choice([[MAX_PAYLOAD], [MAX_PAYLOAD, 183, 182, 1, 92, 100], [*range(1, 185)]])
         place = 0
         while place < len(data):
             size = min(rng.choice(sizes), len(data) - place)
-            if is_jump and place == 0:
+            if has_discontinuity and place == 0:
                 size = min(size, 182)
             payload = data[place:place + size]
             times = 2 if rng.random() < self.repeats else 1
-            for turn in range(times):
-                made = make_packet(rng, self.pid, self.counter, payload, place == 0,
-                                   is_jump and place == 0 and (turn == 0 or rng.random() < 0.7))
-                if turn:  # bytes 1 to 3 equal those of the original packet
-                    made = self.get_last_packet(pes)[:4] + made[4:]
-                self.units.append(Unit(made, pes, self.number))
+            for round_number in range(times):
+                result = make_packet(rng, self.pid, self.counter, payload, place == 0,
+                                     has_discontinuity and place == 0
+                                     and (round_number == 0 or rng.random() < 0.7))
+                if round_number:  # bytes 1 to 3 equal those of the original packet
+                    result = self.get_last_packet(pes)[:4] + result[4:]
+                self.units.append(Unit(result, pes, self.number))
                 self.send_other_packets(pes)
             self.counter = (self.counter + 1) % 16
             self.number += 1
@@ -128,8 +129,8 @@ class Multiplexer:
 
     def get_last_packet(self, pes: int) -> bytes:
         """Return the last packet with a payload."""
-        return next(one.packet for one in reversed(self.units)
-                    if one.pes == pes and one.number is not None)
+        return next(unit.packet for unit in reversed(self.units)
+                    if unit.pes == pes and unit.number is not None)
 
 
 def multiplex(rng: Random, packets: list[bytes], pid: int, has_jumps: bool) -> list[Unit]:
@@ -144,8 +145,8 @@ def multiplex(rng: Random, packets: list[bytes], pid: int, has_jumps: bool) -> l
 def join_units(rng: Random, units: list[Unit], size: int) -> bytes:
     """Join units. Add a time stamp before each if `size` is 192, or 16 bytes after each if 204."""
     before, behind = (TIME_STAMP, 0) if size == 192 else (0, size - PACKET)
-    data = b"".join(make_random_bytes(rng, before) + one.packet + make_random_bytes(rng, behind)
-                    for one in units)
+    data = b"".join(make_random_bytes(rng, before) + unit.packet + make_random_bytes(rng, behind)
+                    for unit in units)
     return data[:-behind] if behind and data and rng.random() < 0.3 else data
 
 
@@ -157,11 +158,11 @@ def corrupt_unit(rng: Random, unit: Unit) -> Unit:
     return unit._replace(packet=bytes(changed))
 
 
-def lose_units(rng: Random, units: list[Unit]) -> list[Unit]:
+def drop_random_units(rng: Random, units: list[Unit]) -> list[Unit]:
     """Remove and corrupt units of the PID, but fewer than 15 consecutive units with a payload."""
     lost = rng.choice([0.02, 0.1, 0.4, 0.8])
     wrong = rng.choice([0.0, 0.0, 0.05, 0.3])
-    made: list[Unit] = []
+    result: list[Unit] = []
     kept: set[int] = set()  # numbers of packets with an intact copy
     bursts = 0
     for unit in units:
@@ -176,8 +177,8 @@ def lose_units(rng: Random, units: list[Unit]) -> list[Unit]:
         unit = corrupt_unit(rng, unit) if is_wrong else unit
         if unit.number is not None and not is_wrong:
             kept.add(unit.number)
-        made.append(unit)
-    return made
+        result.append(unit)
+    return result
 
 
 def gone(number: int, kept: set[int]) -> bool:
@@ -198,10 +199,10 @@ def is_packet(unit: Unit) -> bool:
 
 def choose_packet(rng: Random, units: list[Unit]) -> int:
     """Return the index of a random packet, usually a packet of the PID."""
-    places = [at for at, one in enumerate(units) if one.pes is not None]
+    places = [at for at, unit in enumerate(units) if unit.pes is not None]
     if places and rng.random() < 0.9:
         return rng.choice(places)
-    return rng.choice([at for at, one in enumerate(units) if is_packet(one)])
+    return rng.choice([at for at, unit in enumerate(units) if is_packet(unit)])
 
 
 def change_units(rng: Random, units: list[Unit], size: int) -> None:
@@ -228,7 +229,7 @@ def change_units(rng: Random, units: list[Unit], size: int) -> None:
     elif way == "length":  # change the adaptation field length, sometimes to an invalid value
         changed[3] |= 0x20
         changed[4] = rng.choice([0, 1, 7, 181, 182, 183, 184, 255])
-        changed[5] = rng.choice([0, 0, JUMP, 0xFF])
+        changed[5] = rng.choice([0, 0, DISCONTINUITY_BIT, 0xFF])
     elif way == "payload":  # change, remove or add bytes at the end of a packet
         count = rng.choice([1, 16, 100])
         changed[-count:] = make_random_bytes(rng, count)
@@ -241,12 +242,12 @@ def change_units(rng: Random, units: list[Unit], size: int) -> None:
 
 def insert_jump(rng: Random, units: list[Unit], at: int) -> None:
     """Insert a packet without a payload that announces a counter jump."""
-    one = bytearray(make_packet_without_payload(rng, 0, True))
-    one[1] |= units[at].packet[1] & 0x1F
-    one[2] = units[at].packet[2]
+    item = bytearray(make_packet_without_payload(rng, 0, True))
+    item[1] |= units[at].packet[1] & 0x1F
+    item[2] = units[at].packet[2]
     if rng.random() < 0.2:
-        one[4] = 0
-    units.insert(at, Unit(bytes(one), units[at].pes))
+        item[4] = 0
+    units.insert(at, Unit(bytes(item), units[at].pes))
 
 
 def move_counters(rng: Random, units: list[Unit], at: int) -> None:
@@ -264,7 +265,7 @@ def make_random_stream(rng: Random, packets: list[bytes], pid: int, size: int) -
     """Return a multiplexed stream with losses and random changes."""
     units = multiplex(rng, packets, pid, rng.random() < 0.5)
     if rng.random() < 0.3:
-        units = lose_units(rng, units)
+        units = drop_random_units(rng, units)
     for _ in range(rng.choice([0, 0, 1, 1, 2, 4])):
         if any(map(is_packet, units)):
             change_units(rng, units, size)

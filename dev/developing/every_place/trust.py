@@ -8,7 +8,7 @@ from __future__ import annotations
 from dataclasses import dataclass, field
 from typing import Iterator, NamedTuple
 
-from subtitles.common.times import time_of
+from subtitles.common.times import format_frame
 
 # Faults of a PES packet that make its frame untrusted, since receivers depend on the broken rules.
 PACKET_FAULTS = {64, 65, 67, 68, 69}
@@ -21,14 +21,14 @@ class Event(NamedTuple):
 
     `pes` is the PES packet at which the line is printed, even if the line concerns an earlier
     frame. It is `None` after the last frame. `frame` is the frame that the line concerns, or
-    `None`. `is_frame_end` is true for a line at the end of this frame.
+    `None`. `is_end_of_frame` is true for a line at the end of this frame.
     """
 
     line: str
     number: int
     pes: int | None
     frame: int | None = None
-    is_frame_end: bool = False
+    is_end_of_frame: bool = False
 
 
 class SentPacket(NamedTuple):
@@ -51,7 +51,7 @@ class FrameEnd(NamedTuple):
     is_late: bool
 
 
-class CleanRun(NamedTuple):
+class CleanFrames(NamedTuple):
     """Consecutive frames without a fault."""
 
     first: int
@@ -87,38 +87,39 @@ class TrustedFrames:
         self.first, self.last = self.sent[0].frame, self.sent[-1].frame
         self.ends = {item.frame: item for item in event_log.ends}
         pes = {item.pes for item in self.sent}
-        self.unclean = {item.frame for item in self.events
-                        if item.pes in pes and item.number in PACKET_FAULTS}
-        self.unclean |= {item.frame for item in event_log.ends if item.has_active}
+        self.faulty_frames = {item.frame for item in self.events
+                              if item.pes in pes and item.number in PACKET_FAULTS}
+        self.faulty_frames |= {item.frame for item in event_log.ends if item.has_active}
         # Unread data after a PES packet may belong to its frame, or to a later frame.
         if not event_log.has_rising_frames or event_log.has_trailing_bytes:
-            self.unclean.add(self.last)
+            self.faulty_frames.add(self.last)
         for piece in event_log.skipped:
             before = [item.frame for item in self.sent if item.pes < piece]
             after = [item.frame for item in self.sent if item.pes > piece]
             if before:
                 end = after[0] if after else self.last + 1
-                self.unclean |= {before[-1], *range(before[-1], end)}
+                self.faulty_frames |= {before[-1], *range(before[-1], end)}
 
-    def find_runs(self) -> Iterator[CleanRun]:
+    def find_runs(self) -> Iterator[CleanFrames]:
         """Yield the groups of consecutive frames without a fault."""
         begin = self.first
         for frame in range(self.first, self.last + 2):
-            if frame in self.unclean or frame > self.last:
+            if frame in self.faulty_frames or frame > self.last:
                 if begin < frame:
-                    yield CleanRun(begin, frame - 1)
+                    yield CleanFrames(begin, frame - 1)
                 begin = frame + 1
 
-    def find_trusted_frames(self) -> Iterator[tuple[int, CleanRun]]:
+    def find_trusted_frames(self) -> Iterator[tuple[int, CleanFrames]]:
         """Yield groups of trusted frames, each with the index of the event after its line."""
         for run in self.find_runs():
             headers = [packet.frame for packet in self.sent
                        if packet.has_header and run.first <= packet.frame <= run.last]
             if headers:
                 at = self.find_report_place(run.last)
-                found = CleanRun(headers[0], self.find_last_trusted(run.last, at))
-                if any(self.is_complete_at(frame) for frame in range(found.first, found.last + 1)):
-                    yield at, found
+                clean_run = CleanFrames(headers[0], self.find_last_trusted(run.last, at))
+                if any(self.is_complete_at(frame)
+                       for frame in range(clean_run.first, clean_run.last + 1)):
+                    yield at, clean_run
 
     def is_complete_at(self, frame: int) -> bool:
         return frame in self.ends and self.ends[frame].incomplete_since is None
@@ -131,11 +132,11 @@ class TrustedFrames:
         after = last + 1
         pes = [packet.pes for packet in self.sent if packet.frame == after]
         for at, event in enumerate(self.events):
-            is_passed = event.number in SKIPPED and event.pes is not None
+            is_skipped = event.number in SKIPPED and event.pes is not None
             if event.number == ORDER or event.pes is None \
-                    or event.frame == after and (event.is_frame_end or event.number
+                    or event.frame == after and (event.is_end_of_frame or event.number
                                                  in PACKET_FAULTS) \
-                    or is_passed and pes and event.pes > pes[0]:
+                    or is_skipped and pes and event.pes > pes[0]:
                 return at
         return len(self.events)
 
@@ -150,7 +151,7 @@ class TrustedFrames:
         end: FrameEnd | None = None
         if event is None or event.pes is None:
             end = self.ends.get(self.last)
-        elif event.is_frame_end and event.frame is not None and self.ends[event.frame].is_late:
+        elif event.is_end_of_frame and event.frame is not None and self.ends[event.frame].is_late:
             end = self.ends[event.frame]
         last_end = self.ends.get(last)
         if self.is_refused and last_end is not None and last_end.incomplete_since is not None:
@@ -166,7 +167,7 @@ def list_lines(event_log: EventLog, has_failed: bool, is_refused: bool) -> Itera
     before: dict[int, list[str]] = {}
     if (event_log.events or is_refused) and event_log.sent:
         for at, run in TrustedFrames(event_log, is_refused).find_trusted_frames():
-            line = f"trusted frames {time_of(run.first)} {time_of(run.last)}"
+            line = f"trusted frames {format_frame(run.first)} {format_frame(run.last)}"
             before.setdefault(at, []).append(line)
     for at, event in enumerate(event_log.events):
         yield from before.get(at, [])

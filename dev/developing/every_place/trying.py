@@ -60,18 +60,18 @@ class Trial:
         written = os.path.join(self.folder, f"written-{os.getpid()}")
         before = make_reads_fail(names[-1], call.files[-1]) if call.is_failing else []
         outputs = [written] if call.command in WRITING_COMMANDS else []
-        done = subprocess.run(
+        process = subprocess.run(
             [*before, self.program, call.command, *names, *outputs, *call.options], check=False,
             stdin=subprocess.DEVNULL, stdout=subprocess.PIPE, stderr=subprocess.DEVNULL)
-        made: bytes | None = None
+        result: bytes | None = None
         if os.path.exists(written):
             with open(written, "rb") as file:
-                made = file.read()
+                result = file.read()
             os.remove(written)
         for name in names:
             os.remove(name)
-        lines = done.stdout.decode("utf-8", "replace").splitlines()
-        return done.returncode, Answer(lines, made)
+        lines = process.stdout.decode("utf-8", "replace").splitlines()
+        return process.returncode, Answer(lines, result)
 
     def schedule(self, stl: bytes, arguments: list[str]) -> bytes:
         """Return the transmission that the program's `schedule` writes."""
@@ -85,11 +85,11 @@ class Trial:
             if call.is_failing and not self.can_fail:
                 continue
             status, own = self.call_program(call)
-            wanted = get_status(expected.lines[-1])
+            expected_value = get_status(expected.lines[-1])
             what = " ".join([call.command, call.arguments, *(["failing"] if call.is_failing
                                                              else [])])
-            if (status, own.lines) != (wanted, expected.lines):
-                messages.append(f"{what}: status {status}, expected {wanted}; "
+            if (status, own.lines) != (expected_value, expected.lines):
+                messages.append(f"{what}: status {status}, expected {expected_value}; "
                                 f"{find_first_difference(own.lines, expected.lines)}")
             if own.written != expected.written:
                 sizes = [None if data is None else len(data)

@@ -24,12 +24,12 @@ def make_pes_file(packets: str) -> bytes:
     return b"".join(parse_transmission(packets, PACKETS))
 
 
-def expect_lines(name: str, pes: bytes, *asked: tuple[str, ...], stl: bytes = HELLO
+def expect_lines(name: str, pes: bytes, *requested_options: tuple[str, ...], stl: bytes = HELLO
             ) -> list[KnownCall]:
     """Return a call with its expected lines for each set of options."""
     return [make_known_check(f"{name}: check {arguments}".rstrip(), stl, pes, arguments,
                              add_count_line(*lines))
-            for arguments, *lines in asked]
+            for arguments, *lines in requested_options]
 
 
 ONE = "--within 1"
@@ -45,7 +45,7 @@ DAY = [
 ]
 
 # Pairs with the largest allowed values of --within.
-MOST = [
+LARGEST_TOLERANCE_CASES = [
     *expect_lines("a frame that does not rise before an end is late",
                   make_pes_file("0 h r c, 10 h c, 12 h c, 5 h r c, 50 h c"),
                   ("--within 50", format_trusted_line("00:00", "00:11"), "refused 62 Order pes 3")),
@@ -54,7 +54,7 @@ MOST = [
 ]
 
 # The PTS of a frame may be a quarter of a frame early and less than three quarters late.
-TICK_CASES = [
+PTS_CASES = [
     *expect_lines("the last PTS of a frame", SENT, ("--origin 8589931893 --within 1",
                                                     format_accepted_line(51, 2))),
     *expect_lines("the first PTS of a frame", SENT, ("--origin 900 --within 1",
@@ -66,31 +66,32 @@ TICK_CASES = [
               format_trusted_line("00:01", "02:01"))),
 ]
 
-WITHIN = [*MOST, *TICK_CASES, *DAY]
+TOLERANCE_CASES = [*LARGEST_TOLERANCE_CASES, *PTS_CASES, *DAY]
 
 # Headers that keep the page, rows after such a header, rows when no page is open, and a refused
 # subtitle, whose page is unknown.
-KEEPING = "--keeping"
-AFTER_BAD = make_stl_file((0, 50, 22, HI.replace(b"i", b"\xe6")), (50, 100, 22, HI))
+KEEPING_OPTION = "--keeping"
+AFTER_REFUSED_STL = make_stl_file((0, 50, 22, HI.replace(b"i", b"\xe6")), (50, 100, 22, HI))
 BAD = "refused 50 Character block 1 at 4"
-KEPT = [
+LATE_PAGE_CASES = [
     *expect_lines("another row behind a first header that keeps",
                   make_pes_file("0 k r c, 25 k o c, 50 h c"),
-                  (KEEPING, format_refused_line("69 RowChanged", "01:00", "packet 1"), LAST)),
+                  (KEEPING_OPTION,
+                   format_refused_line("69 RowChanged", "01:00", "packet 1"), LAST)),
     *expect_lines("the same row behind it", make_pes_file("0 k r c, 25 k r c, 50 h c"),
-                  (KEEPING, format_accepted_line(51, 3))),
+                  (KEEPING_OPTION, format_accepted_line(51, 3))),
     *expect_lines("a row behind the closing header", make_pes_file("0 h r c r2, 25 k r c, 50 h c"),
-                  (KEEPING, format_accepted_line(51, 3))),
+                  (KEEPING_OPTION, format_accepted_line(51, 3))),
     *expect_lines("a row that was not sent before it is known what is due",
                   make_pes_file("0 h c, 50 k r c, 100 h c"),
-             (KEEPING, BAD, *format_lasting_fault("78 Undecided", "00:00", "01:24"),
+             (KEEPING_OPTION, BAD, *format_lasting_fault("78 Undecided", "00:00", "01:24"),
               format_trusted_line("04:00", "04:00")),
-             stl=AFTER_BAD),
+             stl=AFTER_REFUSED_STL),
     *expect_lines("another row before it is known what is due",
                   make_pes_file("0 h o c, 50 k r c, 100 h c"),
-                  (KEEPING, BAD, format_refused_line("78 Undecided", "00:00"),
+                  (KEEPING_OPTION, BAD, format_refused_line("78 Undecided", "00:00"),
               format_refused_line("69 RowChanged", "02:00", "packet 1"),
                    format_wrong_row("02:00", column=20)[0],
               format_ended_line("78 Undecided", "01:24"), format_ended_line("72 Content", "03:24"),
-              format_trusted_line("04:00", "04:00")), stl=AFTER_BAD),
+              format_trusted_line("04:00", "04:00")), stl=AFTER_REFUSED_STL),
 ]

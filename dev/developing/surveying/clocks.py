@@ -3,15 +3,15 @@ from __future__ import annotations
 
 from typing import Callable, NamedTuple
 
-from subtitles.common.times import ticks_between, wrap_pts
+from subtitles.common.times import subtract_pts, wrap_pts
 from .packets import Packet
 
-SECOND, TENTH = 90_000, 9_000  # ticks
+SECOND, TENTH_TICKS = 90_000, 9_000  # ticks
 # Number of intervals for the median, and minimum number of intervals to detect a late PCR.
 MEDIANS, FEWEST = 100, 5
-MOST_BREAKS = 256
+MAX_BREAKS = 256
 NEAR = 256  # number of TS packets after a PCR that are always near it
-Say = Callable[[str], None]
+PrintLine = Callable[[str], None]
 
 
 def number(value: int | None) -> str:
@@ -42,8 +42,8 @@ class Jump(NamedTuple):
 class Clock:
     """Compares each PCR of a PID with the previous one."""
 
-    def __init__(self, pid: int, say: Say) -> None:
-        self.pid, self.say = pid, say
+    def __init__(self, pid: int, line_printer: PrintLine) -> None:
+        self.pid, self.print_line = pid, line_printer
         self.seconds = Seconds()
         self.last: int | None = None
         self.place = 0
@@ -55,10 +55,10 @@ class Clock:
         """Process a PCR. Return an irregular PCR as a `Jump`, else `None`."""
         jump = None
         if self.last is not None and self.is_compared:
-            jump = self.jump(ticks_between(self.last, pcr), place)
+            jump = self.jump(subtract_pts(self.last, pcr), place)
         self.last, self.place, self.is_compared = pcr, place, True
         if self.seconds.is_next(pcr):
-            self.say(f"pcr {self.pid} {pcr}")
+            self.print_line(f"pcr {self.pid} {pcr}")
         return jump
 
     def usual(self) -> tuple[int, int]:
@@ -67,14 +67,14 @@ class Clock:
                           for some in zip(*self.distances or [(0, 0)]))
         return ticks, packets
 
-    def is_near(self, place: int) -> bool:
+    def is_near_jump(self, place: int) -> bool:
         """Return whether the last PCR comes shortly before a TS packet."""
         return self.last is not None and place - self.place < max(NEAR, 4 * self.usual()[1])
 
     def jump(self, ticks: int, place: int) -> Jump | None:
         """Compare a PCR with the previous PCR. Return a `Jump` if the PCR is irregular."""
         packets, (usual, usual_packets) = place - self.place, self.usual()
-        is_late = len(self.distances) >= FEWEST and ticks > max(TENTH, 3 * usual)
+        is_late = len(self.distances) >= FEWEST and ticks > max(TENTH_TICKS, 3 * usual)
         if ticks < 0 or is_late:
             return Jump(f"{ticks} {packets} {usual} {usual_packets}", self.place, place)
         self.distances = (self.distances + [(ticks, packets)])[-MEDIANS:]
@@ -100,7 +100,7 @@ class Counters:
         counter, before = self.last.get(pid, (packet.counter, place))
         is_break = packet.counter not in (counter, (counter + 1) % 16)
         if is_break and pid not in self.announced:
-            self.breaks = (self.breaks + [(pid, before, place)])[-MOST_BREAKS:]
+            self.breaks = (self.breaks + [(pid, before, place)])[-MAX_BREAKS:]
         self.first.setdefault(pid, place)
         self.last[pid] = packet.counter, place
         self.announced.discard(pid)

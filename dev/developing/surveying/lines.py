@@ -4,18 +4,19 @@ from __future__ import annotations
 from collections import defaultdict
 from math import inf
 
-from developing.every_place.recordings import TIME_STAMP, MAX_UNSEEN_PACKETS, Skipped, find_packets
+from developing.every_place.recordings import (
+    TIME_STAMP, MAX_UNSEEN_PACKETS, SkippedBytes, find_packets)
 from developing.every_place.reading import HEAD
-from subtitles.common.times import ticks_between
+from subtitles.common.times import subtract_pts
 from subtitles.formats.teletext import START, Page
 from .clocks import Clock, Counters, Seconds
 from .packets import Packet, size_of
 from .pictures import Video, is_video
-from .tables import PAT, PMT, Programme, Sections, pids_in, programme_of
+from .tables import PAT, PMT, Programme, Sections, list_section_pids, read_programme
 from .teletext import PesLines, Teletext
 
 READ = 65_536  # number of bytes in one read of the program
-MOST, MOST_TABLES = 64, 128  # maximum number of PIDs of each kind, and of PIDs with tables
+MAX_PIDS, MAX_TABLES = 64, 128  # maximum number of PIDs of each kind, and of PIDs with tables
 NO_PCR = NULL = 0x1FFF  # PCR_PID of a programme without PCR; PID of null packets
 DATA_IDENTIFIERS = range(0x10, 0x20)
 
@@ -24,14 +25,14 @@ def survey(data: bytes, page: Page, pid: int | None = None, size: int | None = N
     """Return the lines of `survey`. The PID and the packet size are detected unless given."""
     lines = ["survey 1", f"head {data[:11].hex()}".rstrip()]
     if data.startswith(START) and data[4:5] != b"\x47":
-        return lines + pes_file_lines(data, page)
+        return lines + list_pes_file_lines(data, page)
     size, is_short = (size, False) if size else size_of(data)
     if size is None:
         return [*lines, "nothing", f"over {len(data)} 0"]
     return [*lines, f"size {size}", *Stream(page, pid, size).lines_of(data, is_short)]
 
 
-def pes_file_lines(data: bytes, page: Page) -> list[str]:
+def list_pes_file_lines(data: bytes, page: Page) -> list[str]:
     """Return the output lines of `survey` for a file of PES packets."""
     lines = ["size 0"]
     pes = PesLines(0, page, lines.append)
@@ -59,7 +60,7 @@ class Stream:
     def __init__(self, page: Page, pid: int | None, size: int) -> None:
         self.page, self.asked, self.size = page, pid, size
         self.lines: list[str] = []
-        self.say = self.lines.append
+        self.print_line = self.lines.append
         self.place = 0  # position of the current TS packet
         self.counters = Counters()
         self.sections = {0: Sections()}
@@ -80,15 +81,16 @@ class Stream:
         if self.asked is not None:
             self.follow(self.asked)
         skipped = 0
-        for one in find_packets(data, self.size):
-            if isinstance(one, Skipped):
-                skipped += one.length
+        for packet in find_packets(data, self.size):
+            if isinstance(packet, SkippedBytes):
+                skipped += packet.length
+                is_loss = packet.length >= MAX_UNSEEN_PACKETS * self.size
                 for teletext in self.teletext.values():
-                    teletext.stretch.is_hurt |= one.length >= MAX_UNSEEN_PACKETS * self.size
-            elif one.pid == NULL:
+                    teletext.stretch.has_lost_packets |= is_loss
+            elif packet.pid == NULL:
                 self.place += 1
             else:
-                self.take(Packet(one.data))
+                self.take(Packet(packet.data))
         if not is_short and len(data) % READ:
             for teletext in self.teletext.values():
                 teletext.lines.flush()
@@ -105,24 +107,24 @@ class Stream:
             teletext.end()
         for pid, clock in self.clocks.items():
             if clock.last is not None:
-                self.say(f"pcr {pid} {clock.last}")
+                self.print_line(f"pcr {pid} {clock.last}")
 
     def follow(self, pid: int) -> None:
-        if pid not in self.teletext and len(self.teletext) < MOST:
-            self.say(f"teletext {pid}")
-            self.teletext[pid] = Teletext(pid, self.page, self.say, self.counters)
+        if pid not in self.teletext and len(self.teletext) < MAX_PIDS:
+            self.print_line(f"teletext {pid}")
+            self.teletext[pid] = Teletext(pid, self.page, self.print_line, self.counters)
 
     def take(self, packet: Packet) -> None:
         pid = packet.pid
         self.place += 1
         self.counters.take(packet, self.place)
         if pid in self.clocks:
-            self.take_pcr(self.clocks[pid], packet)
+            self.read_pcr(self.clocks[pid], packet)
         if pid in self.sections:
             for section in self.sections[pid].take(packet):
-                self.take_section(pid, section)
+                self.read_section(pid, section)
         elif pid not in self.teletext and pid not in self.others:
-            self.look_at(packet)
+            self.read_packet(packet)
         if pid in self.video:
             self.video[pid].take(packet)
         if pid in self.teletext:
@@ -133,7 +135,7 @@ class Stream:
             if teletext.waiting:
                 teletext.print_jumps(self.place)
 
-    def look_at(self, packet: Packet) -> None:
+    def read_packet(self, packet: Packet) -> None:
         """Detect whether a PID has Teletext or video, from the start of a PES packet."""
         data = packet.payload
         if packet.is_wrong or not packet.begins or not packet.has_payload or len(data) < 4 \
@@ -141,8 +143,8 @@ class Stream:
             return
         if is_video(data):
             self.others.add(packet.pid)
-            if len(self.video) < MOST:
-                self.video[packet.pid] = Video(packet.pid, self.say, self.pmt_entries)
+            if len(self.video) < MAX_PIDS:
+                self.video[packet.pid] = Video(packet.pid, self.print_line, self.pmt_entries)
         elif not data.startswith(START):
             self.others.add(packet.pid)
         elif len(data) > 9 and len(data) > 9 + data[8]:
@@ -151,31 +153,31 @@ class Stream:
             elif self.asked is None:
                 self.follow(packet.pid)
 
-    def take_section(self, pid: int, section: bytes) -> None:
+    def read_section(self, pid: int, section: bytes) -> None:
         if pid == 0 and section[0] == PAT:
-            for one in pids_in(section):
-                if len(self.sections) < MOST_TABLES:
-                    self.sections.setdefault(one, Sections())
+            for item in list_section_pids(section):
+                if len(self.sections) < MAX_TABLES:
+                    self.sections.setdefault(item, Sections())
         elif section[0] == PMT:
             name = section[3:5], section[6]  # program_number, section_number
-            programme = programme_of(section) if section != self.printed.get(name) else None
+            programme = read_programme(section) if section != self.printed.get(name) else None
             self.printed[name] = section
             if programme:
-                self.take_programme(programme)
+                self.read_pmt_programme(programme)
 
-    def take_programme(self, programme: Programme) -> None:
-        self.say(f"programme {programme.number} {programme.clock}")
-        if programme.clock != NO_PCR and len(self.clocks) < MOST:
-            self.clocks.setdefault(programme.clock, Clock(programme.clock, self.say))
+    def read_pmt_programme(self, programme: Programme) -> None:
+        self.print_line(f"programme {programme.number} {programme.clock}")
+        if programme.clock != NO_PCR and len(self.clocks) < MAX_PIDS:
+            self.clocks.setdefault(programme.clock, Clock(programme.clock, self.print_line))
         for stream in programme.streams:
-            self.say(f"stream {stream.pid} {stream.kind}")
+            self.print_line(f"stream {stream.pid} {stream.kind}")
             self.pmt_entries[stream.pid] = programme.clock, stream.kind
             for page in stream.announced:
-                self.say(f"announce {stream.pid} {page}")
+                self.print_line(f"announce {stream.pid} {page}")
             if stream.announced and self.asked is None:
                 self.follow(stream.pid)
 
-    def take_pcr(self, clock: Clock, packet: Packet) -> None:
+    def read_pcr(self, clock: Clock, packet: Packet) -> None:
         if packet.is_discontinuity:
             clock.is_compared = False
         if packet.pcr is None:
@@ -183,7 +185,7 @@ class Stream:
         jump = clock.take(packet.pcr, self.place)
         for pid, teletext in self.teletext.items():
             if self.pmt_entries[pid][0] == clock.pid:
-                teletext.note_pcr(jump)
+                teletext.record_pcr(jump)
 
     def compare(self, teletext: Teletext, pts: int) -> None:
         """Print how far a PTS is ahead of the programme's pictures and PCR."""
@@ -197,9 +199,9 @@ class Stream:
                 teletext.leads = Seconds()
             teletext.picture = video, video.number
             if teletext.leads.is_next(pts):
-                self.say(f"lead {teletext.pid} {pts} {ticks_between(video.decoding, pts)} "
-                         f"{video.pid} {video.number}")
+                self.print_line(f"lead {teletext.pid} {pts} {subtract_pts(video.decoding, pts)} "
+                                f"{video.pid} {video.number}")
         clock = self.clocks.get(pcr)
-        if clock and clock.last is not None and clock.is_near(self.place) \
-                and not teletext.is_behind_gap and teletext.aheads.is_next(pts):
-            self.say(f"ahead {teletext.pid} {pts} {ticks_between(clock.last, pts)}")
+        if clock and clock.last is not None and clock.is_near_jump(self.place) \
+                and not teletext.is_behind_gap and teletext.ahead_seconds.is_next(pts):
+            self.print_line(f"ahead {teletext.pid} {pts} {subtract_pts(clock.last, pts)}")

@@ -3,8 +3,8 @@ from __future__ import annotations
 
 from developing.every_place.recordings import PACKET, SIZES, SYNC, TransportPacket
 
-MOST_BYTES = 1 << 24  # maximum number of bytes searched for the packet size
-IN_A_ROW = 5
+MAX_SEARCHED_BYTES = 1 << 24  # maximum number of bytes searched for the packet size
+SYNC_PACKETS = 5
 DISCONTINUITY, RANDOM_ACCESS, PCR = 0x80, 0x40, 0x10  # flags of an adaptation field
 
 
@@ -29,9 +29,9 @@ def size_of(data: bytes) -> tuple[int | None, bool]:
     data. Return `None` if there are no such sync bytes.
     """
     place = data.find(SYNC)
-    while 0 <= place <= min(MOST_BYTES, len(data) - PACKET):
+    while 0 <= place <= min(MAX_SEARCHED_BYTES, len(data) - PACKET):
         for size in SIZES:
-            if all(byte == SYNC for byte in data[place:place + size * IN_A_ROW:size]):
-                return size, place + size * (IN_A_ROW - 1) >= len(data)
+            if all(byte == SYNC for byte in data[place:place + size * SYNC_PACKETS:size]):
+                return size, place + size * (SYNC_PACKETS - 1) >= len(data)
         place = data.find(SYNC, place + 1)
     return None, True

@@ -10,7 +10,7 @@ SERIAL = 11
 Rows = dict[int, bytes]
 
 
-def codes_of(data: bytes) -> bytes:
+def decode_odd_parity(data: bytes) -> bytes:
     """Return the codes of a row. Bytes with even parity become EVEN_SPACE."""
     return bytes(byte & 0x7F if is_odd(byte) else EVEN_SPACE for byte in data[2:])
 
@@ -43,7 +43,7 @@ class DecodedPage:
         self.magazine, self.number = page
         self.rows: Rows = {}
         self.is_open = self.is_received = False
-        self.is_last_of_magazine = False  # whether the magazine's last header is of this page
+        self.is_last_header_own = False  # whether the magazine's last header is of this page
         self.begin()
 
     def begin(self) -> None:
@@ -59,18 +59,18 @@ class DecodedPage:
         magazine, number = address
         header = decode_header(data) if number == 0 else None
         if header is not None:
-            self.take_header(magazine, header)
+            self.read_header(magazine, header)
         elif magazine == self.magazine and 1 <= number <= 24:
             if self.is_open:
-                store(self.rows, number, codes_of(data))
+                store(self.rows, number, decode_odd_parity(data))
             elif self.is_closed_here:
                 self.has_strays = True
-                store(self.strays, number, codes_of(data))
+                store(self.strays, number, decode_odd_parity(data))
 
-    def take_header(self, magazine: int, header: bytes) -> None:
+    def read_header(self, magazine: int, header: bytes) -> None:
         is_own = (magazine, get_page_number(header)) == (self.magazine, self.number)
         if magazine == self.magazine:
-            self.is_last_of_magazine = is_own
+            self.is_last_header_own = is_own
         if is_own:
             self.is_open = self.is_received = self.is_opened_here = True
             self.is_closed_here = False

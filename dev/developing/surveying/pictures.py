@@ -6,11 +6,11 @@ from __future__ import annotations
 
 from developing.every_place.recordings import Stretch
 from developing.pes import has_pts, decode_pts
-from subtitles.common.times import ticks_between
-from .clocks import Say, number
+from subtitles.common.times import subtract_pts
+from .clocks import PrintLine, number
 from .packets import Packet
 
-MOST_TICKS = 900_000  # maximum duration of a group in ticks (10 seconds)
+MAX_GROUP_TICKS = 900_000  # maximum duration of a group in ticks (10 seconds)
 VIDEO = 0xE0  # stream_id of video; the lower four bits may differ
 MPEG, H264, HEVC = (1, 2), 0x1B, 0x24  # values of stream_type in a PMT
 GROUP, PICTURE = 0xB8, 0  # start codes
@@ -28,7 +28,7 @@ def has_times(header: bytes) -> bool:
     return len(header) > 8 and len(header) >= {2: 14, 3: 19}.get(header[7] >> 6, 9)
 
 
-def form_of(kind: int, data: bytes) -> str | None:
+def find_picture_form(kind: int, data: bytes) -> str | None:
     """Return the form of a group of pictures: `open`, `closed` or `unknown`.
 
     `data` is from the first picture of the group. Return `None` if more of it is needed.
@@ -53,8 +53,9 @@ def form_of(kind: int, data: bytes) -> str | None:
 class Video:
     """Collects the output lines of `survey` for a PID with video."""
 
-    def __init__(self, pid: int, say: Say, pmt_entries: dict[int, tuple[int, int]]) -> None:
-        self.pid, self.say, self.pmt_entries = pid, say, pmt_entries
+    def __init__(self, pid: int, line_printer: PrintLine,
+                 pmt_entries: dict[int, tuple[int, int]]) -> None:
+        self.pid, self.print_line, self.pmt_entries = pid, line_printer, pmt_entries
         self.stretch = Stretch(None)
         self.header: bytes | None = None  # incomplete PES header of a picture
         self.is_flagged = False  # whether random_access_indicator precedes the next picture
@@ -69,7 +70,7 @@ class Video:
         self.lost = self.scrambled = 0
         self.kind = 0
         self.first: bytes | None = None  # payload of the group's first picture
-        self.header_left = 0  # bytes of the first picture's PES header that are still missing
+        self.header_bytes_left = 0  # bytes of the first picture's PES header that are still missing
         self.form: str | None = None
 
     @property
@@ -86,7 +87,7 @@ class Video:
             self.stretch.has_repeat = True
         else:
             self.count_lost(packet)
-            self.take_payload(packet)
+            self.read_payload(packet)
 
     def count_lost(self, packet: Packet) -> None:
         """Count lost TS packets. A loss also ends an incomplete header."""
@@ -98,10 +99,10 @@ class Video:
         self.scrambled += self.is_in_group and packet.is_scrambled
         self.stretch = Stretch(packet)
 
-    def take_payload(self, packet: Packet) -> None:
+    def read_payload(self, packet: Packet) -> None:
         if packet.begins:
             self.is_next_flagged = self.is_flagged or packet.is_random_access
-            self.first, self.is_flagged, self.header_left = None, False, 0
+            self.first, self.is_flagged, self.header_bytes_left = None, False, 0
             self.header = None if packet.is_wrong else b""
             if packet.is_scrambled and self.begin(None, None):
                 self.first = b""
@@ -111,8 +112,8 @@ class Video:
             self.header += packet.payload
             self.read_header(self.header)
         elif self.first is not None:
-            self.read_first(packet.payload[self.header_left:])
-            self.header_left = max(0, self.header_left - len(packet.payload))
+            self.read_first(packet.payload[self.header_bytes_left:])
+            self.header_bytes_left = max(0, self.header_bytes_left - len(packet.payload))
 
     def read_header(self, data: bytes) -> None:
         """Begin a picture when its header is complete up to its PTS and DTS."""
@@ -126,14 +127,14 @@ class Video:
         self.header = None
         if self.begin(pts, decoding):
             self.first = b""
-            self.header_left = max(0, 9 + data[8] - len(data))
+            self.header_bytes_left = max(0, 9 + data[8] - len(data))
             self.read_first(data[9 + data[8]:])
 
     def read_first(self, data: bytes) -> None:
         """Process more bytes of the first picture in the group."""
         assert self.first is not None
         self.first += data
-        self.form = self.form or form_of(self.kind, self.first)
+        self.form = self.form or find_picture_form(self.kind, self.first)
 
     def begin(self, pts: int | None, decoding: int | None) -> bool:
         """Begin a picture. Return whether it is the first picture of the group."""
@@ -142,10 +143,10 @@ class Video:
         is_first = self.is_next_flagged and not self.has_begun
         self.count += 1
         if is_first:
-            self.say(f"video {self.pid} {self.passed}")
+            self.print_line(f"video {self.pid} {self.passed}")
             self.has_begun, self.flagged = True, pts
             self.kind = self.pmt_entries[self.pid][1]
-            self.form = form_of(self.kind, b"")  # known without data for H.264
+            self.form = find_picture_form(self.kind, b"")  # known without data for H.264
         self.passed += not self.has_begun
         if decoding is not None:
             self.decoding, self.number = decoding, self.count
@@ -154,20 +155,20 @@ class Video:
         return is_first
 
     def add(self, pts: int | None) -> None:
-        self.say(f"picture {self.pid} {number(pts)}")
+        self.print_line(f"picture {self.pid} {number(pts)}")
         if pts is None:
             return
-        later = 0 if self.least is None else ticks_between(self.least, pts)
-        if later > MOST_TICKS:
+        later = 0 if self.least is None else subtract_pts(self.least, pts)
+        if later > MAX_GROUP_TICKS:
             self.end_group()
         elif self.least is None or later < 0:
             self.least = pts
 
     def end_group(self, more: str = "") -> None:
         if self.has_begun:
-            self.say(f"group {self.pid} {number(self.flagged)} {number(self.least)} "
-                     f"{self.form or 'unknown'}")
-        self.say(f"pictures {self.pid} {self.lost} {self.scrambled}{more}")
+            self.print_line(f"group {self.pid} {number(self.flagged)} {number(self.least)} "
+                            f"{self.form or 'unknown'}")
+        self.print_line(f"pictures {self.pid} {self.lost} {self.scrambled}{more}")
         self.has_ended = True
 
     def end(self) -> None:

@@ -17,7 +17,7 @@ from subtitles.formats.teletext import START, Page, page_name
 from .tables import cached_crc
 
 FULL = PACKET - 4
-BEGINS, RANDOM_ACCESS, PCR_FLAG = 0x40, 0x40, 0x10
+PAYLOAD_START, RANDOM_ACCESS, PCR_FLAG = 0x40, 0x40, 0x10
 MPEG_1, MPEG_2, H264, HEVC = 0x01, 0x02, 0x1B, 0x24  # stream_type
 NO_PCR, FIRST_PCR = 0x1FFF, 0x11F  # PCR_PIDs; the second is used by the first programme
 NULL = bytes([SYNC, 0x1F, 0xFF, 0x10]).ljust(PACKET, b"\xff")
@@ -44,7 +44,7 @@ class Multiplex:
                 body = bytes([flags | PCR_FLAG]) + (pcr << 15 | 0x7E00).to_bytes(6, "big")
             field = bytes([room]) + body.ljust(room, b"\xff")[:room]
         control = (0x10 if payload else 0) | (0x20 if field else 0)
-        head = bytes([SYNC, BEGINS * begins | pid >> 8, pid & 255, control | counter])
+        head = bytes([SYNC, PAYLOAD_START * begins | pid >> 8, pid & 255, control | counter])
         self.counters[pid] = (counter + (payload != b"")) % 16
         self.units.append(Unit(head + field + payload, 0))
 
@@ -63,10 +63,10 @@ class Multiplex:
         data, starts = b"\xff" * self.chance.choice([0, 0, 0, 0, 5, 170]), []
         for section in self.chance.choice([[0], [0], [0], [1], [1, 0]]):
             is_current = self.chance.random() < 0.97
-            made = struct.pack(">BHHBBB", table, 0xB000 | len(body) + 9, number,
-                               0xC0 | version << 1 | is_current, section, section) + body
+            result = struct.pack(">BHHBBB", table, 0xB000 | len(body) + 9, number,
+                                 0xC0 | version << 1 | is_current, section, section) + body
             starts.append(len(data))
-            data += made + cached_crc(made).to_bytes(4, "big")
+            data += result + cached_crc(result).to_bytes(4, "big")
         while data:
             pointer = bytes([start for start in starts if 0 <= start < FULL - 1][:1])
             size = FULL - len(pointer)
@@ -74,22 +74,22 @@ class Multiplex:
             data, starts = data[size:], [start - size for start in starts]
 
 
-def random_descriptors(chance: Random, announces: bool) -> bytes:
-    """Return random descriptors. If `announces` is set, some announce Teletext pages."""
-    made = b""
+def make_random_descriptors(chance: Random, has_pmt: bool) -> bytes:
+    """Return random descriptors. If `has_pmt` is set, some announce Teletext pages."""
+    result = b""
     for _ in range(chance.choice([0, 0, 1, 2])):
-        made += bytes([chance.choice([0x0A, 0x52, 0x59]), 4]) + chance.randbytes(4)
-    for _ in range(chance.choice([1, 1, 2]) if announces else 0):
+        result += bytes([chance.choice([0x0A, 0x52, 0x59]), 4]) + chance.randbytes(4)
+    for _ in range(chance.choice([1, 1, 2]) if has_pmt else 0):
         pages = b"".join(
             bytes(chance.choices(b"engdufra", k=3)) + bytes([chance.randrange(256), page])
             for page in chance.choices([0x88, 0x77, 0x99, 0x00], k=chance.choice([1, 1, 2, 5])))
         pages += b"x" * chance.choice([0, 0, 0, 1, 4])
         more = chance.choice([0] * 30 + [5, 9])  # bytes that the descriptor claims beyond its end
-        made += bytes([chance.choice([0x56, 0x56, 0x46]), len(pages) + more]) + pages
-    return made
+        result += bytes([chance.choice([0x56, 0x56, 0x46]), len(pages) + more]) + pages
+    return result
 
 
-def random_header(chance: Random, page: Page) -> bytes:
+def make_random_page_header(chance: Random, page: Page) -> bytes:
     numbers = [page[1] & 15, page[1] >> 4, chance.choice([0, 0, 3]), 8, chance.choice([0, 0, 2]),
                8, 1, 0]
     if chance.random() < 0.4:
@@ -98,22 +98,22 @@ def random_header(chance: Random, page: Page) -> bytes:
     return teletext_packet(page[0], 0, numbers, [0x20] * 32)
 
 
-def random_teletext(chance: Random, is_busy: bool) -> list[bytes]:
+def make_random_teletext(chance: Random, is_busy: bool) -> list[bytes]:
     """Return random Teletext packets with bits in the order of EN 300 706."""
-    made: list[bytes] = []
+    result: list[bytes] = []
     for _ in range(chance.choice([0, 1, 1, 2, 3]) if is_busy else chance.choice([0, 1])):
         page = chance.choice(PAGES) if chance.random() < 0.6 else PAGES[0]
-        made.append(random_header(chance, page))
+        result.append(make_random_page_header(chance, page))
         for _ in range(chance.choice([0, 1, 2, 4]) if is_busy else 0):
             number = chance.choice([20, 21, 22, 24, 1, 25, 26, 27, 28, 28, 29])
             magazine = page[0] if chance.random() < 0.8 else chance.randrange(8)
             if number > 25:
-                made.append(enhancement(chance, magazine, number))
+                result.append(make_enhancement_packet(chance, magazine, number))
             else:
-                made.append(teletext_packet(magazine, number, (), chance.choice(
+                result.append(teletext_packet(magazine, number, (), chance.choice(
                     [[0x20] * 40, [0x41] * 40, chance.choices(range(128), k=40)])))
     return [with_wrong_bits(chance, data, [0, 1, 2, 9, chance.randrange(42)])
-            if chance.random() < 0.1 else data for data in made]
+            if chance.random() < 0.1 else data for data in result]
 
 
 def with_wrong_bits(chance: Random, data: bytes, places: list[int]) -> bytes:
@@ -123,7 +123,7 @@ def with_wrong_bits(chance: Random, data: bytes, places: list[int]) -> bytes:
     return bytes(changed)
 
 
-def enhancement(chance: Random, magazine: int, number: int) -> bytes:
+def make_enhancement_packet(chance: Random, magazine: int, number: int) -> bytes:
     """Return a packet X/26 to X/29. Only the first triplet of these packets is read."""
     first = encode_triplet(chance.choice([0, 0, 0x2380, 0x3FF0, chance.randrange(1 << 18)]))
     data = teletext_packet(magazine, number, [chance.choice([0, 0, 4, 1, 15])], [])
@@ -131,7 +131,7 @@ def enhancement(chance: Random, magazine: int, number: int) -> bytes:
     return with_wrong_bits(chance, data, [3, 4, 5]) if chance.random() < 0.5 else data
 
 
-def teletext_pes(chance: Random, pts: int, packets: list[bytes]) -> bytes:
+def make_teletext_pes(chance: Random, pts: int, packets: list[bytes]) -> bytes:
     """Return a PES packet with Teletext, sometimes with a fault."""
     data = make_pes_packet(wrap_pts(pts), packets) + bytes(chance.choice([0] * 60 + [20, 184]))
     if chance.random() < 0.02:
@@ -149,7 +149,7 @@ def teletext_pes(chance: Random, pts: int, packets: list[bytes]) -> bytes:
 # begins.
 BEFORE_PICTURE = {MPEG_1: [0xB3, 0xB2, 0xB8], MPEG_2: [0xB3, 0xB5, 0xB2, 0xB8], H264: [0x09],
                   HEVC: [0x46, 0x40, 0x42, 0x44, 0x4E]}
-OF_PICTURE = {MPEG_1: [0], MPEG_2: [0], H264: [0x65], HEVC: [2 * unit for unit in (
+PICTURE_UNITS = {MPEG_1: [0], MPEG_2: [0], H264: [0x65], HEVC: [2 * unit for unit in (
     0, 1, 8, 16, 17, 18, 19, 20, 21, 22)]}
 
 
@@ -159,8 +159,8 @@ def time_bytes(prefix: int, ticks: int) -> bytes:
     return bytes([data[0] & 0x0F | prefix << 4]) + data[1:]
 
 
-def picture_pes(chance: Random, kind: int, pts: int, dts: int, is_first: bool, is_odd: bool
-                ) -> bytes:
+def make_picture_pes(chance: Random, kind: int, pts: int, dts: int, is_first: bool, is_odd: bool
+                     ) -> bytes:
     """Return a PES packet with one or two pictures. If `is_odd`, change its start or its header."""
     head = b"\0\0\1\xe0\0\0\x84\xc0\x0a" + time_bytes(3, pts) + time_bytes(1, dts)
     if dts == pts and chance.random() < 0.9:
@@ -175,14 +175,14 @@ def picture_pes(chance: Random, kind: int, pts: int, dts: int, is_first: bool, i
     codes = [code for code in BEFORE_PICTURE[kind] if is_first and chance.random() < 0.8]
     next_codes = BEFORE_PICTURE[kind] if chance.random() < 0.3 else []
     if not is_odd:
-        codes.append(chance.choice(OF_PICTURE[kind]))
+        codes.append(chance.choice(PICTURE_UNITS[kind]))
     for code in codes + next_codes:
         head += b"\0" * chance.choice([2, 2, 3]) + bytes([1, code]) \
             + chance.randbytes(chance.choice([4, 8, 60, 200]))
     return head
 
 
-JUMPS = [90_000, -90_000, 3600, -3600, 400_000, 1 << 31, -900_000, 20_000]
+PTS_JUMPS = [90_000, -90_000, 3600, -3600, 400_000, 1 << 31, -900_000, 20_000]
 TimeJumps = list[tuple[int, int]]  # time and size of each jump in ticks
 Event = tuple[int, Callable[[], None]]  # transmission time, and function that sends a packet
 
@@ -195,7 +195,7 @@ class Programme:
         self.chance, self.mux, self.number, self.length = chance, mux, number, length
         self.pmt_pid, first, self.version = 0x20 + number, 0x100 + 16 * number, 0
         self.origin = chance.choice([900_000, CLOCK - 200_000, chance.randrange(CLOCK)])
-        self.jumps = self.random_jumps(JUMPS, chance.choice([0, 0, 0, 1, 2, 5]))
+        self.jumps = self.make_random_jumps(PTS_JUMPS, chance.choice([0, 0, 0, 1, 2, 5]))
         self.events: list[Event] = []
         self.streams: list[tuple[int, int, bool]] = []  # stream_type, PID, whether it is announced
         videos, teletexts = chance.choice([0, 1, 1, 1, 2]), chance.choice([0, 1, 1, 1, 2, 3])
@@ -206,14 +206,15 @@ class Programme:
         for at in range(min(teletexts, 1) if is_small else teletexts):
             self.add_teletext(first + 8 + at)
         if chance.random() < 0.3:
-            self.add_other(first + 14)
+            self.add_other_stream(first + 14)
         if self.clock == own:
             self.each(chance.choice([600, 1800, 3600, 9000, 20_000]), lambda _, time: (
-                mux.send(self.clock, bytes(chance.choice([0, 0, 10, 177])), pcr=self.pcr_at(time))))
-        self.events += [(at, self.splice) for at, _ in self.jumps]
+                mux.send(self.clock, bytes(chance.choice([0, 0, 10, 177])),
+                         pcr=self.compute_pcr(time))))
+        self.events += [(at, self.insert_jump) for at, _ in self.jumps]
         self.change_pmt()
 
-    def splice(self) -> None:
+    def insert_jump(self) -> None:
         """Change continuity counters, announce some of the changes, and lose TS packets nearby."""
         chance, mux = self.chance, self.mux
         for pid in [self.clock, *[pid for _, pid, _ in self.streams]]:
@@ -225,7 +226,7 @@ class Programme:
                     mux.units[-1] = corrupt_unit(chance, mux.units[-1])
         mux.losses.append(len(mux.units) + chance.randrange(-9, 6))
 
-    def random_jumps(self, ticks: list[int], count: int) -> TimeJumps:
+    def make_random_jumps(self, ticks: list[int], count: int) -> TimeJumps:
         return [(self.chance.randrange(self.chance.choice([self.length, 9000])),
                  self.chance.choice(ticks)) for _ in range(count)]
 
@@ -239,25 +240,25 @@ class Programme:
         return self.origin + time + sum(jump for at, jump in self.jumps + (more or [])
                                         if at <= time)
 
-    def pcr_at(self, time: int) -> int:
+    def compute_pcr(self, time: int) -> int:
         return wrap_pts(self.ticks(time) - 9000)
 
     def add_video(self, pid: int) -> None:
         chance, mux = self.chance, self.mux
-        kind = chance.choice(list(OF_PICTURE))
+        kind = chance.choice(list(PICTURE_UNITS))
         self.streams.append((kind, pid, False))
         step, group = chance.choice([3600, 3600, 3003, 1800, 40_000]), chance.choice([5, 12, 400])
         late, odd = chance.choice([0, 0, 1, 2]), chance.choice([0, 0, 0, 0.1, 0.1, 1])
         sizes = chance.choice([(FULL,), (FULL,), (FULL, FULL, 5, 12, 100)])
         lead, flagged = chance.choice([0, 0, 18_000]), chance.choice([1, 1, 0.5, 0.3])
-        jumps = self.random_jumps([3600, -3600, 180_000, 1], chance.choice([0, 0, 1]))
+        jumps = self.make_random_jumps([3600, -3600, 180_000, 1], chance.choice([0, 0, 1]))
 
         def send(number: int, time: int) -> None:
             is_first, dts = number % group == 0, self.ticks(time, jumps)
             pts = dts + lead + (late + 1) * step * (late > 0 and number % (late + 1) == 0)
-            data = picture_pes(chance, kind, pts, dts, is_first, chance.random() < odd)
+            data = make_picture_pes(chance, kind, pts, dts, is_first, chance.random() < odd)
             is_flagged = is_first and chance.random() < flagged or chance.random() < odd / 5
-            pcr = self.pcr_at(time) if pid == self.clock else None
+            pcr = self.compute_pcr(time) if pid == self.clock else None
             mux.send_pes(pid, data, RANDOM_ACCESS * is_flagged, pcr, sizes)
         self.each(step, send)
 
@@ -268,19 +269,19 @@ class Programme:
             self.streams.append((6, pid, is_announced))
         delay = chance.choice([0, 9000, -20_000])
         sizes = chance.choice([(FULL,), (FULL, 5, 12, 100)])
-        same = random_teletext(chance, True)
+        same = make_random_teletext(chance, True)
 
         def send(_: int, time: int) -> None:
             nonlocal same
             if chance.random() < (0.5 if is_busy else 0.05):
-                same = random_teletext(chance, is_busy)
+                same = make_random_teletext(chance, is_busy)
             jitter = chance.choice([0, 0, 1, -900]) if chance.random() < 0.1 else 0
-            data = teletext_pes(chance, self.ticks(time) + delay + jitter,
-                                same if chance.random() < 0.7 else [])
+            data = make_teletext_pes(chance, self.ticks(time) + delay + jitter,
+                                     same if chance.random() < 0.7 else [])
             mux.send_pes(pid, data, sizes=sizes)
         self.each(chance.choice([3600, 3600, 1800, 7200, 90_000]), send, chance.choice([0, 700]))
 
-    def add_other(self, pid: int) -> None:
+    def add_other_stream(self, pid: int) -> None:
         """Add a PID without Teletext, or with Teletext that is not announced."""
         chance, mux = self.chance, self.mux
         if chance.random() < 0.7:
@@ -295,18 +296,18 @@ class Programme:
     def change_pmt(self) -> None:
         """Make a new version of the PMT."""
         self.version = (self.version + 1) % 32
-        info = random_descriptors(self.chance, False)
+        info = make_random_descriptors(self.chance, False)
         clock = self.clock if self.chance.random() < 0.9 else FIRST_PCR
         self.pmt = struct.pack(">HH", 0xE000 | clock, 0xF000 | len(info)) + info
         for kind, pid, is_announced in self.streams:
             if self.chance.random() < 0.15:
                 continue
             kind = kind if self.chance.random() < 0.8 else 6
-            more = random_descriptors(self.chance, is_announced)
+            more = make_random_descriptors(self.chance, is_announced)
             self.pmt += struct.pack(">BHH", kind, 0xE000 | pid, 0xF000 | len(more)) + more
 
 
-def random_units(chance: Random) -> list[Unit]:
+def make_random_units(chance: Random) -> list[Unit]:
     """Return the TS packets of random programmes."""
     mux = Multiplex(chance)
     count, length = chance.choice([
@@ -320,13 +321,15 @@ def random_units(chance: Random) -> list[Unit]:
         if chance.random() < 0.2:
             chance.choice(programmes).change_pmt()
         mux.send_sections(0, 0, 1, 0, b"".join(
-            struct.pack(">HH", one.number, 0xE000 | one.pmt_pid) for one in programmes))
-        for one in programmes:
-            mux.send_sections(one.pmt_pid, 2, one.number, one.version, one.pmt)
+            struct.pack(">HH", programme.number, 0xE000 | programme.pmt_pid)
+            for programme in programmes))
+        for programme in programmes:
+            mux.send_sections(programme.pmt_pid, 2, programme.number, programme.version,
+                              programme.pmt)
 
     first, step = chance.choice([0, 0, 1, 9000]), chance.choice([9000, 45_000])
     events: list[Event] = [(time, send_tables) for time in range(first, length, step)]
-    events += [event for one in programmes for event in one.events]
+    events += [event for programme in programmes for event in programme.events]
     for _, event in sorted(events, key=lambda event: event[0]):
         event()
     for at in reversed(mux.losses):
@@ -334,14 +337,14 @@ def random_units(chance: Random) -> list[Unit]:
     return mux.units
 
 
-def pid_of(unit: Unit) -> int:
+def read_unit_pid(unit: Unit) -> int:
     return int.from_bytes(unit.packet[1:3], "big") & 0x1FFF
 
 
 def announce_jump(chance: Random, units: list[Unit]) -> None:
     """Announce a jump of a PID's continuity counter in one or two TS packets next to the jump."""
     at, more = choose_packet(chance, units), chance.choice([0, 1, 5])
-    pid = pid_of(units[at])
+    pid = read_unit_pid(units[at])
     announcing = bytearray(make_packet_without_payload(chance, pid, True))
     if units[at].packet[3] & 0x20 and units[at].packet[4] and chance.random() < 0.5:
         announcing = bytearray(units[at].packet)  # the same TS packet with the announcement
@@ -354,7 +357,7 @@ def announce_jump(chance: Random, units: list[Unit]) -> None:
         [announcement], [announcement, unit], [announcement] * 2, [unit, announcement, unit]])
     for place in range(at + 1, len(units)):
         data = units[place].packet
-        if is_packet(units[place]) and pid_of(units[place]) == pid:
+        if is_packet(units[place]) and read_unit_pid(units[place]) == pid:
             data = data[:3] + bytes([data[3] & 0xF0 | (data[3] + more) % 16]) + data[4:]
             units[place] = Unit(data, 0)
 
@@ -373,26 +376,26 @@ class Recording(NamedTuple):
         return [str(word) for option in given.items() if option[1] is not None for word in option]
 
 
-def random_pes_file(chance: Random) -> bytes:
+def make_random_pes_file(chance: Random) -> bytes:
     """Return a random file of PES packets and gap markers."""
     data, pts = b"", chance.choice([0, CLOCK - 20_000])
-    same = random_teletext(chance, True)
+    same = make_random_teletext(chance, True)
     for _ in range(chance.choice([0, 1, 5, 40])):
         pts += chance.choice([3600, 3600, 3600, 1800, 0, -900])
-        same = random_teletext(chance, True) if chance.random() < 0.3 else same
-        data += teletext_pes(chance, pts, same if chance.random() < 0.8 else [])
+        same = make_random_teletext(chance, True) if chance.random() < 0.3 else same
+        data += make_teletext_pes(chance, pts, same if chance.random() < 0.8 else [])
     data += make_random_bytes(chance, chance.choice([0, 0, 0, 5, 20]))
     return START + (data[4:] or b"\0\xb2") if chance.random() < 0.9 else \
         data[:chance.randrange(len(data) + 1)]
 
 
-def random_recording(seed: int) -> Recording:
+def make_random_recording(seed: int) -> Recording:
     chance = Random(f"survey {seed}")
     page = chance.choice(PAGES[2:5]) if chance.random() < 0.2 else PAGES[0]
     if chance.random() < 0.15:
-        return Recording(random_pes_file(chance), page)
-    units, size = random_units(chance), chance.choice(SIZES)
-    pid = pid_of(chance.choice(units)) if units and chance.random() < 0.1 else None
+        return Recording(make_random_pes_file(chance), page)
+    units, size = make_random_units(chance), chance.choice(SIZES)
+    pid = read_unit_pid(chance.choice(units)) if units and chance.random() < 0.1 else None
     for _ in range(chance.choice([0, 1, 3, 10, 20, 40, 60])):
         if any(map(is_packet, units)):
             if chance.random() < 0.75:

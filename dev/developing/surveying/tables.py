@@ -10,7 +10,7 @@ from .packets import Packet
 
 PAT, PMT = 0, 2  # table_id
 CURRENT = 1  # current_next_indicator
-ANNOUNCING = 0x56, 0x46  # tags of Teletext descriptors
+TELETEXT_TAGS = 0x56, 0x46  # tags of Teletext descriptors
 cached_crc = lru_cache(256)(compute_crc)
 
 
@@ -62,7 +62,7 @@ class Sections:
                 yield section
 
 
-def pids_in(section: bytes) -> Iterator[int]:
+def list_section_pids(section: bytes) -> Iterator[int]:
     """Yield the PMT PIDs in a section of the PAT."""
     body = section[8:-4]
     for at in range(0, len(body) - 3, 4):
@@ -70,20 +70,20 @@ def pids_in(section: bytes) -> Iterator[int]:
             yield int.from_bytes(body[at + 2:at + 4], "big") & 0x1FFF
 
 
-def announced_by(descriptors: bytes) -> Iterator[str]:
+def list_announced_pages(descriptors: bytes) -> Iterator[str]:
     """Yield the pages announced in the descriptors of a stream, formatted for output."""
     at = 0
     while at + 2 <= len(descriptors):
         tag, length = descriptors[at:at + 2]
         body = descriptors[at + 2:at + 2 + length]
-        if tag in ANNOUNCING:
+        if tag in TELETEXT_TAGS:
             for place in range(0, len(body) - 4, 5):
                 language, kind, page = body[place:place + 3], body[place + 3], body[place + 4]
                 yield f"{page_name(kind & 7, page)} {language.hex()} {kind >> 3}"
         at += 2 + length
 
 
-def programme_of(section: bytes) -> Programme | None:
+def read_programme(section: bytes) -> Programme | None:
     """Return the programme in a section of a PMT, or `None` if the section is too short."""
     body = section[8:-4]
     if len(body) < 4:
@@ -94,6 +94,6 @@ def programme_of(section: bytes) -> Programme | None:
     while at + 5 <= len(body):
         kind, pid = body[at], int.from_bytes(body[at + 1:at + 3], "big") & 0x1FFF
         end = at + 5 + (int.from_bytes(body[at + 3:at + 5], "big") & 0xFFF)
-        streams.append(Stream(pid, kind, list(announced_by(body[at + 5:end]))))
+        streams.append(Stream(pid, kind, list(list_announced_pages(body[at + 5:end]))))
         at = end
     return Programme(number, clock & 0x1FFF, streams)

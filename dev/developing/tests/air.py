@@ -12,7 +12,7 @@ from unittest import mock
 
 from subtitles.air import judge, main
 from subtitles.air.check import Outcome
-from subtitles.air.segments import Unbroken, segment_name
+from subtitles.air.segments import UnbrokenRun, make_segment_name
 from subtitles.request.lines import read_options
 from subtitles.request.request import Request
 from subtitles.results.files import make_unjudged
@@ -20,10 +20,10 @@ from .bench import Case
 
 DAY = 1_796_112_000.0  # 2026-12-01T08:00:00Z
 LENGTH = 10  # length of a segment in seconds
-MARGIN = 60
+MARGIN_SECONDS = 60
 
 
-class Sent(NamedTuple):
+class SentProgramme(NamedTuple):
     """A programme's actual air times, and whether its subtitles are correct."""
 
     begin: float
@@ -34,18 +34,19 @@ class Sent(NamedTuple):
 class FakeChecker:
     """A checker that knows which programmes are on air, and returns the expected outcomes."""
 
-    def __init__(self, sent: dict[str, Sent], fails: Callable[[], bool] = lambda: False) -> None:
+    def __init__(self, sent: dict[str, SentProgramme],
+                 fails: Callable[[], bool] = lambda: False) -> None:
         self.sent, self.fails, self.work, self.calls = sent, fails, os.devnull, list[str]()
 
-    def check(self, _: Request, name: str, begin: float, stretch: Unbroken) -> Outcome:
+    def check(self, _: Request, name: str, begin: float, stretch: UnbrokenRun) -> Outcome:
         self.calls.append(name)
         if self.fails():
             return Outcome(None, "the machine failed")
         sent = self.sent.get(name)
-        first, last = max(stretch.begin, begin - MARGIN) - DAY, stretch.end - DAY
+        first, last = max(stretch.begin, begin - MARGIN_SECONDS) - DAY, stretch.end - DAY
         if sent is None or sent.begin >= last or sent.end <= first:
             return outcome(name, "not judged", "no cue agrees")
-        if sent.begin > begin - DAY + MARGIN:
+        if sent.begin > begin - DAY + MARGIN_SECONDS:
             return outcome(name, "not judged", "it began later")
         if sent.is_right and sent.begin >= first and sent.end <= last:
             return outcome(name, "relative", "relative 1500 frames")
@@ -64,7 +65,7 @@ def outcome(name: str, verdict: str, reason: str) -> Outcome:
                    reason)
 
 
-class Air(Case):
+class AirCase(Case):
     """A test case with a schedule, segments and results in its folder."""
 
     def setUp(self) -> None:
@@ -79,16 +80,16 @@ class Air(Case):
     def args(self, *more: str) -> argparse.Namespace:
         """Return parsed arguments for `tools/air judge`."""
         line = [self.path("schedule"), self.path("segments"), "-o", self.path("out"), "--margin",
-                f"{MARGIN}", "-p", "/bin/true", *more]
-        return read_options(main.judge_parser(), line, {}, {})
+                f"{MARGIN_SECONDS}", "-p", "/bin/true", *more]
+        return read_options(main.make_judge_parser(), line, {}, {})
 
     def make_judge(self, checker: FakeChecker, *more: str) -> judge.Judge:
         """Return a judge that uses a fake checker and does not monitor disks."""
-        made = judge.Judge(self.args(*more), "qc")
-        made.checker = checker  # type: ignore
-        made.monitor.look = lambda *_: None  # type: ignore
-        made.monitor.free = [1 << 40]
-        return made
+        result = judge.Judge(self.args(*more), "qc")
+        result.checker = checker  # type: ignore
+        result.monitor.look = lambda *_: None  # type: ignore
+        result.monitor.free = [1 << 40]
+        return result
 
     def write_schedule(self, *lines: str) -> None:
         self.write("schedule", "".join(f"{line}\n" for line in lines).encode())
@@ -96,7 +97,7 @@ class Air(Case):
     def put_segment(self, begin: float, end: float, data: bytes = b"", is_new: bool = False
                     ) -> str:
         """Write a segment that lasts from `begin` to `end`. Return its path."""
-        path = self.path(f"segments/{segment_name(DAY + begin, is_new)}")
+        path = self.path(f"segments/{make_segment_name(DAY + begin, is_new)}")
         with open(path, "wb") as file:
             file.write(data or b"." * max(int(end - begin), 1))
         os.utime(path, (DAY + end, DAY + end))
@@ -114,8 +115,8 @@ class Air(Case):
         return {name: str(self.result(name)["verdict"]) for name in names if name != "state"}
 
     def result(self, name: str) -> dict[str, Any]:
-        found: dict[str, Any] = json.loads(self.read(f"out/{name}.json"))
-        return found
+        values: dict[str, Any] = json.loads(self.read(f"out/{name}.json"))
+        return values
 
     def delete_all(self, *folders: str) -> None:
         for folder in folders:

@@ -23,17 +23,19 @@ from typing import Any, Callable, Mapping, NamedTuple, NoReturn, Sequence, Tuple
 
 from developing import DEV, TOOLS
 from subtitles.common.program import TOP, find_built_program
-from .failures import Mismatch, calling_frame, comparison, explained, lines_of, place_of, shortened
+from .failures import (
+    Mismatch, explain_condition, find_calling_frame, format_comparison, format_place_of, list_lines,
+    shorten_lines)
 
 EXAMPLES = os.path.join(TOP, "examples")
-MAX_OF_NAME = 160  # maximum number of characters of a check's name in a message
+MAX_NAME_LENGTH = 160  # maximum number of characters of a check's name in a message
 SECONDS = 600  # time limit for a command or a wait, in seconds
 
 
 Row = Tuple[Tuple[Any, ...], object]  # arguments, and the expected value
 
 
-class Done(NamedTuple):
+class CompletedCall(NamedTuple):
     """The exit status, standard output and standard error of a finished command."""
 
     status: int
@@ -56,7 +58,7 @@ class Bench:
             self.chosen = os.path.realpath(find_built_program(None))
         return self.chosen
 
-    def make_top(self) -> str:
+    def make_project_copy(self) -> str:
         """Create the folder for all tests, readable by other users, unless it exists. Return it."""
         if not self.folder:
             self.folder = tempfile.mkdtemp()
@@ -66,9 +68,9 @@ class Bench:
 
     def make_folder(self, name: str) -> str:
         """Create a folder for one test, and return its path."""
-        made = os.path.join(self.make_top(), name)
-        os.mkdir(made)
-        return made
+        result = os.path.join(self.make_project_copy(), name)
+        os.mkdir(result)
+        return result
 
 
 BENCH = Bench()
@@ -88,21 +90,23 @@ class Case(unittest.TestCase):
         """
         with self.subTest(name):
             if not is_right:
-                frame = calling_frame()
-                parts = [f"{name[:MAX_OF_NAME]}\n  {place_of(frame)}", explained(frame)]
-                parts += [f"  found:    {shortened(lines_of(told))}"] * (told != "")
+                frame = find_calling_frame()
+                parts = [f"{name[:MAX_NAME_LENGTH]}\n  {format_place_of(frame)}",
+                         explain_condition(frame)]
+                parts += [f"  found:    {shorten_lines(list_lines(told))}"] * (told != "")
                 raise Mismatch("\n".join(filter(None, parts)))
         return bool(is_right)
 
-    def check(self, name: str, found: object, expected: object) -> bool:
+    def check(self, name: str, result: object, expected: object) -> bool:
         """Check that two values are equal. Continue after a failure."""
         with self.subTest(name):
-            if found != expected:
-                raise Mismatch(f"{name[:MAX_OF_NAME]}\n  {place_of(calling_frame())}\n"
-                               f"{comparison(found, expected)}")
-        return found == expected
+            if result != expected:
+                raise Mismatch(f"{name[:MAX_NAME_LENGTH]}\n  "
+                               f"{format_place_of(find_calling_frame())}\n"
+                               f"{format_comparison(result, expected)}")
+        return result == expected
 
-    def check_each(self, function: Callable[..., object], rows: Mapping[str, Row]) -> None:
+    def check_rows(self, function: Callable[..., object], rows: Mapping[str, Row]) -> None:
         """Call a function with the arguments in each named row, and check its return values."""
         for name, (arguments, expected) in rows.items():
             self.check(f"{name}: {getattr(function, '__name__', 'call')}"
@@ -130,27 +134,28 @@ class Case(unittest.TestCase):
             return file.read()
 
     def call(self, command: Sequence[str], data: bytes | None = None,
-             env: dict[str, str] | None = None, user: int | None = None, folder: str = "") -> Done:
+             env: dict[str, str] | None = None, user: int | None = None,
+             folder: str = "") -> CompletedCall:
         """Run a command in the test's folder or in a folder within it.
 
         Python tools run in a fork of this process, unless `env` or `user` is given.
         """
-        does = forked_tool(command) if env is None and user is None else None
-        done = subprocess.run(command, cwd=os.path.join(self.folder, folder), check=False,
-                              stdout=subprocess.PIPE, stderr=subprocess.PIPE, timeout=SECONDS,
-                              input=data or b"", env=env, user=user, preexec_fn=does)
-        return Done(done.returncode, done.stdout,
-                    done.stderr.decode("utf-8", "surrogateescape").splitlines())
+        does = find_forked_tool(command) if env is None and user is None else None
+        process = subprocess.run(command, cwd=os.path.join(self.folder, folder), check=False,
+                                 stdout=subprocess.PIPE, stderr=subprocess.PIPE, timeout=SECONDS,
+                                 input=data or b"", env=env, user=user, preexec_fn=does)
+        return CompletedCall(process.returncode, process.stdout,
+                             process.stderr.decode("utf-8", "surrogateescape").splitlines())
 
-    def tool(self, name: str, *words: str, data: bytes | None = None) -> Done:
-        return self.call([tool_path(name), *words], data)
+    def tool(self, name: str, *args: str, data: bytes | None = None) -> CompletedCall:
+        return self.call([get_tool_path(name), *args], data)
 
-    def program(self, *words: str) -> tuple[int, list[str]]:
+    def program(self, *args: str) -> tuple[int, list[str]]:
         """Run the program under test. Return its exit status and output lines."""
-        done = self.call([self.bench.program, *words])
-        return done.status, done.out.decode().splitlines()
+        process = self.call([self.bench.program, *args])
+        return process.status, process.out.decode().splitlines()
 
-    def program_but(self, when: str, does: str) -> str:
+    def make_program_with_exception(self, when: str, does: str) -> str:
         """Write a script that runs a shell command, then the program under test. Return its path.
 
         The command `does` runs only if the script's arguments match the shell pattern `when`.
@@ -160,12 +165,12 @@ class Case(unittest.TestCase):
 
     def schedule(self, stl: str, name: str, *options: str) -> str:
         """Write the transmission that `schedule` makes from a subtitle file. Return its path."""
-        done = self.call([self.bench.program, "schedule", stl, self.path(name), *options])
-        assert done.status == 0, done
+        process = self.call([self.bench.program, "schedule", stl, self.path(name), *options])
+        assert process.status == 0, process
         return self.path(name)
 
 
-def tool_path(name: str) -> str:
+def get_tool_path(name: str) -> str:
     """Return the path of a tool in tools/ if it exists there, and in dev/ otherwise."""
     path = os.path.join(TOP, "tools", name)
     return path if os.path.exists(path) else os.path.join(TOP, "dev", name)
@@ -180,7 +185,7 @@ def is_python(path: str) -> bool:
         return file.readline().endswith(b"python3\n")
 
 
-def forked_tool(command: Sequence[str]) -> Callable[[], NoReturn] | None:
+def find_forked_tool(command: Sequence[str]) -> Callable[[], NoReturn] | None:
     """Return a function that runs a Python tool in a fork. Return `None` for other commands."""
     sys.__stdout__.flush()
     return functools.partial(run_forked, command) if is_python(command[0]) else None
@@ -216,20 +221,20 @@ def run_forked(command: Sequence[str]) -> NoReturn:
 
 def import_script(name: str) -> Any:
     """Import a script in tools/ or dev/ as a module."""
-    loader = importlib.machinery.SourceFileLoader(name, tool_path(name))
+    loader = importlib.machinery.SourceFileLoader(name, get_tool_path(name))
     spec = importlib.util.spec_from_loader(name, loader)
     assert spec
     # Data classes look up their module in sys.modules.
-    made = sys.modules[name] = importlib.util.module_from_spec(spec)
-    loader.exec_module(made)
-    return made
+    result = sys.modules[name] = importlib.util.module_from_spec(spec)
+    loader.exec_module(result)
+    return result
 
 
-def example(name: str) -> str:
+def get_example_path(name: str) -> str:
     return os.path.join(EXAMPLES, name)
 
 
-def example_bytes(name: str) -> bytes:
+def read_example_file(name: str) -> bytes:
     """Return the contents of a file in examples/."""
-    with open(example(name), "rb") as file:
+    with open(get_example_path(name), "rb") as file:
         return file.read()

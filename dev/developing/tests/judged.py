@@ -10,7 +10,7 @@ from typing import Any, Iterable, NamedTuple, Sequence
 from subtitles.cli.main import make_parser
 from subtitles.cli.measure import SilentPrinter
 from subtitles.cli.single import (
-    OutputFiles, PairOptions, claim_pair, judge_pair, new_verdict, report_pair, stamp_inputs)
+    OutputFiles, PairOptions, judge_pair, lock_pair, make_verdict, report_pair, stamp_inputs)
 from subtitles.common.program import ProgramInfo
 from subtitles.judging.pair import PairJudge
 from subtitles.judging.status import decide
@@ -20,8 +20,9 @@ from subtitles.request.lines import read_options
 from subtitles.request.request import make_request
 from subtitles.results.files import describe_inputs, write_result
 from .bench import Case
-from .streams import Packet, stream_bytes
-from .transmissions import Sent, pes_file, packets, write_programme, schedule_pages, subtitle_times
+from .streams import Packet, join_packets
+from .transmissions import (
+    SentPes, join_pes_packets, packets, write_programme, schedule_pages, subtitle_times)
 
 FEW = "there are too few PES packets to measure their interval"  # end of a note
 
@@ -71,25 +72,25 @@ class JudgedPair(NamedTuple):
         return [tuple(part[name] for name in names) for part in self.result["parts"]]
 
 
-def judge_files(case: Case, *words: str, by: str | None = None,
+def judge_files(case: Case, *args: str, by: str | None = None,
                 recorder: LineRecorder | None = None) -> JudgedPair:
     """Judge a pair with these arguments for qc. Check that printed commands name only its files."""
-    found = judge_files_with(by or case.bench.program, *words, recorder=recorder)
-    case.must("a clock", found.is_timed(), found.said)
-    for line in found.verdict.commands:
-        case.must(line, set(shown_files(line)) <= found.files, found.files)
-    return found
+    result = judge_files_with(by or case.bench.program, *args, recorder=recorder)
+    case.must("a clock", result.is_timed(), result.said)
+    for line in result.verdict.commands:
+        case.must(line, set(list_shown_files(line)) <= result.files, result.files)
+    return result
 
 
-def judge_files_with(program: str, *words: str, recorder: LineRecorder | None = None) -> JudgedPair:
+def judge_files_with(program: str, *args: str, recorder: LineRecorder | None = None) -> JudgedPair:
     """Judge a pair with these arguments for qc and with the given program."""
     recorder = recorder or LineRecorder()
-    known = read_options(make_parser(""), ["-p", program, *words], {}, {})
+    known = read_options(make_parser(""), ["-p", program, *args], {}, {})
     request, command_paths = make_request(known), CommandPaths("tools/qc", program)
     listener = Listener(recorder)
     stamps = stamp_inputs(request)
-    verdict = new_verdict(request, listener)
-    with tempfile.TemporaryDirectory() as folder, claim_pair(known.out, "one"):
+    verdict = make_verdict(request, listener)
+    with tempfile.TemporaryDirectory() as folder, lock_pair(known.out, "one"):
         names = OutputNames("one", folder, known.out)
         names.set_subtitle_file(request.stl)
         files = OutputFiles(PairOptions(program, known.out, known.is_kept, known.json, known.csv,
@@ -123,18 +124,18 @@ class ProgrammeCase(Case):
         super().setUp()
         self.stl = write_programme(self, self.due, self.lines, self.text, self.first)
         self.sent = schedule_pages(self, self.stl, origin=self.origin, every=self.every)
-        self.pes = packets(pes_file(self.sent))
+        self.pes = packets(join_pes_packets(self.sent))
 
-    def judge(self, sent: Sent, *words: str) -> JudgedPair:
-        return judge_files(self, self.stl, self.write("one.pes", pes_file(sent)), *self.words,
-                           *words)
+    def judge(self, sent: SentPes, *args: str) -> JudgedPair:
+        return judge_files(self, self.stl, self.write("one.pes", join_pes_packets(sent)),
+                           *self.words, *args)
 
-    def judge_stream(self, made: bytes | Iterable[Packet], *words: str) -> JudgedPair:
-        data = made if isinstance(made, bytes) else stream_bytes(made)
-        return judge_files(self, self.stl, self.write("one.ts", data), *self.words, *words)
+    def judge_stream(self, result: bytes | Iterable[Packet], *args: str) -> JudgedPair:
+        data = result if isinstance(result, bytes) else join_packets(result)
+        return judge_files(self, self.stl, self.write("one.ts", data), *self.words, *args)
 
 
-def shown_files(line: str) -> list[str]:
+def list_shown_files(line: str) -> list[str]:
     """Return the files that a printed `check` command names."""
     words = shlex.split(line)[2:]
     return [word for before, word in zip(["", *words], words) if not word.startswith("-")

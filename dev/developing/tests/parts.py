@@ -29,7 +29,7 @@ from .transmissions import PAGE
 MEANINGS = {number: Meaning("", f"it means `{number}`", f"do {number}") for number in range(93)}
 
 
-def fault_of(line: str) -> FaultLine:
+def parse_single_fault(line: str) -> FaultLine:
     """Parse a valid fault line of `check --all`."""
     reported = parse_fault_line(line)
     assert reported, line
@@ -39,11 +39,11 @@ def fault_of(line: str) -> FaultLine:
 def make_answer(lines: Sequence[str] = ("accepted 10 frames 2 transmissions",),
            status: int | None = None, path: str = os.devnull) -> CheckOutput:
     """Parse lines printed by `check --all`, and store them in the file `path`."""
-    made = CheckOutput(path)
+    check_output = CheckOutput(path)
     for line in lines:
-        made.read_line(line)
-    made.finish(int(made.frames is None) if status is None else status)
-    return made
+        check_output.read_line(line)
+    check_output.finish(int(check_output.frames is None) if status is None else status)
+    return check_output
 
 
 def make_part(begin: int | None, end: int | None, origin: int | None,
@@ -60,7 +60,7 @@ def make_part(begin: int | None, end: int | None, origin: int | None,
                                             has_picture=lambda: False,
                                             list_losses=lambda jumps: [*places])
     known: dict[str, Any] = {
-        "request": request_for("a.stl", "a.pes"), "names": names, "alignment": alignment,
+        "request": make_example_request("a.stl", "a.pes"), "names": names, "alignment": alignment,
         "is_recording_read": True, **more}
     if packets is not None and alignment and "pes" in more:
         decoded = Timeline(packets, known["request"].page, alignment.origin, 0, more["pes"])
@@ -75,18 +75,18 @@ def read_survey(*lines: str) -> Survey:
     return survey
 
 
-def request_for(stl: str, recording: str | None, *words: str) -> Request:
-    return make_file_request(stl, recording, default_options(*words))
+def make_example_request(stl: str, recording: str | None, *args: str) -> Request:
+    return make_file_request(stl, recording, make_default_options(*args))
 
 
-def default_options(*words: str) -> argparse.Namespace:
+def make_default_options(*args: str) -> argparse.Namespace:
     """Parse options for qc; options that are not given have their defaults."""
     parser = ToolParser("")
     add_options(parser)
-    return read_options(parser, words, {}, {})
+    return read_options(parser, args, {}, {})
 
 
-def call_arguments(request: Request) -> list[str]:
+def list_call_arguments(request: Request) -> list[str]:
     """Format a request as arguments for qc."""
     return [*itertools.chain(*list_arguments(request)), "--", request.stl,
             *([request.recording] if request.recording else [])]
@@ -112,7 +112,7 @@ def markup_text(*values: Value) -> str:
     return join_markup(values).source
 
 
-def shell_script(lines: list[str], status: int) -> str:
+def make_shell_script(lines: list[str], status: int) -> str:
     """Return a shell command that prints lines, and exits with `status` or by signal `-status`."""
     printed = "".join(f"echo '{line}'; " for line in lines)
     return printed + (f"exit {status}" if status >= 0 else f"kill {status} $$")

@@ -5,7 +5,7 @@ import time
 from typing import Callable, Sequence
 
 from developing.pes import encode_pts
-from developing.stl import box_line, make_gsi_block, make_subtitle_blocks
+from developing.stl import make_box_line, make_gsi_block, make_subtitle_blocks
 from subtitles.common.times import CLOCK, FRAMES_A_SECOND, TICKS
 from .bench import Case, SECONDS
 from .transmissions import packets
@@ -19,7 +19,8 @@ SHOWN, EACH = 50, 75  # duration of a subtitle, and interval between TCIs, in fr
 def make_subtitles(case: Case, name: str, first: int, texts: Sequence[str]) -> str:
     """Write a subtitle file with one subtitle for each text; `first` is the first TCI in frames."""
     blocks = [make_subtitle_blocks(number, first + EACH * number, first + EACH * number + SHOWN, 20,
-                                   2, box_line(text.encode())) for number, text in enumerate(texts)]
+                                   2, make_box_line(text.encode()))
+              for number, text in enumerate(texts)]
     return case.write(f"{name}.stl", make_gsi_block(name.encode(), len(texts), len(texts), first)
                       + b"".join(blocks))
 
@@ -39,9 +40,9 @@ def repeat_last_page(data: bytes, pts: int, count: int, step: int = SECOND) -> b
                     for at in range(count))
 
 
-def wait_until(holds: Callable[[], object]) -> bool:
+def wait_until(condition: Callable[[], object]) -> bool:
     """Wait until a condition is true. Return whether this happened before the time limit."""
     end = time.monotonic() + SECONDS
-    while not holds() and time.monotonic() < end:
+    while not condition() and time.monotonic() < end:
         time.sleep(0.02)
-    return bool(holds())
+    return bool(condition())

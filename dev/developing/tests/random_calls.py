@@ -18,21 +18,22 @@ from typing import Any, Callable, Iterator, NamedTuple, Sequence
 from unittest import mock
 
 from subtitles.cli.main import main
-from subtitles.cli.single import claim_pair
+from subtitles.cli.single import lock_pair
 from subtitles.common.command_line import run
 from subtitles.judging import faults, subtitles
 from subtitles.report import page as report
-from .bench import example
+from .bench import get_example_path
 from .parts import MEANINGS
-from .results import schema, all_violations, choice_errors, violations
+from .results import schema, list_all_violations, list_choice_errors, list_violations
 from .scenario import Scenario
-from .wide_scenario import Wider
+from .wide_scenario import WiderScenario
 
-WIDER = 240  # first seed that makes a `Wider` pair
-VOLATILE = [(re.compile(r"\d{4}-\d\d-\d\d[T ]\d\d:\d\d:\d\d(\.\d+)?"), "DATE"),
-            (re.compile('<dl class="made">.*?</dl>|PROGRAM</td><td.*?</tr>'), "MADE"),
-            (re.compile(r"subttx-qc-\w+"), "FOLDER"), (re.compile(r'"seconds": [\d.]+'), "SECONDS"),
-            (re.compile(r'(time)="[\d.]+"'), "TIME")]
+WIDER = 240  # first seed that makes a `WiderScenario` pair
+VOLATILE_PATTERNS = [(re.compile(r"\d{4}-\d\d-\d\d[T ]\d\d:\d\d:\d\d(\.\d+)?"), "DATE"),
+                     (re.compile('<dl class="made">.*?</dl>|PROGRAM</td><td.*?</tr>'), "MADE"),
+                     (re.compile(r"subttx-qc-\w+"), "FOLDER"),
+                     (re.compile(r'"seconds": [\d.]+'), "SECONDS"),
+                     (re.compile(r'(time)="[\d.]+"'), "TIME")]
 FILES = ("one.json", "one.csv", "one.xml", "out/one.html", "out/one.txt", "out/one.1.html",
          "out/one.2.html", "out/one.json", "out/index.html")
 
@@ -47,7 +48,7 @@ class CallOutput(NamedTuple):
     result: str
 
 
-def in_process(entry: Any, words: list[str]) -> tuple[int, str, str]:
+def call_in_same_process(entry: Any, words: list[str]) -> tuple[int, str, str]:
     """Run a tool's `main` function. Return its exit status, output and error output."""
     before, sys.argv = sys.argv, words[-len(words) + 1:] if words[0] == sys.executable else words
     with contextlib.redirect_stdout(io.StringIO()) as out, \
@@ -61,35 +62,36 @@ def in_process(entry: Any, words: list[str]) -> tuple[int, str, str]:
 
 
 @functools.lru_cache(maxsize=4)  # several files often have the same text
-def without_volatile(text: str, program: str) -> str:
+def replace_volatile_text(text: str, program: str) -> str:
     """Return a text with fixed words in place of dates, times, temporary paths and programs."""
     if text.startswith("{"):
         known = json.loads(text)
-        for one in (known, *known.get("pairs", ())):
-            one.pop("program", None)
+        for item in (known, *known.get("pairs", ())):
+            item.pop("program", None)
         text = json.dumps(known, indent=1)
     text = text.replace(program, "PROGRAM")
-    for pattern, word in VOLATILE:
+    for pattern, word in VOLATILE_PATTERNS:
         text = pattern.sub(word, text)
     return text
 
 
 def run_random_call(number: int, program: str) -> CallOutput:
     """Run qc on the random pair with the seed `number` in a temporary folder. Return its output."""
-    with in_folder():
-        scenario = (Scenario if number < WIDER else Wider)(number, program)
+    with use_temporary_folder():
+        scenario = (Scenario if number < WIDER else WiderScenario)(number, program)
         words = scenario.call()
-        printed = run_call(words, program, wrong=schema_violations)
+        printed = run_call(words, program, wrong=list_schema_violations)
         # A second run needs a recording that is not a pipe.
         if number >= WIDER and number % 3 == 0 and not scenario.is_feed:
-            printed.files["measured"] = without_volatile(measure_pair(words[1], program), program)
+            printed.files["measured"] = replace_volatile_text(measure_pair(words[1], program),
+                                                              program)
         return printed
 
 
 def measure_pair(recording: str, program: str) -> str:
     """Run `qc --measure` on the pair in the current folder. Return its status and output."""
     words = ["tools/qc", "--measure", "one.stl", recording, "-p", program]
-    status, out, reported = in_process(lambda line: main("", "tools/qc", line), words)
+    status, out, reported = call_in_same_process(lambda line: main("", "tools/qc", line), words)
     return f"measured {status}\n{out}{reported}"
 
 
@@ -99,13 +101,13 @@ PAIRS = [("a", "hello", "hello.pes"), ("b", "story", "five-faults.pes"),
 TEXTS = {"house": "--every 25\n--within 1 # frame\n", "wrong": "--every 25\n--every 50\n",
          "list": "in/a.stl in/a.pes --every 51\nin/b.stl in/b.pes --profile house --allow-lost\n"
                  "in/none.stl in/a.pes\n\nin/a.stl\nin/a.stl in/a.pes --no-option\n"}
-OF_ALL = "-o out --csv one.csv --junit one.xml --json one.json --jobs 1"
+ALL_OUTPUTS = "-o out --csv one.csv --junit one.xml --json one.json --jobs 1"
 NAMED = {
-    "a folder": f"--batch in {OF_ALL}", "a list": f"--batch list {OF_ALL}",
+    "a folder": f"--batch in {ALL_OUTPUTS}", "a list": f"--batch list {ALL_OUTPUTS}",
     "a line": "--batch list --line 2 -o out --json one.json --jobs 1",
     "a line that is none": "--batch list --line 5 -o out --jobs 1",
     "resumed without results": "--batch list --resume",
-    "claimed": f"--batch in {OF_ALL}",
+    "claimed": f"--batch in {ALL_OUTPUTS}",
     "a profile": "in/b.stl in/b.pes --profile house --json one.json -o out",
     "a wrong profile": "in/b.stl in/b.pes --profile wrong",
     "measured": "--measure in/a.stl in/a.pes --origin 0",
@@ -120,23 +122,23 @@ NAMED = {
 
 
 def run_named_call(name: str, program: str) -> CallOutput:
-    with in_folder(), contextlib.ExitStack() as stack:
+    with use_temporary_folder(), contextlib.ExitStack() as stack:
         os.mkdir("in")
         for pair, stl, recording in PAIRS:
             ending = recording.rpartition(".")[2]
-            shutil.copyfile(example(f"{stl}.stl"), f"in/{pair}.stl")
-            shutil.copyfile(example(recording), f"in/{pair}.{ending}")
+            shutil.copyfile(get_example_path(f"{stl}.stl"), f"in/{pair}.stl")
+            shutil.copyfile(get_example_path(recording), f"in/{pair}.{ending}")
         for file, text in TEXTS.items():
-            with open(file, "w", encoding="ascii") as one:
-                one.write(text)
+            with open(file, "w", encoding="ascii") as item:
+                item.write(text)
         if name == "claimed":
-            stack.enter_context(claim_pair("out", "b"))
+            stack.enter_context(lock_pair("out", "b"))
         printed = run_call(NAMED[name].split(), program)
     return printed
 
 
 @contextlib.contextmanager
-def in_folder() -> Iterator[None]:
+def use_temporary_folder() -> Iterator[None]:
     """Return a context manager that changes to a new temporary folder."""
     back = os.getcwd()
     with tempfile.TemporaryDirectory() as folder:
@@ -147,12 +149,12 @@ def in_folder() -> Iterator[None]:
             os.chdir(back)
 
 
-def schema_violations(known: Any) -> list[str]:
-    return [*violations(known, schema())]
+def list_schema_violations(known: Any) -> list[str]:
+    return [*list_violations(known, schema())]
 
 
 def run_call(words: list[str], program: str, more: Sequence[str] = ("-p", "PROGRAM"),
-           wrong: Callable[[Any], list[str]] = all_violations) -> CallOutput:
+           wrong: Callable[[Any], list[str]] = list_all_violations) -> CallOutput:
     """Run qc, and return its output with fixed texts instead of dates and texts of the manual.
 
     `wrong` is a function that returns the schema violations in a JSON result.
@@ -162,8 +164,8 @@ def run_call(words: list[str], program: str, more: Sequence[str] = ("-p", "PROGR
     with contextlib.ExitStack() as stack:
         for module, name, other in others:
             stack.enter_context(mock.patch.object(module, name, other))
-        status, out, reported = in_process(lambda line: main("", "tools/qc", line), [
-            "tools/qc", *words, *(program if one == "PROGRAM" else one for one in more)])
+        status, out, reported = call_in_same_process(lambda line: main("", "tools/qc", line), [
+            "tools/qc", *words, *(program if item == "PROGRAM" else item for item in more)])
     files = {}
     for name in filter(os.path.exists, FILES):
         with open(name, encoding="utf-8") as file:
@@ -172,16 +174,17 @@ def run_call(words: list[str], program: str, more: Sequence[str] = ("-p", "PROGR
         misfits = wrong(json.loads(text))
         assert not misfits, (words, misfits)
     known = json.loads(files.get("one.json", "{}"))
-    unsaid = [*choice_errors(known, (out + reported).splitlines())] if "choices" in known \
+    unsaid = [*list_choice_errors(known, (out + reported).splitlines())] if "choices" in known \
         and "--quiet" not in words else []
     assert not unsaid, (words, unsaid)
     return CallOutput(words, status,
-                      [without_volatile(line, program) for line in (out + reported).splitlines()],
-                {name: without_volatile(text, program) for name, text in files.items()},
+                      [replace_volatile_text(line, program)
+                       for line in (out + reported).splitlines()],
+                {name: replace_volatile_text(text, program) for name, text in files.items()},
                 files.get("one.json", ""))
 
 
 if __name__ == "__main__":
     PROGRAM, NUMBER = sys.argv[1:]
-    SAID = run_random_call(int(NUMBER), os.path.realpath(PROGRAM))
-    print("\n".join([*SAID.words, *SAID.lines, *SAID.files.values()]))
+    CALL_OUTPUT = run_random_call(int(NUMBER), os.path.realpath(PROGRAM))
+    print("\n".join([*CALL_OUTPUT.words, *CALL_OUTPUT.lines, *CALL_OUTPUT.files.values()]))

@@ -14,8 +14,8 @@ import sys
 from typing import Callable, Iterator
 
 from subtitles.common.program import TOP
-from .random_calls import CallOutput, run_call, in_folder, without_volatile
-from .bench import example
+from .random_calls import CallOutput, run_call, use_temporary_folder, replace_volatile_text
+from .bench import get_example_path
 
 NAMES = ("a", "b", "B", "c 1", "d.x", "e~2", "-f", "g.recording", "h\u00e4")
 PAIRS = [*[("hello.stl", "hello.pes")] * 4, *[("story.stl", "story.pes")] * 4,
@@ -27,8 +27,8 @@ OPTIONS = (*["--every 250", "--every 400", "--profile house", "--severity severi
            "--every 25", "--within 1", "--allow-lost", "--strict", "--option german",
            "--option auto", "--no-complete", "--page 889", "--pid 0x101", "--origin 0",
            "--keeping", "--pace none")
-HOUSES = ("--within 1 # frame\n", "--allow-lost\n", "--every 25\n--every 50\n",
-          "--keeping\n--no-complete\n", "", "--every 250\n")
+PROFILE_TEXTS = ("--within 1 # frame\n", "--allow-lost\n", "--every 25\n--every 50\n",
+                 "--keeping\n--no-complete\n", "", "--every 250\n")
 SEVERITIES = ("72 warning\n", "others warning\n72 error\n", "45 warning\n61 warning\n",
               "others warning\n", "x\n")
 OLD = {"format": 5, "verdict": "accepted", "status": 0}
@@ -42,28 +42,29 @@ class Folder:
         self.before = dict[str, str]()  # the contents of all files after the last run
         os.mkdir("in")
         for name in self.chance.sample(NAMES, self.chance.choice((1, 2, 3, 4))):
-            self.put_pair(name)
-        self.common = self.some_options()
-        self.change_house()
+            self.write_random_pair(name)
+        self.common = self.choose_options()
+        self.change_profile()
         self.write_list()
 
-    def some_options(self) -> list[str]:
+    def choose_options(self) -> list[str]:
         """Return up to two random options, which occasionally contradict each other."""
-        found = self.chance.sample(OPTIONS, self.chance.choice((0, 0, 1, 1, 2)))
-        return [word for one in found for word in one.split()]
+        result = self.chance.sample(OPTIONS, self.chance.choice((0, 0, 1, 1, 2)))
+        return [word for item in result for word in item.split()]
 
-    def put_pair(self, name: str) -> None:
+    def write_random_pair(self, name: str) -> None:
         """Add a subtitle file or a recording or both, and occasionally a second recording."""
         stl, recording = self.chance.choice(PAIRS)
         for source in filter(None, (stl, recording)):
             ending = source.rpartition(".")[2]
             ending = ending.upper() if self.chance.randrange(9) == 0 else ending
-            shutil.copyfile(example(source), f"in/{name}.{ending}")
+            shutil.copyfile(get_example_path(source), f"in/{name}.{ending}")
         if recording and self.chance.randrange(9) == 0:
-            shutil.copyfile(example(recording), f"in/{name}.{self.chance.choice(('ts', 'mpg'))}")
+            shutil.copyfile(get_example_path(recording),
+                            f"in/{name}.{self.chance.choice(('ts', 'mpg'))}")
 
-    def change_house(self) -> None:
-        for name, texts in (("house", HOUSES), ("severity", SEVERITIES)):
+    def change_profile(self) -> None:
+        for name, texts in (("house", PROFILE_TEXTS), ("severity", SEVERITIES)):
             with open(name, "w", encoding="ascii") as file:
                 file.write(self.chance.choice(texts))
 
@@ -73,10 +74,11 @@ class Folder:
         for _ in range(self.chance.choice((1, 2, 3, 4))):
             stl, recording = (self.chance.choice(there) for _ in range(2))
             known = stl.rpartition(".")[0]
-            recording = next((one for one in there if one.startswith(f"{known}.") and one != stl),
+            recording = next((item for item in there if item.startswith(f"{known}.")
+                              and item != stl),
                              recording)
             words = [f"'in/{stl}'", *[f"'in/{recording}'"] * (self.chance.randrange(6) > 0)]
-            lines.append(" ".join([*words, *self.some_options()]))
+            lines.append(" ".join([*words, *self.choose_options()]))
         extra = ("", "# a comment", "", "in/none.stl", "in/a.stl --no-option", "'", "--every 25")
         if self.chance.randrange(3) == 0:
             lines.insert(self.chance.randrange(len(lines) + 1), self.chance.choice(extra))
@@ -86,8 +88,9 @@ class Folder:
     def change(self) -> None:
         """Change an input file, a result, the profile or the list at random."""
         does: Callable[[], None] = self.chance.choice([
-            self.change_house, self.write_list, self.change_result, self.change_result,
-            self.change_file, self.change_file, lambda: self.put_pair(self.chance.choice(NAMES))])
+            self.change_profile, self.write_list, self.change_result, self.change_result,
+            self.change_file, self.change_file,
+            lambda: self.write_random_pair(self.chance.choice(NAMES))])
         does()
 
     def change_file(self) -> None:
@@ -98,7 +101,8 @@ class Folder:
             if kind == 0:
                 os.unlink(path)
             elif kind == 1:
-                shutil.copyfile(example(self.chance.choice(("story.pes", "hello-25.pes"))), path)
+                shutil.copyfile(get_example_path(self.chance.choice(("story.pes", "hello-25.pes"))),
+                                path)
             elif kind == 2:
                 os.truncate(path, 1000)
             else:
@@ -121,11 +125,11 @@ class Folder:
     def call(self) -> CallOutput:
         """Run qc with random arguments. Return its output, with new and changed files."""
         chance, out = self.chance, ["-o", "out"] * (self.chance.randrange(5) > 0)
-        wanted = [word for option, name in (("--json", "one.json"), ("--csv", "one.csv"),
-                                            ("--junit", "one.xml")) if chance.randrange(2)
-                  for word in (option, name)]
-        common = self.common if chance.randrange(3) else self.some_options()
-        more = [*common, *out, *wanted, *["--keep"] * (chance.randrange(8) == 0 and bool(out)),
+        expected = [word for option, name in (("--json", "one.json"), ("--csv", "one.csv"),
+                                              ("--junit", "one.xml")) if chance.randrange(2)
+                    for word in (option, name)]
+        common = self.common if chance.randrange(3) else self.choose_options()
+        more = [*common, *out, *expected, *["--keep"] * (chance.randrange(8) == 0 and bool(out)),
                 *["--quiet"] * (chance.randrange(12) == 0)]
         kind, resumed = chance.randrange(12), ["--resume"] * (chance.randrange(2) and bool(out))
         if kind < 5:
@@ -138,7 +142,7 @@ class Folder:
             there = sorted(os.listdir("in")) or ["none"]
             words = [*more, "--", f"in/{chance.choice(there)}", f"in/{chance.choice(there)}"]
         else:
-            words = ["--collect", "out", *wanted]
+            words = ["--collect", "out", *expected]
         printed = run_call(words, self.program,
                         [] if words[0] == "--collect" else ["-p", self.program])
         before, self.before = self.before, dict(self.files())
@@ -156,29 +160,29 @@ class Folder:
                 path = os.path.join(folder, name)
                 if os.path.isfile(path):
                     with open(path, encoding="utf-8", errors="surrogateescape") as file:
-                        yield path, self.plainly(file.read())
+                        yield path, self.remove_options(file.read())
 
-    def plainly(self, text: str) -> str:
+    def remove_options(self, text: str) -> str:
         """Return a file's text with fixed words in place of dates, times and paths."""
         try:
-            text = without_volatile(text, self.program)
+            text = replace_volatile_text(text, self.program)
         except (ValueError, TypeError, AttributeError):
             return "half a result"
         return text.replace(TOP, "HERE").encode("utf-8", "replace").decode()
 
 
-def calls_in(number: int, program: str) -> list[CallOutput]:
+def run_calls_in_folder(number: int, program: str) -> list[CallOutput]:
     """Run qc several times in the random folder with the seed `number`. Return all outputs."""
-    found = []
-    with in_folder():
+    result = []
+    with use_temporary_folder():
         folder = Folder(number, program)
         for _ in range(folder.chance.choice((2, 3, 4))):
-            found.append(folder.call())
+            result.append(folder.call())
             for _ in range(folder.chance.choice((0, 1, 1, 2))):
                 folder.change()
-    return found
+    return result
 
 
 if __name__ == "__main__":
-    for SAID in calls_in(int(sys.argv[2]), os.path.realpath(sys.argv[1])):
+    for SAID in run_calls_in_folder(int(sys.argv[2]), os.path.realpath(sys.argv[1])):
         print("\n".join([*SAID.words, *SAID.lines, *SAID.files.values()]))

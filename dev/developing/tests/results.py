@@ -57,8 +57,8 @@ def make_result(verdict: str = "refused", **more: Any) -> dict[str, Any]:
         "program": {"version": "1", "sha256": "0" * 64, "proof": None},
         "date": "2026-01-02T03:04:05Z", "seconds": 0.5,
         "cause_counts": dict.fromkeys(CAUSE_NAMES, 0),
-        "complete_after": None, **{one.name: [] for one in LISTS},
-        "omitted": {one.name: 0 for one in LISTS}, **more}
+        "complete_after": None, **{item.name: [] for item in LISTS},
+        "omitted": {item.name: 0 for item in LISTS}, **more}
 
 
 @functools.lru_cache(maxsize=None)
@@ -68,25 +68,28 @@ def schema() -> dict[str, Any]:
     return known
 
 
-def violations(value: Any, known: dict[str, Any], at: str = "") -> Iterator[str]:
+def list_violations(value: Any, known: dict[str, Any], at: str = "") -> Iterator[str]:
     """Yield the violations of a JSON schema in a value; `at` is the path of the value."""
     assert known.keys() <= WORDS, known.keys() - WORDS
     if "$ref" in known:
-        yield from violations(value, schema()["definitions"][known["$ref"].rpartition("/")[2]], at)
+        yield from list_violations(value,
+                                   schema()["definitions"][known["$ref"].rpartition("/")[2]], at)
     if "type" in known and not is_of_kind(value, known["type"]):
         yield f"{at}: no {known['type']}"
         return
     values = known.get("enum", [known["const"]] if "const" in known else None)
-    if values is not None and not any(type(one) is type(value) and one == value for one in values):
+    if values is not None and not any(type(item) is type(value) and item == value
+                                      for item in values):
         yield f"{at}: none of {values}"
-    if "anyOf" in known and all(any(violations(value, one)) for one in known["anyOf"]):
+    if "anyOf" in known and all(any(list_violations(value, item)) for item in known["anyOf"]):
         yield f"{at}: anyOf"
-    if "oneOf" in known and sum(not any(violations(value, one)) for one in known["oneOf"]) != 1:
+    if "oneOf" in known and sum(not any(list_violations(value, item))
+                                for item in known["oneOf"]) != 1:
         yield f"{at}: oneOf"
-    for one in known.get("allOf", ()):
-        yield from violations(value, one, at)
+    for item in known.get("allOf", ()):
+        yield from list_violations(value, item, at)
     if isinstance(value, (dict, list)):
-        yield from inner_violations(value, known, at)
+        yield from list_inner_violations(value, known, at)
     ends = ENDS.get(type(value))
     if ends and not known.keys().isdisjoint(ends):
         size = len(value) if isinstance(value, (str, list)) else value
@@ -96,19 +99,19 @@ def violations(value: Any, known: dict[str, Any], at: str = "") -> Iterator[str]
         yield f"{at}: {known['pattern']}"
 
 
-def inner_violations(value: Any, known: dict[str, Any], at: str) -> Iterator[str]:
+def list_inner_violations(value: Any, known: dict[str, Any], at: str) -> Iterator[str]:
     """Yield the violations of a JSON schema in the members of an object or the items of a list."""
     if isinstance(value, dict):
         members, is_closed = known.get("properties", {}), known.get("additionalProperties") is False
         yield from (f"{at}: no {name}" for name in known.get("required", ()) if name not in value)
-        for name, one in value.items():
+        for name, item in value.items():
             if name in members:
-                yield from violations(one, members[name], f"{at}.{name}")
+                yield from list_violations(item, members[name], f"{at}.{name}")
             elif is_closed:
                 yield f"{at}: {name}"
     elif "items" in known:
-        for number, one in enumerate(value):
-            yield from violations(one, known["items"], f"{at}[{number}]")
+        for number, item in enumerate(value):
+            yield from list_violations(item, known["items"], f"{at}[{number}]")
 
 
 def is_of_kind(value: Any, kind: str) -> bool:
@@ -117,12 +120,12 @@ def is_of_kind(value: Any, kind: str) -> bool:
     return isinstance(value, KINDS[kind]) and is_bool == (kind == "boolean")
 
 
-def choice_errors(known: dict[str, Any], lines: Sequence[str]) -> Iterator[object]:
+def list_choice_errors(known: dict[str, Any], lines: Sequence[str]) -> Iterator[object]:
     """Yield choices that qc did not print or list, and choices of options that the user gave."""
     printed = {line.removeprefix("qc: ").removeprefix("! ") for line in lines}
-    chosen = {(one["option"], one["value"]) for one in known["choices"]}
-    own = {(one["option"], one["value"], one["part"]) for one in known["choices"]}
-    yield from (one["line"] for one in known["choices"] if one["line"] not in printed)
+    chosen = {(item["option"], item["value"]) for item in known["choices"]}
+    own = {(item["option"], item["value"], item["part"]) for item in known["choices"]}
+    yield from (item["line"] for item in known["choices"] if item["line"] not in printed)
     request = known["request"]
     for part in known["parts"] if known["scope"] == "transmission" else ():
         clock, number = part["clock"], part["part"]
@@ -135,11 +138,11 @@ def choice_errors(known: dict[str, Any], lines: Sequence[str]) -> Iterator[objec
         if part["pace"] is not None and request["pace"] is None:
             yield from {("pace", f"{part['pace']}", number)} - own
     typed = {name for name in ("pid", "pace") if request[name] is not None}
-    yield from (one["option"] for one in known["choices"] if one["option"] in typed)
+    yield from (item["option"] for item in known["choices"] if item["option"] in typed)
 
 
 @functools.lru_cache(maxsize=None)
-def second_validator() -> Any:
+def make_second_validator() -> Any:
     """Return the validator of python3-jsonschema, or `None` if it is not installed."""
     try:
         jsonschema = importlib.import_module("jsonschema")  # has no type stubs
@@ -149,34 +152,35 @@ def second_validator() -> Any:
     return jsonschema.Draft7Validator(schema())
 
 
-def all_violations(value: Any) -> list[str]:
+def list_all_violations(value: Any) -> list[str]:
     """Return the schema violations that two validators find in a result.
 
-    They are `violations` and the slow python3-jsonschema, which gets only samples of long lists.
+    They are `list_violations` and the slow python3-jsonschema, which gets only samples of long
+    lists.
     """
-    reader = second_validator()
-    others = [error.message for error in reader.iter_errors(sample_of(value))] if reader else []
-    return [*violations(value, schema()), *others]
+    reader = make_second_validator()
+    others = [error.message for error in reader.iter_errors(make_sample(value))] if reader else []
+    return [*list_violations(value, schema()), *others]
 
 
-def sample_of(value: dict[str, Any]) -> dict[str, Any]:
+def make_sample(value: dict[str, Any]) -> dict[str, Any]:
     """Return a result in which long lists are replaced by samples of them."""
-    lists = {one.name: [*value[one.name][:SOME], *value[one.name][SOME::50]]
-             for one in LISTS if one.name in value}
-    return {**value, **lists, **({"pairs": list(map(sample_of, value["pairs"]))}
+    lists = {item.name: [*value[item.name][:SOME], *value[item.name][SOME::50]]
+             for item in LISTS if item.name in value}
+    return {**value, **lists, **({"pairs": list(map(make_sample, value["pairs"]))}
                                  if "pairs" in value else {})}
 
 
 def row(name: str, verdict: str, line: str = "", hint: str = "", faults: int = 0) -> Row:
     """Return a row in the table of collected results."""
-    made = make_row(make_result(verdict, fault_count=faults), name)
-    return made._replace(line=line, hint=hint)
+    result = make_row(make_result(verdict, fault_count=faults), name)
+    return result._replace(line=line, hint=hint)
 
 
 def check_schema(case: Case, verdict: Any, name: str = "the schema") -> None:
     """Check a JSON value against the schema with both validators."""
     over = "a second reader of docs/verdict.schema.json, since there is no python3-jsonschema"
-    if second_validator() is None and over not in case.bench.over:
+    if make_second_validator() is None and over not in case.bench.over:
         case.bench.over.append(over)
-    wrong = all_violations(verdict)
+    wrong = list_all_violations(verdict)
     case.must(name, not wrong, wrong)

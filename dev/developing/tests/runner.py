@@ -15,7 +15,7 @@ from subtitles.common.command_line import Stop
 from .. import DEV
 from .bench import BENCH
 from .failures import Mismatch
-from .table import tests_of
+from .table import list_tests_of
 
 FOLDER = os.path.dirname(os.path.realpath(__file__))
 PATTERN = "test_*.py"
@@ -24,7 +24,7 @@ LONG = ("test_dev_layers.Hints", "test_snapshots", "test_cli_install",
         "test_clock_delays.FfmpegStreams", "test_dev_clones", "test_dev_gate.JobScripts",
         "test_stream_layouts", "test_cli_folders")
 Error = Union[Tuple[Type[BaseException], BaseException, TracebackType], Tuple[None, None, None]]
-Several = Sequence[unittest.TestCase]
+SeveralTests = Sequence[unittest.TestCase]
 
 
 class Counts(unittest.TestResult):
@@ -36,7 +36,7 @@ class Counts(unittest.TestResult):
         self.out = sys.stdout  # tests may redirect sys.stdout
         self.passed = self.failed = 0
         self.over: list[str] = []  # reasons for skipped tests
-        self.in_parts: set[str] = set()  # names of tests with subtests
+        self.names_with_subtests: set[str] = set()  # names of tests with subtests
 
     def count(self, test: unittest.TestCase, error: Error | None) -> None:
         """Count the result of a test or subtest, and print a failure."""
@@ -47,17 +47,17 @@ class Counts(unittest.TestResult):
                 self._exc_info_to_string(error, test)  # type: ignore[attr-defined]
             whole = test.test_case if isinstance(error[1], Mismatch) and hasattr(
                 test, "test_case") else test  # the message contains the subtest's name
-            print(f"FAILED: {name_of(whole)}: {reported}", file=self.out, flush=True)
+            print(f"FAILED: {get_test_name(whole)}: {reported}", file=self.out, flush=True)
         elif self.is_verbose:
-            print(f"passed: {name_of(test)}", file=self.out, flush=True)
+            print(f"passed: {get_test_name(test)}", file=self.out, flush=True)
 
     def addSubTest(self, test: unittest.TestCase, subtest: unittest.TestCase,
                    err: Error | None) -> None:
-        self.in_parts.add(test.id())
+        self.names_with_subtests.add(test.id())
         self.count(subtest, err)
 
     def addSuccess(self, test: unittest.TestCase) -> None:
-        if test.id() not in self.in_parts:
+        if test.id() not in self.names_with_subtests:
             self.count(test, None)
 
     def addFailure(self, test: unittest.TestCase, err: Error) -> None:
@@ -70,15 +70,15 @@ class Counts(unittest.TestResult):
         self.over.append(reason)
 
 
-def name_of(test: unittest.TestCase) -> str:
+def get_test_name(test: unittest.TestCase) -> str:
     """Return the name of a test or subtest as `module.class.method`, with its parameters."""
     return test.id().replace("developing.tests.", "")
 
 
-def flattened(tests: unittest.TestSuite) -> Iterator[unittest.TestCase]:
+def flatten_suites(tests: unittest.TestSuite) -> Iterator[unittest.TestCase]:
     for one in tests:
         if isinstance(one, unittest.TestSuite):
-            yield from flattened(one)
+            yield from flatten_suites(one)
         else:
             yield one
 
@@ -89,14 +89,14 @@ def find_tests(names: Sequence[str]) -> list[unittest.TestCase]:
     Each name is part of a test's name, or a module or script of the tools. Raise `Stop` if a name
     selects no test.
     """
-    everything = list(flattened(unittest.TestLoader().discover(FOLDER, PATTERN, DEV)))
-    of_names = [[one for one in everything if name in one.id() or name_of(one).startswith(
-        tuple(f"{each}." for each in tests_of(name)))] for name in names]
+    everything = list(flatten_suites(unittest.TestLoader().discover(FOLDER, PATTERN, DEV)))
+    of_names = [[item for item in everything if name in item.id() or get_test_name(item).startswith(
+        tuple(f"{each}." for each in list_tests_of(name)))] for name in names]
     for name, several in zip(names, of_names):
         if not several:
             raise Stop(f"no test is named {name}, and none is of a module or script of that name")
-    wanted = {one for several in of_names for one in several}
-    return [one for one in everything if not names or one in wanted]
+    expected = {item for several in of_names for item in several}
+    return [item for item in everything if not names or item in expected]
 
 
 def has_fixture(kind: Type[unittest.TestCase]) -> bool:
@@ -104,20 +104,20 @@ def has_fixture(kind: Type[unittest.TestCase]) -> bool:
     return "setUpClass" in kind.__dict__
 
 
-def group_tests(tests: Several) -> Iterator[Several]:
+def group_tests(tests: SeveralTests) -> Iterator[SeveralTests]:
     """Yield groups of tests that must run in one process, because they share a class fixture."""
     for kind, several in itertools.groupby(tests, type):
         if has_fixture(kind):
             yield list(several)
         else:
-            yield from ([one] for one in several)
+            yield from ([item] for item in several)
 
 
 class TestProcess:
     """A forked process that runs tests, whose patches and crashes thus affect no other tests."""
 
-    def __init__(self, several: Several, is_verbose: bool) -> None:
-        self.name = name_of(several[0])
+    def __init__(self, several: SeveralTests, is_verbose: bool) -> None:
+        self.name = get_test_name(several[0])
         sys.stdout.flush()
         self.said, printed = os.pipe()
         self.process = os.fork()
@@ -147,16 +147,16 @@ class TestProcess:
         whole.over += over
 
 
-def run_all(tests: Several, at_once: int, is_verbose: bool) -> Counts:
-    """Run tests in up to `at_once` parallel processes, and return their results."""
+def run_all(tests: SeveralTests, process_count: int, is_verbose: bool) -> Counts:
+    """Run tests in up to `process_count` parallel processes, and return their results."""
     whole, running = Counts(is_verbose), list[TestProcess]()
-    waiting = sorted(group_tests(tests), key=lambda one: name_of(one[0]).startswith(LONG))
-    BENCH.make_top()
+    waiting = sorted(group_tests(tests), key=lambda item: get_test_name(item[0]).startswith(LONG))
+    BENCH.make_project_copy()
     gc.freeze()  # share more memory pages with the forked processes
     while running or waiting:
-        while waiting and len(running) < at_once:
+        while waiting and len(running) < process_count:
             running.append(TestProcess(waiting.pop(), is_verbose))
-        for one in select.select(running, [], [])[0]:
-            running.remove(one)
-            one.add_to(whole)
+        for item in select.select(running, [], [])[0]:
+            running.remove(item)
+            item.add_to(whole)
     return whole

@@ -23,25 +23,25 @@ from .bench import BENCH
 
 FOLDER = os.path.join(TOP, "dev", "snapshots")
 HEAD, TAIL = 16, 4  # number of lines stored from the start and end of a long list
-OF_PAGE = 60  # number of lines stored from the start of a report
-OF_FOLDER = 6  # number of lines stored from the start of each file if a run has many pairs
-MOST = 12  # maximum number of different changes in a failure message
+REPORT_LINES = 60  # number of lines stored from the start of a report
+FOLDER_LINES = 6  # number of lines stored from the start of each file if a run has many pairs
+MAX_CHANGES = 12  # maximum number of different changes in a failure message
 WIDTH = 300  # maximum number of characters stored from a line
 OMITTED = re.compile(r"date$|seconds$|^files_at_start\.|^inputs\.|^commands\b|^omitted\.|^format$")
 
 
-def sha(text: str) -> str:
+def compute_short_hash(text: str) -> str:
     return hashlib.sha256(text.encode("utf-8", "surrogateescape")).hexdigest()[:8]
 
 
-def shortened(lines: Iterable[str], head: int = HEAD) -> list[str]:
+def shorten_lines(lines: Iterable[str], head: int = HEAD) -> list[str]:
     """Replace the middle of a long list with a line that gives its number of lines and its hash."""
-    lines = [part if len(part) <= WIDTH else f"{part[:WIDTH]}.. {sha(part)}"
+    lines = [part if len(part) <= WIDTH else f"{part[:WIDTH]}.. {compute_short_hash(part)}"
              for line in lines for part in line.splitlines()]
     between = lines[head:-TAIL]
     if len(between) < 2:
         return lines
-    return [*lines[:head], f".. {len(between)} lines, {sha(chr(10).join(between))}",
+    return [*lines[:head], f".. {len(between)} lines, {compute_short_hash(chr(10).join(between))}",
             *lines[-TAIL:]]
 
 
@@ -58,88 +58,89 @@ def members(value: Any, path: str = "") -> Iterator[str]:
         yield f"{path} = {json.dumps(value, ensure_ascii=False)}"
 
 
-def json_text(text: str, printed: str, head: int) -> list[str]:
+def format_json_snapshot(text: str, printed: str, head: int) -> list[str]:
     """Return a line for each JSON value that is not in `printed`, and the hash of the text."""
-    found = json.loads(text.replace(" SECONDS,", ' "seconds": 0,'))  # see `without_volatile`
-    lines = [line for line in members(found) if "=" not in line
+    result = json.loads(text.replace(" SECONDS,", ' "seconds": 0,'))  # see `without_volatile`
+    lines = [line for line in members(result) if "=" not in line
              or line.partition(" = ")[2].strip('"') not in printed]
-    return [*shortened(lines, head), f"whole: {sha(text)}"]
+    return [*shorten_lines(lines, head), f"whole: {compute_short_hash(text)}"]
 
 
-def page_text(text: str, head: int = OF_PAGE) -> list[str]:
+def page_text(text: str, head: int = REPORT_LINES) -> list[str]:
     """Return the text of an HTML page, one line for each element, and the hash of the page."""
     text_only = re.sub(r'<style.*?</style>|<[^<>]*?(?: aria-label="([^"]*)")?[^<>]*>',
                        lambda tag: f"\n[{tag[1]}]\n" if tag[1] else "\n", text, flags=re.DOTALL)
     lines = [" ".join(html.unescape(line).split()) for line in text_only.splitlines()
              if line.strip()]
-    return [*shortened(lines, head), f"markup: {sha(text)}"]
+    return [*shorten_lines(lines, head), f"markup: {compute_short_hash(text)}"]
 
 
-def file_text(name: str, text: str, printed: str, head: int) -> list[str]:
+def format_file_snapshot(name: str, text: str, printed: str, head: int) -> list[str]:
     """Return the lines stored for an output file."""
     if name.endswith(".json") and text.startswith("{"):
-        return json_text(text, printed, head)
+        return format_json_snapshot(text, printed, head)
     if name.endswith(".html") and text.startswith("<"):
-        return page_text(text, OF_PAGE if head == HEAD else head)
-    return shortened(text.splitlines(), head)
+        return page_text(text, REPORT_LINES if head == HEAD else head)
+    return shorten_lines(text.splitlines(), head)
 
 
-def call_text(output: random_calls.CallOutput, head: int = HEAD) -> list[str]:
+def format_call_output(output: random_calls.CallOutput, head: int = HEAD) -> list[str]:
     """Return the lines stored for one run of qc."""
     printed = "\n".join(output.lines)
-    lines = [f"$ qc {' '.join(output.words)}", f"status {output.status}", *shortened(output.lines)]
+    lines = [f"$ qc {' '.join(output.words)}", f"status {output.status}",
+             *shorten_lines(output.lines)]
     before: dict[str, str] = {}
     for name, text in output.files.items():
         if text and text not in before:
             before[text] = name
-            lines += [f"--- {name}", *file_text(name, text, printed, head)]
+            lines += [f"--- {name}", *format_file_snapshot(name, text, printed, head)]
         elif text:
             lines.append(f"--- {name} is {before[text]}")
     return lines
 
 
-def folder_text(number: int) -> list[str]:
+def format_folder_snapshot(number: int) -> list[str]:
     """Return the lines to store for all runs of qc in the random folder with the seed `number`."""
-    return [line for printed in random_folders.calls_in(number, BENCH.program)
-            for line in call_text(printed, OF_FOLDER)]
+    return [line for printed in random_folders.run_calls_in_folder(number, BENCH.program)
+            for line in format_call_output(printed, FOLDER_LINES)]
 
 
 def report_text(number: int) -> list[str]:
     """Return the lines stored for a random pair: its verdict and the text of its report."""
     with tempfile.TemporaryDirectory() as folder:
-        found, page = reports.report_made(number, folder)
-    page = random_calls.without_volatile(page, BENCH.program).replace(folder, "FOLDER")
-    return [found.verdict.word, *page_text(page)]
+        result, page = reports.make_report_of_pair(number, folder)
+    page = random_calls.replace_volatile_text(page, BENCH.program).replace(folder, "FOLDER")
+    return [result.verdict.word, *page_text(page)]
 
 
-def text_of(name: str) -> list[str]:
+def read_snapshot(name: str) -> list[str]:
     """Return the lines to store for a run of qc such as `call 17`, `named a list`, `report 3`."""
     kind, _, rest = name.partition(" ")
     if kind == "call":
-        return call_text(random_calls.run_random_call(int(rest), BENCH.program))
+        return format_call_output(random_calls.run_random_call(int(rest), BENCH.program))
     if kind == "named":
-        return call_text(random_calls.run_named_call(rest, BENCH.program))
-    return folder_text(int(rest)) if kind == "many" else report_text(int(rest))
+        return format_call_output(random_calls.run_named_call(rest, BENCH.program))
+    return format_folder_snapshot(int(rest)) if kind == "many" else report_text(int(rest))
 
 
-def path_of(group: str) -> str:
+def get_snapshot_path(group: str) -> str:
     return os.path.join(FOLDER, f"{group}.txt")
 
 
 def stored(group: str) -> dict[str, list[str]]:
     """Read the stored lines of each run in a group, by the name of the run."""
-    found: dict[str, list[str]] = {}
-    with open(path_of(group), encoding="utf-8") as file:
+    result: dict[str, list[str]] = {}
+    with open(get_snapshot_path(group), encoding="utf-8") as file:
         for line in file.read().split("\n")[:-1]:
             if line.startswith("=== "):
-                lines = found[line[4:]] = []
+                lines = result[line[4:]] = []
             else:
                 lines.append(line)
-    return found
+    return result
 
 
 def store(group: str, texts: dict[str, list[str]]) -> None:
-    with open(path_of(group), "w", encoding="utf-8") as file:
+    with open(get_snapshot_path(group), "w", encoding="utf-8") as file:
         for name, lines in texts.items():
             file.write("\n".join([f"=== {name}", *lines, ""]))
 
@@ -181,7 +182,7 @@ def is_hash(change: Change) -> bool:
     return all(re.fullmatch(r"[0-9a-f]{8}", word) for word in change)
 
 
-def cropped(line: str, change: str) -> str:
+def crop_line(line: str, change: str) -> str:
     """Return the part of a long line around a changed text."""
     at = max(0, line.find(change) - 50)
     return ".." * bool(at) + line[at:at + 150] + ".." * (len(line) > at + 150)
@@ -197,13 +198,14 @@ def summary(changed: dict[str, list[tuple[Change, str, str]]]) -> list[str]:
         for change, old, new in kept:
             calls.setdefault(change, []).append(name)
             lines.setdefault(change, (old, new))
-    found: list[str] = []
-    for change, names in sorted(calls.items(), key=lambda item: -len(set(item[1])))[:MOST]:
+    result: list[str] = []
+    for change, names in sorted(calls.items(), key=lambda item: -len(set(item[1])))[:MAX_CHANGES]:
         old, new = lines[change]
-        found.append(f"  in {len(set(names))} calls, first in {names[0]}:")
-        found += [f"    - {cropped(old, change.before)}"] * bool(old)
-        found += [f"    + {cropped(new, change.after)}"] * bool(new)
-    return [*found, *[f"  and {len(calls) - MOST} more changes"] * (len(calls) > MOST)]
+        result.append(f"  in {len(set(names))} calls, first in {names[0]}:")
+        result += [f"    - {crop_line(old, change.before)}"] * bool(old)
+        result += [f"    + {crop_line(new, change.after)}"] * bool(new)
+    return [*result,
+            *[f"  and {len(calls) - MAX_CHANGES} more changes"] * (len(calls) > MAX_CHANGES)]
 
 
 def compare(group: str, make: Callable[[str], list[str]], is_updated: bool) -> str:

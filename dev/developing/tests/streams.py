@@ -3,9 +3,10 @@ from __future__ import annotations
 
 from typing import Callable, Collection, Iterable, Iterator, Mapping, NamedTuple, Sequence
 
-from developing.multiplex import ADAPTATION_ALONE, BEGINS, PACKET, PAYLOAD, make_head, make_section
+from developing.multiplex import (
+    ADAPTATION_ALONE, PACKET, PAYLOAD, PAYLOAD_START, make_packet_header, make_section)
 from developing.pes import encode_pts, decode_pts
-from subtitles.common.times import CLOCK, TICKS, ticks_between, wrap_pts
+from subtitles.common.times import CLOCK, TICKS, subtract_pts, wrap_pts
 from subtitles.stream.gaps import SECOND
 from .transmissions import packets
 
@@ -14,10 +15,10 @@ PMT_PID, VIDEO_PID, AUDIO_PID, TELETEXT_PID = 0x100, 0x200, 0x201, 0x101
 NULL_PID = 0x1FFF
 MPEG_2, H_264, HEVC, PRIVATE = 0x02, 0x1B, 0x24, 0x06
 SLICES = b"\0\0\1\1" + b"slice data " * 9  # slices of an MPEG-2 picture
-AHEAD = 18_000  # difference between PTS and PCR in ticks
+PTS_AHEAD = 18_000  # difference between PTS and PCR in ticks
 
 
-def mpeg_2_picture(structure: int = 3) -> bytes:
+def make_mpeg_2_picture(structure: int = 3) -> bytes:
     """Return an MPEG-2 frame picture, or a field picture if `structure` is 1 or 2."""
     extension = bytes([0x80, 0, structure, 0, 0])
     return b"\0\0\1\0\0\0\0\0" + b"\0\0\1\xb5" + extension + SLICES
@@ -26,31 +27,31 @@ def mpeg_2_picture(structure: int = 3) -> bytes:
 CLOSED_GROUP = b"\0\0\1\xb8\0\x08\0\x40"  # an MPEG-2 GOP header with closed_gop
 
 
-def h_264_picture(field: int | None = None) -> bytes:
+def make_h_264_picture(field: int | None = None) -> bytes:
     """Return an H.264 frame or field (0 or 1), with a sequence parameter set that allows fields."""
     # Baseline profile, level 3, seq_parameter_set_id 0, frame_num with 4 bits, pic_order_cnt_type
     # 2, one reference frame, width and height of 16 macroblocks, frame_mbs_only_flag 0.
-    sequence = bits_of("01000010 00000000 00011110 1 1 011 010 0 00001111 00001111 0 1 0 0 1")
+    sequence = convert_bits("01000010 00000000 00011110 1 1 011 010 0 00001111 00001111 0 1 0 0 1")
     # first_mb_in_slice 0, slice_type 2, pic_parameter_set_id 0, frame_num 0, field_pic_flag
     flags = "0" if field is None else f"1{field}"
     return (b"\0\0\0\1\x09\xf0" + b"\0\0\0\1\x67" + sequence + b"\0\0\1\x65"
-            + bits_of(f"1 011 1 0000 {flags} 1") + b"\x55" * 40)
+            + convert_bits(f"1 011 1 0000 {flags} 1") + b"\x55" * 40)
 
 
-def bits_of(text: str) -> bytes:
+def convert_bits(text: str) -> bytes:
     """Convert a string of binary digits to bytes, padded with zero bits."""
     digits = text.replace(" ", "")
     digits += "0" * (-len(digits) % 8)
     return bytes(int(digits[at:at + 8], 2) for at in range(0, len(digits), 8))
 
 
-def hevc_picture() -> bytes:
+def make_hevc_picture() -> bytes:
     """Return an HEVC picture with two slice segments."""
     return b"\0\0\0\1\x46\x01\x50" + b"\0\0\1\x26\x01\xaf" + b"\x55" * 40 \
         + b"\0\0\1\x26\x01\x2f" + b"\x55" * 40
 
 
-def video_packet(pts: int | None, data: bytes) -> bytes:
+def make_video_packet(pts: int | None, data: bytes) -> bytes:
     """Return a video PES packet with PES_packet_length 0."""
     if pts is None:
         return b"\0\0\1\xe0\0\0\x80\0\0" + data
@@ -60,7 +61,7 @@ def video_packet(pts: int | None, data: bytes) -> bytes:
 Component = tuple[int, int, bytes]  # a PID, its stream_type and its descriptors
 
 
-def program_association(pmt_pids: Iterable[tuple[int, int]]) -> bytes:
+def make_program_association(pmt_pids: Iterable[tuple[int, int]]) -> bytes:
     """Return a PAT section from pairs of a programme number and a PMT PID."""
     return make_section(0, 1, b"".join(number.to_bytes(2, "big") + (0xE000 | pid).to_bytes(2, "big")
                                        for number, pid in pmt_pids))
@@ -73,7 +74,7 @@ def program_map(number: int, components: Iterable[Component], pcr_pid: int) -> b
         + (0xF000 | len(more)).to_bytes(2, "big") + more for pid, kind, more in components))
 
 
-class Maker:
+class StreamMaker:
     """A builder for the TS packets of a transport stream with one programme."""
 
     def __init__(self, components: list[Component], pcr_pid: int = VIDEO_PID) -> None:
@@ -81,7 +82,7 @@ class Maker:
         self.counters: dict[int, int] = {}
         self.pcr_pid = pcr_pid
         self.tables: Sequence[tuple[int, bytes]] = [
-            (0, program_association([(1, PMT_PID)])),
+            (0, make_program_association([(1, PMT_PID)])),
             (PMT_PID, program_map(1, components, pcr_pid))]
 
     @property
@@ -90,16 +91,16 @@ class Maker:
 
     def taken(self) -> list[bytes]:
         """Return the packets made since the last call, and forget them."""
-        made, self.packets = self.packets, []
-        return made
+        result, self.packets = self.packets, []
+        return result
 
-    def taken_of(self, pid: int) -> list[Packet]:
+    def list_taken_packets(self, pid: int) -> list[Packet]:
         """Return the TS packets made since the last call, each with the PID `pid`."""
-        return [Packet(pid, one) for one in self.taken()]
+        return [Packet(pid, item) for item in self.taken()]
 
     def put_tables(self) -> None:
         for pid, data in self.tables:
-            self.put_packet(pid, BEGINS, data.ljust(PACKET - 4, b"\xff"))
+            self.put_packet(pid, PAYLOAD_START, data.ljust(PACKET - 4, b"\xff"))
 
     def put_packet(self, pid: int, begins: int, payload: bytes, field: bytes = b"") -> None:
         """Add a TS packet with this payload, filled with stuffing bytes."""
@@ -112,13 +113,14 @@ class Maker:
         counter = self.counters.get(pid, 15 if payload else 0)
         counter = counter + 1 & 15 if payload else counter
         self.counters[pid] = counter
-        made = make_head(pid, begins, control | counter) + field + payload
-        assert len(made) == PACKET
-        self.packets.append(made)
+        result = make_packet_header(pid, begins, control | counter) + field + payload
+        assert len(result) == PACKET
+        self.packets.append(result)
 
     def put(self, pid: int, data: bytes, is_access: bool = False) -> None:
         first = 160 if is_access else PACKET - 4
-        self.put_packet(pid, BEGINS, data[:first], bytes([RANDOM_ACCESS]) if is_access else b"")
+        self.put_packet(pid, PAYLOAD_START, data[:first], bytes([RANDOM_ACCESS]) if is_access
+                        else b"")
         for at in range(first, len(data), PACKET - 4):
             self.put_packet(pid, 0, data[at:at + PACKET - 4])
 
@@ -127,41 +129,41 @@ class Maker:
         self.put_packet(self.pcr_pid, 0, b"", field)
 
 
-def teletext_descriptor(language: bytes = b"eng", kind: int = 2, page: int = 0x88,
-                        magazine: int = 0) -> bytes:
+def make_teletext_descriptor(language: bytes = b"eng", kind: int = 2, page: int = 0x88,
+                             magazine: int = 0) -> bytes:
     return b"\x56\x05" + language + bytes([kind << 3 | magazine, page])
 
 
-def components(kind: int = MPEG_2, descriptor: bytes = teletext_descriptor(),
-               pid: int = TELETEXT_PID) -> list[Component]:
+def make_components(kind: int = MPEG_2, descriptor: bytes = make_teletext_descriptor(),
+                    pid: int = TELETEXT_PID) -> list[Component]:
     """Return a video component and a Teletext component."""
     return [(VIDEO_PID, kind, b""), (pid, PRIVATE, descriptor)]
 
 
-def with_pictures(pes: bytes, first: int, kind: int = MPEG_2, picture: bytes = b"",
-                  passed: int = 3, leading: int = 2) -> Maker:
+def add_pictures(pes: bytes, first: int, kind: int = MPEG_2, picture: bytes = b"",
+                 passed: int = 3, leading: int = 2) -> StreamMaker:
     """Make a stream whose first random access picture in display order has the PTS `first`.
 
     `passed` pictures precede it. `leading` pictures follow it but are displayed before it. The
     group is closed, except with H.264.
     """
-    maker = Maker(components(kind))
-    made = picture or {MPEG_2: mpeg_2_picture(), H_264: h_264_picture(),
-                       HEVC: hevc_picture()}[kind]
+    maker = StreamMaker(make_components(kind))
+    result = picture or {MPEG_2: make_mpeg_2_picture(), H_264: make_h_264_picture(),
+                         HEVC: make_hevc_picture()}[kind]
     maker.put_tables()
     for number in range(passed):
-        maker.put(VIDEO_PID, video_packet(first + TICKS * (number - passed), made))
+        maker.put(VIDEO_PID, make_video_packet(first + TICKS * (number - passed), result))
     group_begin = CLOSED_GROUP if kind == MPEG_2 else b""
     for number in range(2):
         group = first + TICKS * (leading + 12) * number
-        maker.put(VIDEO_PID, video_packet(group + TICKS * leading, group_begin + made), True)
+        maker.put(VIDEO_PID, make_video_packet(group + TICKS * leading, group_begin + result), True)
         for place in range(leading):
-            maker.put(VIDEO_PID, video_packet(group + TICKS * place, made))
+            maker.put(VIDEO_PID, make_video_packet(group + TICKS * place, result))
         for place in range(leading + 1, leading + 12):
-            maker.put(VIDEO_PID, video_packet(group + TICKS * place, made))
-    for one in packets(pes):
-        maker.put_pcr(decode_pts(one) - AHEAD)
-        maker.put(TELETEXT_PID, one)
+            maker.put(VIDEO_PID, make_video_packet(group + TICKS * place, result))
+    for packet in packets(pes):
+        maker.put_pcr(decode_pts(packet) - PTS_AHEAD)
+        maker.put(TELETEXT_PID, packet)
     return maker
 
 
@@ -180,28 +182,29 @@ class Programme(NamedTuple):
     later: Sequence[tuple[int, int]] = ()
 
 
-def multiplex_programmes(programmes: Sequence[Programme], frames: int) -> Maker:
+def multiplex_programmes(programmes: Sequence[Programme], frames: int) -> StreamMaker:
     """Make a transport stream with several programmes.
 
     Each frame has a PCR, a picture, and the PES packets whose PTS is not later than the frame.
     """
-    maker, waiting = Maker([]), [{pid: [*pes] for pid, pes in one.pes.items()}
-                                 for one in programmes]
+    maker, waiting = StreamMaker([]), [{pid: [*pes] for pid, pes in item.pes.items()}
+                                       for item in programmes]
     pmt_pids = range(PMT_PID, PMT_PID - len(programmes), -1)
-    maker.tables = [(0, program_association(enumerate(pmt_pids, 1))), *(
-        (pid, program_map(number, [(one.video, MPEG_2, b""), *(
-            (own, PRIVATE, teletext_descriptor()) for own in one.pes)], one.video))
-        for number, (pid, one) in enumerate(zip(pmt_pids, programmes), 1))]
+    maker.tables = [(0, make_program_association(enumerate(pmt_pids, 1))), *(
+        (pid, program_map(number, [(item.video, MPEG_2, b""), *(
+            (own, PRIVATE, make_teletext_descriptor()) for own in item.pes)], item.video))
+        for number, (pid, item) in enumerate(zip(pmt_pids, programmes), 1))]
     maker.put_tables()
     for frame in range(frames):
-        for one, rest in zip(programmes, waiting):
-            now = one.first + TICKS * frame
-            later = sum(by for begin, by in one.later if begin <= frame)
-            maker.pcr_pid = one.video
-            maker.put_pcr(now - AHEAD)
-            maker.put(one.video, video_packet(now + later, mpeg_2_picture()), frame in one.flagged)
+        for item, rest in zip(programmes, waiting):
+            now = item.first + TICKS * frame
+            later = sum(by for begin, by in item.later if begin <= frame)
+            maker.pcr_pid = item.video
+            maker.put_pcr(now - PTS_AHEAD)
+            maker.put(item.video, make_video_packet(now + later, make_mpeg_2_picture()),
+                      frame in item.flagged)
             for pid, pes in rest.items():
-                while pes and ticks_between(decode_pts(pes[0]), wrap_pts(now)) >= 0:
+                while pes and subtract_pts(decode_pts(pes[0]), wrap_pts(now)) >= 0:
                     maker.put(pid, pes.pop(0))
     return maker
 
@@ -212,22 +215,22 @@ def multiplex_frames(pes: list[bytes], begin: int, count: int, rounds: int = 66,
 
     Each frame has a PCR, PES packets, and 16 * `rounds` video packets. 66 rounds are 40 Mbit/s.
     """
-    maker = Maker(components(descriptor=teletext_descriptor(page=page)))
-    filler = b"".join(make_head(VIDEO_PID, 0, PAYLOAD | counter) + b"\x55" * (PACKET - 4)
+    maker = StreamMaker(make_components(descriptor=make_teletext_descriptor(page=page)))
+    filler = b"".join(make_packet_header(VIDEO_PID, 0, PAYLOAD | counter) + b"\x55" * (PACKET - 4)
                       for counter in range(16)) * rounds
     at = 0
     for frame in range(count):
         now = begin + TICKS * frame
         if frame % 12 == 0:
             maker.put_tables()
-        maker.put_pcr(now - AHEAD)
-        while at < len(pes) and ticks_between(decode_pts(pes[at]), wrap_pts(now)) >= 0:
+        maker.put_pcr(now - PTS_AHEAD)
+        while at < len(pes) and subtract_pts(decode_pts(pes[at]), wrap_pts(now)) >= 0:
             maker.put(TELETEXT_PID, pes[at])
             at += 1
         yield b"".join([*maker.taken(), filler])
 
 
-def with_packet_size(data: bytes, size: int) -> bytes:
+def change_packet_size(data: bytes, size: int) -> bytes:
     """Extend each TS packet of 188 bytes to 192 or 204 bytes."""
     before, behind = (b"time", b"") if size == 192 else (b"", b"\xa5" * (size - PACKET))
     return b"".join(before + data[at:at + PACKET] + behind
@@ -241,44 +244,46 @@ class Packet(NamedTuple):
     data: bytes
 
 
-def stream_of(pes: list[bytes], begin: int, end: int, rate: int = 200, pid: int = TELETEXT_PID,
-              before: Maker | None = None) -> tuple[list[Packet], Maker]:
+def make_teletext_stream(pes: list[bytes], begin: int, end: int, rate: int = 200,
+                         pid: int = TELETEXT_PID,
+                         before: StreamMaker | None = None) -> tuple[list[Packet], StreamMaker]:
     """Return the packets of a transport stream from PTS `begin` to `end`, and their maker.
 
     The stream has PES packets of Teletext, `rate` video and audio packets per second, a PCR every
     40 ms, and tables twice a second. It continues the continuity counters of `before`.
     """
-    maker = Maker(components(pid=pid))
+    maker = StreamMaker(make_components(pid=pid))
     maker.counters = before.counters if before else maker.counters
-    made: list[Packet] = []
+    result: list[Packet] = []
     due = [*map(decode_pts, pes), None]
     second, at, clock = TICKS * 25, 0, 0
     for number in range((end - begin) * rate // second):
         now = begin + number * second // rate
         if number % (rate // 2) == 0:
             maker.put_tables()
-            made += maker.taken_of(0)
+            result += maker.list_taken_packets(0)
         if now - begin >= clock:
             clock += TICKS
-            maker.put_pcr(now - AHEAD)
-            made += maker.taken_of(VIDEO_PID)
-        while (pts := due[at]) is not None and ticks_between(pts, wrap_pts(now)) >= 0:
+            maker.put_pcr(now - PTS_AHEAD)
+            result += maker.list_taken_packets(VIDEO_PID)
+        while (pts := due[at]) is not None and subtract_pts(pts, wrap_pts(now)) >= 0:
             maker.put(pid, pes[at])
-            made += maker.taken_of(pid)
+            result += maker.list_taken_packets(pid)
             at += 1
         own = AUDIO_PID if number % 9 == 0 else VIDEO_PID
-        made.append(filler(own, maker.counters))
-    return made, maker
+        result.append(filler(own, maker.counters))
+    return result, maker
 
 
 def filler(pid: int, counters: dict[int, int]) -> Packet:
     """Return the next TS packet for a PID, with a meaningless payload."""
     counter = counters[pid] = counters.get(pid, 15) + 1 & 15
-    return FILLERS[pid][counter]
+    return FILLER_PACKETS[pid][counter]
 
 
-FILLERS = {pid: [Packet(pid, make_head(pid, 0, PAYLOAD | counter) + b"\x55" * (PACKET - 4))
-                 for counter in range(16)] for pid in (VIDEO_PID, AUDIO_PID, NULL_PID)}
+FILLER_PACKETS = {pid: [Packet(pid, make_packet_header(pid, 0, PAYLOAD | counter)
+                               + b"\x55" * (PACKET - 4))
+                        for counter in range(16)] for pid in (VIDEO_PID, AUDIO_PID, NULL_PID)}
 
 
 class Shape(NamedTuple):
@@ -299,9 +304,9 @@ class Shape(NamedTuple):
 
 def make_multiplex(pes: list[bytes], shape: Shape) -> list[Packet]:
     """Make a transport stream with PES packets of Teletext, video with PCRs, and audio."""
-    maker = Maker(components())
+    maker = StreamMaker(make_components())
     maker.put_tables()
-    made = maker.taken_of(0)
+    result = maker.list_taken_packets(0)
     begin, end = (decode_pts(pes[at]) for at in (0, -1))
     frames, due, waiting = (end - begin) // TICKS + 30, begin - SECOND, list(pes)
     for number in range(frames * shape.rate // 25):
@@ -311,21 +316,21 @@ def make_multiplex(pes: list[bytes], shape: Shape) -> list[Packet]:
         if now >= due:
             due += shape.every
             if not shape.pause[0] <= frame < shape.pause[1]:
-                maker.put_pcr(now - AHEAD + later)
-                made += maker.taken_of(VIDEO_PID)
+                maker.put_pcr(now - PTS_AHEAD + later)
+                result += maker.list_taken_packets(VIDEO_PID)
                 if later and shape.is_announced:
-                    made[-1] = Packet(VIDEO_PID, announce_jump(made[-1].data))
+                    result[-1] = Packet(VIDEO_PID, announce_jump(result[-1].data))
         if waiting and decode_pts(waiting[0]) <= now:
             maker.put(TELETEXT_PID, waiting.pop(0))
-            made += maker.taken_of(TELETEXT_PID)
+            result += maker.list_taken_packets(TELETEXT_PID)
         pid = NULL_PID if shape.has_null and number % 3 else \
             AUDIO_PID if number % 9 == 0 else VIDEO_PID
-        made.append(filler(pid, maker.counters))
-    return made
+        result.append(filler(pid, maker.counters))
+    return result
 
 
-def stream_bytes(made: Iterable[Packet]) -> bytes:
-    return b"".join(one.data for one in made)
+def join_packets(result: Iterable[Packet]) -> bytes:
+    return b"".join(item.data for item in result)
 
 
 def announce_jump(data: bytes) -> bytes:
@@ -333,75 +338,76 @@ def announce_jump(data: bytes) -> bytes:
     return data[:5] + bytes([data[5] | 0x80]) + data[6:]
 
 
-def teletext_places(made: Sequence[Packet], pts: int) -> list[int]:
+def find_teletext_places(result: Sequence[Packet], pts: int) -> list[int]:
     """Return the indexes of Teletext packets, beginning with the PES packet that has this PTS."""
     begin = encode_pts(pts)
-    first = next(at for at, one in enumerate(made)
-                 if one.pid == TELETEXT_PID and begin in one.data[4:40])
-    return [at for at in range(first, len(made)) if made[at].pid == TELETEXT_PID]
+    first = next(at for at, item in enumerate(result)
+                 if item.pid == TELETEXT_PID and begin in item.data[4:40])
+    return [at for at in range(first, len(result)) if result[at].pid == TELETEXT_PID]
 
 
-def with_loss(made: Sequence[Packet], pts: int, count: int, is_announced: bool = False
-              ) -> list[Packet]:
+def remove_packets_at(result: Sequence[Packet], pts: int, count: int, is_announced: bool = False
+                      ) -> list[Packet]:
     """Delete `count` Teletext packets, beginning with the PES packet that has this PTS.
 
     If the loss is announced, insert a packet with a discontinuity_indicator.
     """
-    missing = teletext_places(made, pts)[:count]
+    missing = find_teletext_places(result, pts)[:count]
     field = bytes([PACKET - 5, 0x80]).ljust(PACKET - 4, b"\xff")
-    says = Packet(TELETEXT_PID, make_head(TELETEXT_PID, 0, ADAPTATION_ALONE) + field)
-    return [says if at in missing else one for at, one in enumerate(made)
+    says = Packet(TELETEXT_PID, make_packet_header(TELETEXT_PID, 0, ADAPTATION_ALONE) + field)
+    return [says if at in missing else item for at, item in enumerate(result)
             if at not in missing or is_announced and at == missing[-1]]
 
 
-def delete_between(made: list[Packet], first: int, count: int) -> list[Packet]:
+def delete_between(result: list[Packet], first: int, count: int) -> list[Packet]:
     """Delete all packets from Teletext packet `first` until Teletext packet `first + count`."""
-    own = [at for at, one in enumerate(made) if one.pid == TELETEXT_PID]
-    return made[:own[first]] + made[own[first + count]:]
+    own = [at for at, item in enumerate(result) if item.pid == TELETEXT_PID]
+    return result[:own[first]] + result[own[first + count]:]
 
 
 OLD, NEW = TELETEXT_PID, 0x111
 # A function that returns the PES packets, with their PIDs, sent in place of a PES packet.
-Carried = Callable[[int], Sequence[tuple[int, bytes]]]
+CarriedPackets = Callable[[int], Sequence[tuple[int, bytes]]]
 
 
-def stream_by_plan(pes: Sequence[bytes], plan: Sequence[tuple[int, int]],
-                   carried: Carried | None = None,
-            descriptor: bytes = teletext_descriptor(), ahead: int | None = AHEAD) -> bytes:
+def make_planned_stream(pes: Sequence[bytes], plan: Sequence[tuple[int, int]],
+                        carried: CarriedPackets | None = None,
+            descriptor: bytes = make_teletext_descriptor(), ahead: int | None = PTS_AHEAD) -> bytes:
     """Return a transport stream whose Teletext moves to other PIDs.
 
     `plan` contains indexes of PES packets, each with the PID that the PMT names from this packet
     on. `carried` may put PES packets on other PIDs. PCRs precede PES packets by `ahead` ticks.
     """
-    maker, pid = Maker([]), 0
-    for number, one in enumerate(pes):
+    maker, pid = StreamMaker([]), 0
+    for number, item in enumerate(pes):
         for begin, named in plan:
             if begin == number:
                 pid = named
-                maker.tables = Maker(components(MPEG_2, descriptor, pid)).tables
+                maker.tables = StreamMaker(make_components(MPEG_2, descriptor, pid)).tables
                 maker.put_tables()
         if ahead is not None:
-            maker.put_pcr(decode_pts(one) - ahead)
-        for each, data in carried(number) if carried else [(pid, one)]:
+            maker.put_pcr(decode_pts(item) - ahead)
+        for each, data in carried(number) if carried else [(pid, item)]:
             maker.put(each, data)
     return maker.data
 
 
-def stream_with_video(pes: bytes, descriptor: bytes = teletext_descriptor(),
-                 ahead: int = AHEAD) -> bytes:
+def make_stream_with_video(pes: bytes, descriptor: bytes = make_teletext_descriptor(),
+                 ahead: int = PTS_AHEAD) -> bytes:
     """Make a transport stream of Teletext PES packets, with PCRs on the video PID."""
-    return stream_by_plan(packets(pes), [(0, TELETEXT_PID)], None, descriptor, ahead)
+    return make_planned_stream(packets(pes), [(0, TELETEXT_PID)], None, descriptor, ahead)
 
 
-def stream_of_pids(*of_pids: tuple[int, bytes]) -> bytes:
+def make_stream_of_pids(*of_pids: tuple[int, bytes]) -> bytes:
     """Make a stream with PES packets of page 888 on several PIDs, in ascending order of PTS."""
-    maker = Maker([(VIDEO_PID, MPEG_2, b""), *(
-        (pid, PRIVATE, teletext_descriptor()) for pid, _ in of_pids)])
+    maker = StreamMaker([(VIDEO_PID, MPEG_2, b""), *(
+        (pid, PRIVATE, make_teletext_descriptor()) for pid, _ in of_pids)])
     maker.put_tables()
-    waiting = sorted((decode_pts(one), pid, one) for pid, data in of_pids for one in packets(data))
+    waiting = sorted((decode_pts(item), pid, item)
+                     for pid, data in of_pids for item in packets(data))
     for now in range(waiting[0][0], waiting[-1][0] + TICKS, TICKS):
-        maker.put_pcr(now - AHEAD)
+        maker.put_pcr(now - PTS_AHEAD)
         while waiting and waiting[0][0] <= now:
-            _, pid, one = waiting.pop(0)
-            maker.put(pid, one)
+            _, pid, item = waiting.pop(0)
+            maker.put(pid, item)
     return maker.data

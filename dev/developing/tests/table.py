@@ -14,7 +14,7 @@ PACKAGE = "subtitles/"
 TIMES = 3  # number of test classes chosen for each function
 
 
-class Called(NamedTuple):
+class CalledFunctions(NamedTuple):
     """The functions that a test class calls, such as `stream/gaps.py:late_of`, and its run time."""
 
     functions: AbstractSet[str]
@@ -24,22 +24,22 @@ class Called(NamedTuple):
 def rows() -> dict[str, list[str]]:
     """Read the table, and return the test classes for each module or script."""
     with open(PATH, encoding="utf-8") as file:
-        found = [line.rstrip("\n").split("\t") for line in file if not line.startswith("#")]
-    return {module: tests.split() for module, tests in found}
+        result = [line.rstrip("\n").split("\t") for line in file if not line.startswith("#")]
+    return {module: tests.split() for module, tests in result}
 
 
-def module_of(name: str) -> str:
+def get_module_path(name: str) -> str:
     """Return the name in the table, such as `stream/gaps.py`, for a path or a dotted name."""
     path = name.removeprefix("tools/").removeprefix(PACKAGE).removeprefix("subtitles.")
     is_path = "/" in path or path.endswith(".py") or "." not in path
     return path if is_path else path.replace(".", "/") + ".py"
 
 
-def tests_of(name: str) -> list[str]:
-    return rows().get(module_of(name), [])
+def list_tests_of(name: str) -> list[str]:
+    return rows().get(get_module_path(name), [])
 
 
-def chosen(functions: Collection[str], classes: Mapping[str, Called],
+def chosen(functions: Collection[str], classes: Mapping[str, CalledFunctions],
            near: Collection[str] = (), standing: Collection[str] = ()) -> list[str]:
     """Choose test classes so that `TIMES` of them call each function.
 
@@ -47,27 +47,27 @@ def chosen(functions: Collection[str], classes: Mapping[str, Called],
     chosen. Others are chosen one by one, first from `near`, until no function is missing: always
     the class that calls the largest number of missing functions for its run time.
     """
-    wanted = {name: min(TIMES, sum(name in one.functions for one in classes.values()))
-              for name in functions}
-    found = list[str]()
+    expected = {name: min(TIMES, sum(name in item.functions for item in classes.values()))
+                for name in functions}
+    result = list[str]()
 
     def take(name: str) -> None:
-        found.append(name)
-        for one in classes[name].functions & wanted.keys() if name in classes else ():
-            wanted[one] -= 1
+        result.append(name)
+        for item in classes[name].functions & expected.keys() if name in classes else ():
+            expected[item] -= 1
 
     def lacking(name: str) -> int:
-        return sum(wanted.get(one, 0) > 0 for one in classes[name].functions)
+        return sum(expected.get(item, 0) > 0 for item in classes[name].functions)
 
     for name in standing:
         take(name)
     for some in ({*near}, {*classes}):
-        while rest := [name for name in sorted(some - {*found}) if lacking(name)]:
+        while rest := [name for name in sorted(some - {*result}) if lacking(name)]:
             take(max(rest, key=lambda name: lacking(name) / (1 + classes[name].seconds)))
-    return sorted(found)
+    return sorted(result)
 
 
-def lines(classes: Mapping[str, Called], kinds: Collection[Type[object]],
+def lines(classes: Mapping[str, CalledFunctions], kinds: Collection[Type[object]],
           before: Mapping[str, Sequence[str]]) -> Iterator[str]:
     """Yield the new lines of the table.
 
@@ -75,27 +75,28 @@ def lines(classes: Mapping[str, Called], kinds: Collection[Type[object]],
     are chosen because they call the module's functions, preferably classes that import it. A
     script's tests are found by its name in their source.
     """
-    names = {name_of(one) for one in kinds}
+    names = {get_type_name(item) for item in kinds}
     standing = {module: {*tests} & names for module, tests in before.items()}
-    functions = {one for called in classes.values() for one in called.functions
-                 if not one.partition(":")[0].endswith("__init__.py")}
-    modules = {name_of(one): inspect.getsource(sys.modules[one.__module__]) for one in kinds}
-    for module in sorted({one.partition(":")[0] for one in functions} | {
-            one for one in standing if os.path.isfile(os.path.join(TOOLS, PACKAGE, one))}):
-        own = [one for one in functions if one.startswith(f"{module}:")]
+    functions = {item for called in classes.values() for item in called.functions
+                 if not item.partition(":")[0].endswith("__init__.py")}
+    modules = {get_type_name(item): inspect.getsource(sys.modules[item.__module__])
+               for item in kinds}
+    for module in sorted({item.partition(":")[0] for item in functions} | {
+            item for item in standing if os.path.isfile(os.path.join(TOOLS, PACKAGE, item))}):
+        own = [item for item in functions if item.startswith(f"{module}:")]
         taken = f"from subtitles.{module[:-3].replace('/', '.')} import "
-        near = {one for one, text in modules.items() if taken in text and one in classes}
+        near = {item for item, text in modules.items() if taken in text and item in classes}
         some = chosen(own, classes, near, standing.get(module, ()))
         yield f"{module}\t{' '.join(some)}\n" * bool(some)
-    texts = {name_of(one): inspect.getsource(one) for one in kinds}
+    texts = {get_type_name(item): inspect.getsource(item) for item in kinds}
     for folder, prefix in ((TOOLS, ""), (DEV, "dev/")):
         for name in sorted(os.listdir(folder)):
             called = re.compile(rf"\b(?:tool|script|tool_path|typed)\(['\"]{re.escape(name)}['\"]")
-            named = {one for one, text in texts.items() if called.search(text)}
+            named = {item for item, text in texts.items() if called.search(text)}
             if named := named | standing.get(f"{prefix}{name}", set()):
                 yield f"{prefix}{name}\t{' '.join(sorted(named))}\n"
 
 
-def name_of(kind: Type[object]) -> str:
+def get_type_name(kind: Type[object]) -> str:
     """Return the name of a test class as `module.class`."""
     return f"{kind.__module__.rpartition('.')[2]}.{kind.__name__}"

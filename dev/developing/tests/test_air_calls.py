@@ -13,19 +13,19 @@ from unittest import mock
 from subtitles.air import check, main
 from subtitles.air.check import Checker, Outcome
 from subtitles.air.schedule import read_schedule
-from subtitles.air.segments import Unbroken, segment_name, segments_between, stretches_in
+from subtitles.air.segments import UnbrokenRun, find_segments, find_unbroken_runs, make_segment_name
 from subtitles.cli.single import hold_lock
-from .air import Air, DAY
-from .bench import SECONDS, tool_path
+from .air import AirCase, DAY
+from .bench import SECONDS, get_tool_path
 from .streams import multiplex_frames
 from .programmes import BEGIN, LASTS, SECOND, repeat_last_page, make_programme, wait_until
 from .transmissions import packets, write_subtitle_file
 
-LEAD, TAIL = 4, 6  # length of the feed before and after the programme, in seconds
-ALL = LEAD + LASTS + TAIL
+LEAD_SECONDS, TAIL_SECONDS = 4, 6  # length of the feed before and after the programme, in seconds
+ALL = LEAD_SECONDS + LASTS + TAIL_SECONDS
 
 
-class Trial(NamedTuple):
+class RecordingCase(NamedTuple):
     """A test case: what is recorded of the feed, and the expected verdict.
 
     `recorded` contains seconds of the feed. If `is_wrong` is true, two PES packets are missing.
@@ -43,31 +43,35 @@ class Trial(NamedTuple):
 
 
 NO_BEGINNING = "the first subtitle was expected before the first recorded PES packet of the page"
-TRIALS = {
-    "right": Trial((0, ALL), False, 0, 60, "relative", True, "relative"),
-    "wrong": Trial((0, ALL), True, 0, 60, "refused", True, "refused 72"),
-    "it has not ended": Trial((0, LEAD + 6), False, 0, 60, "refused", False, "refused"),
-    "it has not begun": Trial((0, LEAD - 1), False, 0, 60, "not judged", False, ""),
-    "its beginning is missing": Trial((LEAD + 4, ALL), False, 0, 60, "not judged", False,
-                                      NO_BEGINNING),
-    "it begins within the margin": Trial((0, ALL), False, 0, 5, "relative", True, "relative"),
-    "it begins later": Trial((0, ALL), False, 0, 2, "not judged", False,
-                             "the programme did not begin within 2 s of 2026-12-01T08:00:00Z, but "
-                             "later"),
-    "the same, wrong": Trial((0, ALL), True, 0, 2, "not judged", False, "the programme did not "
-                             "begin within"),
-    "it begins earlier": Trial((0, ALL), False, LEAD + 4, 2, "not judged", False, NO_BEGINNING),
+AIR_CASES = {
+    "right": RecordingCase((0, ALL), False, 0, 60, "relative", True, "relative"),
+    "wrong": RecordingCase((0, ALL), True, 0, 60, "refused", True, "refused 72"),
+    "it has not ended": RecordingCase((0, LEAD_SECONDS + 6), False, 0, 60, "refused", False,
+                                      "refused"),
+    "it has not begun": RecordingCase((0, LEAD_SECONDS - 1), False, 0, 60, "not judged", False, ""),
+    "its beginning is missing": RecordingCase((LEAD_SECONDS + 4, ALL), False, 0, 60,
+                                              "not judged", False, NO_BEGINNING),
+    "it begins within the margin": RecordingCase((0, ALL), False, 0, 5, "relative", True,
+                                                 "relative"),
+    "it begins later": RecordingCase((0, ALL), False, 0, 2, "not judged", False,
+                                     "the programme did not begin within 2 s of "
+                                     "2026-12-01T08:00:00Z, but later"),
+    "the same, wrong": RecordingCase((0, ALL), True, 0, 2, "not judged", False,
+                                     "the programme did not begin within"),
+    "it begins earlier": RecordingCase((0, ALL), False, LEAD_SECONDS + 4, 2, "not judged", False,
+                                       NO_BEGINNING),
 }
 
 
-class Feeds(Air):
+class Feeds(AirCase):
     """A test case with a feed that transmits one programme."""
 
     def feed(self, is_wrong: bool = False) -> list[bytes]:
         """Return the frames of the feed; if `is_wrong`, two PES packets are missing."""
-        made = make_programme(self, "one", 1_000_000, "Alpha Beta Gamma Delta",
-                              BEGIN + SECOND * LEAD)
-        pes = packets(made + repeat_last_page(made, BEGIN + SECOND * (LEAD + LASTS), TAIL))
+        programme = make_programme(self, "one", 1_000_000, "Alpha Beta Gamma Delta",
+                                   BEGIN + SECOND * LEAD_SECONDS)
+        pes = packets(programme + repeat_last_page(programme, BEGIN
+                                                   + SECOND * (LEAD_SECONDS + LASTS), TAIL_SECONDS))
         if is_wrong:
             del pes[4:6]
         return [*multiplex_frames(pes, BEGIN, ALL * 25, 1)]
@@ -80,23 +84,23 @@ class Checks(Feeds):
         self.delete_all("segments", "out")
         self.put_segment(begin, begin + len(frames) / 25, b"".join(frames))
         self.write_schedule("2026-12-01T08:00:00Z one.stl")
-        one, = read_schedule(self.path("schedule"), self.args()).programmes
-        stretch, = stretches_in(segments_between(self.path("segments"), DAY, DAY + 60), 5)
+        item, = read_schedule(self.path("schedule"), self.args()).programmes
+        stretch, = find_unbroken_runs(find_segments(self.path("segments"), DAY, DAY + 60), 5)
         out = self.path("out")
         checker = Checker(program or self.bench.program, "qc", out, out, margin)
-        found = checker.check(one.request, one.name, DAY + air, stretch)
+        result = checker.check(item.request, item.name, DAY + air, stretch)
         checker.clear()
         self.check("files that are left", os.listdir(out), [])
-        return found
+        return result
 
     def test_each_recording_gets_its_verdict(self) -> None:
         feeds = [self.feed(is_wrong) for is_wrong in (False, True)]
-        for name, trial in TRIALS.items():
+        for name, trial in AIR_CASES.items():
             first, last = trial.recorded
-            found = self.judged(feeds[trial.is_wrong][first * 25:last * 25], first, trial.air,
-                                trial.margin)
-            self.check(name, (found.verdict, found.is_final), (trial.verdict, trial.is_final))
-            self.must(f"{name}: why", found.reason.startswith(trial.reason), found.reason)
+            result = self.judged(feeds[trial.is_wrong][first * 25:last * 25], first, trial.air,
+                                 trial.margin)
+            self.check(name, (result.verdict, result.is_final), (trial.verdict, trial.is_final))
+            self.must(f"{name}: why", result.reason.startswith(trial.reason), result.reason)
 
     def test_a_result_notes_the_margin_of_its_air_time(self) -> None:
         for is_wrong in (False, True):
@@ -105,59 +109,63 @@ class Checks(Feeds):
                       result["notes"], result)
 
     def test_a_killed_program_gives_no_result(self) -> None:
-        found = self.judged(self.feed(), program=self.program_but("check*", "kill -9 $$"))
-        self.check("result", found.result, None)
+        outcome = self.judged(self.feed(),
+                              program=self.make_program_with_exception("check*", "kill -9 $$"))
+        self.check("result", outcome.result, None)
 
     def test_refuses_an_invalid_subtitle_file_for_any_transmission(self) -> None:
         frames = self.feed()
         write_subtitle_file(self, [(100, 100, b"Never")])
-        found = self.judged(frames[:50])
-        self.check("it", (found.verdict, found.is_final), ("refused", True))
+        result = self.judged(frames[:50])
+        self.check("it", (result.verdict, result.is_final), ("refused", True))
 
     def test_stops_a_check_that_takes_too_long(self) -> None:
-        program = self.program_but("check*", "sleep 60")
-        with mock.patch.object(check, "LEAST_SECONDS", 0.1):
-            found = self.judged(self.feed(), program=program)
-        self.must("it", found.result is None and "not judged within" in found.reason, found)
+        program = self.make_program_with_exception("check*", "sleep 60")
+        with mock.patch.object(check, "MIN_SECONDS", 0.1):
+            outcome = self.judged(self.feed(), program=program)
+        self.must("it", outcome.result is None and "not judged within" in outcome.reason, outcome)
 
     def test_copies_nothing_to_a_full_disk(self) -> None:
-        with mock.patch.object(check, "SPARE", 1 << 60):
-            found = self.judged(self.feed())
-        self.must("no room", found.result is None and found.reason.startswith("no room"), found)
+        with mock.patch.object(check, "SPARE_BYTES", 1 << 60):
+            outcome = self.judged(self.feed())
+        self.must("no room", outcome.result is None and outcome.reason.startswith("no room"),
+                  outcome)
 
     def test_a_truncated_segment_gives_no_result(self) -> None:
-        real = Unbroken.read
+        real = UnbrokenRun.read
 
-        def read(stretch: Unbroken, begin: float, end: float) -> Iterator[bytes]:
+        def read(stretch: UnbrokenRun, begin: float, end: float) -> Iterator[bytes]:
             os.truncate(stretch.segments[0].path, 5000)
             return real(stretch, begin, end)
 
-        with mock.patch.object(Unbroken, "read", read):
-            found = self.judged(self.feed())
-        self.must("it", found.result is None and found.reason.endswith("became shorter"), found)
+        with mock.patch.object(UnbrokenRun, "read", read):
+            outcome = self.judged(self.feed())
+        self.must("it", outcome.result is None and outcome.reason.endswith("became shorter"),
+                  outcome)
 
 
 class Calls(Feeds):
-    def record(self, frames: list[bytes], *words: str) -> None:
+    def record(self, frames: list[bytes], *args: str) -> None:
         """Record the frames of a feed without pauses between them."""
-        done = self.call([tool_path("air"), "record", self.path("segments"), "--free", "0", *words],
-                         b"".join(frames))
-        self.check("record", (done.status, done.told), (0, []))
+        process = self.call([get_tool_path("air"), "record", self.path("segments"), "--free",
+                             "0", *args],
+                            b"".join(frames))
+        self.check("record", (process.status, process.told), (0, []))
 
-    def put_on_air(self, begin: float, *options: str) -> None:
+    def start_recorder(self, begin: float, *options: str) -> None:
         """Write a schedule with the programme at this time."""
         date = datetime.datetime.fromtimestamp(begin, datetime.timezone.utc)
         self.write_schedule(" ".join([f"{date:%Y-%m-%dT%H:%M:%SZ}", "one.stl", *options]))
 
-    def judge_command(self, *words: str) -> list[str]:
-        return [tool_path("air"), "judge", self.path("schedule"), self.path("segments"), "-o",
-                self.path("out"), "-p", self.bench.program, *words]
+    def judge_command(self, *args: str) -> list[str]:
+        return [get_tool_path("air"), "judge", self.path("schedule"), self.path("segments"), "-o",
+                self.path("out"), "-p", self.bench.program, *args]
 
-    def spread(self, begin: float, end: float) -> None:
+    def write_feed(self, begin: float, end: float) -> None:
         """Rename the segments so that the first begins at `begin`. Set their times to `end`."""
         names = sorted(name for name in os.listdir(self.path("segments")) if name.endswith(".ts"))
         for number, name in enumerate(names):
-            path = self.path(f"segments/{segment_name(begin + number)}")
+            path = self.path(f"segments/{make_segment_name(begin + number)}")
             os.rename(self.path(f"segments/{name}"), path)
             os.utime(path, (end, end))
 
@@ -170,10 +178,10 @@ class Calls(Feeds):
                 self.write(f"out/{name}", b"")
             begin = time.time()
             self.record(self.feed(is_wrong))
-            self.put_on_air(begin - 120)
-            self.spread(begin - 200, begin)
-            done = self.call(self.judge_command("--once", "--margin", "110"))
-            self.check(f"{verdict}: the call", (done.status, done.told), (0, []))
+            self.start_recorder(begin - 120)
+            self.write_feed(begin - 200, begin)
+            process = self.call(self.judge_command("--once", "--margin", "110"))
+            self.check(f"{verdict}: the call", (process.status, process.told), (0, []))
             self.check(f"{verdict}: results", [*self.verdicts().values()], [verdict])
             endings = {os.path.splitext(name.lstrip("."))[1] for name in
                        os.listdir(self.path("out"))}
@@ -187,7 +195,7 @@ class Calls(Feeds):
         assert recorder.stdin
         wait_until(lambda: os.path.exists(self.path("segments/.recorder.lock")))
         begin = time.time() + 2
-        self.put_on_air(begin + LEAD - 1)
+        self.start_recorder(begin + LEAD_SECONDS - 1)
         judge = self.start_judge()
         for number, frame in enumerate(frames):
             time.sleep(max(begin + number / 25 - time.time(), 0))
@@ -205,9 +213,9 @@ class Calls(Feeds):
         self.check("programmes that wait", json.loads(self.read("out/state.json"))["waiting"], 0)
 
     @staticmethod
-    def start(source: int, *words: str) -> subprocess.Popen[bytes]:
+    def start(source: int, *args: str) -> subprocess.Popen[bytes]:
         """Start tools/air in the background with the given standard input."""
-        return subprocess.Popen([sys.executable, tool_path("air"), *words], stdin=source,
+        return subprocess.Popen([sys.executable, get_tool_path("air"), *args], stdin=source,
                                 stdout=subprocess.DEVNULL, stderr=subprocess.DEVNULL)
 
     def start_judge(self) -> subprocess.Popen[bytes]:
@@ -224,8 +232,8 @@ class Calls(Feeds):
             "record segments --keep 0": "argument --keep: 0 is not a number of hours: give 1 to "
                                         "99999"}
         for line, message in rows.items():
-            done = self.tool("air", *line.split())
-            self.check(line or "none", (done.status, done.told), (2, [f"air: {message}"]))
+            process = self.tool("air", *line.split())
+            self.check(line or "none", (process.status, process.told), (2, [f"air: {message}"]))
 
     def test_records_with_limits_in_seconds_and_bytes(self) -> None:
         with mock.patch.object(main, "record") as record:
@@ -237,5 +245,6 @@ class Calls(Feeds):
         for name, folder, line in (("recorder", "segments", "record segments"),
                                    ("air", "out", "judge schedule segments -o out")):
             with hold_lock(self.path(folder), name, ""):
-                done = self.tool("air", *line.split())
-            self.must(name, done.status == 2 and done.told[0].startswith("air: another "), done)
+                process = self.tool("air", *line.split())
+            self.must(name, process.status == 2 and process.told[0].startswith("air: another "),
+                      process)

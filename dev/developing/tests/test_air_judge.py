@@ -10,19 +10,19 @@ from unittest import mock
 
 from subtitles.air import judge as judging
 from subtitles.air.check import Outcome
-from subtitles.air.segments import Segment, segment_name, segments_between
+from subtitles.air.segments import Segment, find_segments, make_segment_name
 from subtitles.air.state import Monitor
 from subtitles.common.files import open_result
-from .air import Air, DAY, FakeChecker, MARGIN, Sent, outcome
-from .bench import example_bytes
+from .air import AirCase, DAY, FakeChecker, MARGIN_SECONDS, SentProgramme, outcome
+from .bench import read_example_file
 from .transmissions import write_subtitle_file
 
 NAME = "20261201T081000Z-one"  # scheduled from second 600 to 660
 BEGIN, END = 600, 660
-OTHER = NAME.replace("one", "two")
+OTHER_NAME = NAME.replace("one", "two")
 
 
-class Trial(NamedTuple):
+class AirCaseRow(NamedTuple):
     """A test case: what is recorded and sent, and the expected verdict with its reason.
 
     `missing` is not recorded. The verdict is due `after` seconds after the scheduled end.
@@ -30,52 +30,61 @@ class Trial(NamedTuple):
 
     recorded: tuple[int, int]
     missing: tuple[tuple[int, int], ...]
-    sent: Sent | None
+    sent: SentProgramme | None
     verdict: str
     after: int
     reason: str = ""
 
 
 TRIALS = {
-    "all is there": Trial((0, 900), (), Sent(600, 660), "relative", 10),
-    "wrong": Trial((0, 900), (), Sent(600, 660, False), "refused", 10),
-    "it begins late": Trial((0, 900), (), Sent(640, 700), "relative", 40),
-    "it begins late, wrong": Trial((0, 900), (), Sent(640, 700, False), "refused", 70),
-    "it begins early": Trial((0, 900), (), Sent(560, 620), "relative", 10),
-    "it begins at the end of the margin": Trial((0, 900), (), Sent(660, 720), "relative", 70),
-    "it begins after the margin": Trial((0, 900), (), Sent(661, 721), "not judged", 70,
-                                        "it began later"),
-    "it begins long after it": Trial((0, 2000), (), Sent(900, 960), "not judged", 70, "no cue"),
-    "it begins before the margin": Trial((0, 900), (), Sent(530, 590), "not judged", 70,
-                                         "its beginning is missing"),
-    "the same, wrong": Trial((0, 900), (), Sent(530, 590, False), "not judged", 70),
-    "with long breaks": Trial((0, 900), (), Sent(610, 770), "relative", 130),
-    "with long breaks, wrong": Trial((0, 900), (), Sent(610, 770, False), "refused", 130),
-    "it never ends": Trial((0, 2000), (), Sent(600, 1900), "refused", 130, "refused 74"),
-    "never sent": Trial((0, 900), (), None, "not judged", 70, "no cue"),
-    "nothing is recorded": Trial((0, 0), (), None, "not judged", 70, "not recorded: "
-                                 "2026-12-01T08:09:00Z to 2026-12-01T08:12:00Z"),
-    "a gap in it": Trial((0, 900), ((630, 640),), Sent(600, 660), "not judged", 70,
-                         "not recorded: 2026-12-01T08:10:30Z to 2026-12-01T08:10:40Z"),
-    "a gap before it": Trial((0, 900), ((580, 590),), Sent(600, 660), "relative", 10),
-    "a gap before it, wrong": Trial((0, 900), ((580, 590),), Sent(600, 660, False), "refused", 10),
-    "a gap in one that begins early": Trial(
-        (0, 900), ((580, 590),), Sent(570, 630, False), "not judged", 70, "not recorded: "
+    "all is there": AirCaseRow((0, 900), (), SentProgramme(600, 660), "relative", 10),
+    "wrong": AirCaseRow((0, 900), (), SentProgramme(600, 660, False), "refused", 10),
+    "it begins late": AirCaseRow((0, 900), (), SentProgramme(640, 700), "relative", 40),
+    "it begins late, wrong": AirCaseRow((0, 900), (), SentProgramme(640, 700, False),
+                                        "refused", 70),
+    "it begins early": AirCaseRow((0, 900), (), SentProgramme(560, 620), "relative", 10),
+    "it begins at the end of the margin": AirCaseRow((0, 900), (), SentProgramme(660, 720),
+                                                     "relative", 70),
+    "it begins after the margin": AirCaseRow((0, 900), (), SentProgramme(661, 721),
+                                             "not judged", 70, "it began later"),
+    "it begins long after it": AirCaseRow((0, 2000), (), SentProgramme(900, 960), "not judged", 70,
+                                          "no cue"),
+    "it begins before the margin": AirCaseRow((0, 900), (), SentProgramme(530, 590),
+                                              "not judged", 70, "its beginning is missing"),
+    "the same, wrong": AirCaseRow((0, 900), (), SentProgramme(530, 590, False), "not judged", 70),
+    "with long breaks": AirCaseRow((0, 900), (), SentProgramme(610, 770), "relative", 130),
+    "with long breaks, wrong": AirCaseRow((0, 900), (), SentProgramme(610, 770, False),
+                                          "refused", 130),
+    "it never ends": AirCaseRow((0, 2000), (), SentProgramme(600, 1900), "refused", 130,
+                                "refused 74"),
+    "never sent": AirCaseRow((0, 900), (), None, "not judged", 70, "no cue"),
+    "nothing is recorded": AirCaseRow((0, 0), (), None, "not judged", 70, "not recorded: "
+                                      "2026-12-01T08:09:00Z to 2026-12-01T08:12:00Z"),
+    "a gap in it": AirCaseRow((0, 900), ((630, 640),), SentProgramme(600, 660), "not judged", 70,
+                              "not recorded: 2026-12-01T08:10:30Z to 2026-12-01T08:10:40Z"),
+    "a gap before it": AirCaseRow((0, 900), ((580, 590),), SentProgramme(600, 660), "relative", 10),
+    "a gap before it, wrong": AirCaseRow((0, 900), ((580, 590),), SentProgramme(600, 660, False),
+                                         "refused", 10),
+    "a gap in one that begins early": AirCaseRow(
+        (0, 900), ((580, 590),), SentProgramme(570, 630, False), "not judged", 70, "not recorded: "
         "2026-12-01T08:09:40Z to 2026-12-01T08:09:50Z; of the rest: its beginning is missing"),
-    "a gap after it": Trial((0, 900), ((670, 680),), Sent(600, 660), "relative", 10),
-    "a gap after it, wrong": Trial((0, 900), ((670, 680),), Sent(600, 660, False), "refused", 10),
-    "a gap as soon as it ends, wrong": Trial(
-        (0, 900), ((660, 680),), Sent(600, 660, False), "not judged", 70, "not recorded: "
+    "a gap after it": AirCaseRow((0, 900), ((670, 680),), SentProgramme(600, 660), "relative", 10),
+    "a gap after it, wrong": AirCaseRow((0, 900), ((670, 680),), SentProgramme(600, 660, False),
+                                        "refused", 10),
+    "a gap as soon as it ends, wrong": AirCaseRow(
+        (0, 900), ((660, 680),), SentProgramme(600, 660, False), "not judged", 70, "not recorded: "
         "2026-12-01T08:11:00Z to 2026-12-01T08:11:20Z; of the rest: refused 74"),
-    "a gap in a late one": Trial((0, 900), ((680, 690),), Sent(640, 700), "not judged", 70),
-    "the feed ends in it": Trial((0, 640), (), Sent(600, 660), "not judged", 70),
-    "the feed begins in it": Trial((620, 900), (), Sent(600, 660), "not judged", 70),
-    "the feed begins before it": Trial((590, 900), (), Sent(600, 660), "relative", 10),
-    "the feed ends after it": Trial((0, 670), (), Sent(600, 660), "relative", 10),
+    "a gap in a late one": AirCaseRow((0, 900), ((680, 690),), SentProgramme(640, 700),
+                                      "not judged", 70),
+    "the feed ends in it": AirCaseRow((0, 640), (), SentProgramme(600, 660), "not judged", 70),
+    "the feed begins in it": AirCaseRow((620, 900), (), SentProgramme(600, 660), "not judged", 70),
+    "the feed begins before it": AirCaseRow((590, 900), (), SentProgramme(600, 660),
+                                            "relative", 10),
+    "the feed ends after it": AirCaseRow((0, 670), (), SentProgramme(600, 660), "relative", 10),
 }
 
 
-class Judged(Air):
+class JudgedProgrammes(AirCase):
     now = lag = 0
 
     def setUp(self) -> None:
@@ -95,20 +104,20 @@ class Judged(Air):
                 break
         return judge
 
-    def recorded_so_far(self, folder: str, begin: float, end: float) -> list[Segment]:
+    def list_recorded_segments(self, folder: str, begin: float, end: float) -> list[Segment]:
         now = DAY + self.now - self.lag
-        found = segments_between(folder, begin, min(end, now))
-        return [one._replace(end=min(one.end, now)) for one in found]
+        result = find_segments(folder, begin, min(end, now))
+        return [item._replace(end=min(item.end, now)) for item in result]
 
-    def test_each_trial_has_its_verdict_in_time(self) -> None:
+    def test_each_programme_is_judged_in_time(self) -> None:
         for name, trial in TRIALS.items():
             self.delete_all("segments", "out")
             checker = FakeChecker({NAME: trial.sent} if trial.sent else {})
             self.put_segments(*trial.recorded, trial.missing)
-            with mock.patch.object(judging, "segments_between", self.recorded_so_far):
+            with mock.patch.object(judging, "find_segments", self.list_recorded_segments):
                 self.run_judge(checker, 1500)
-            found = self.verdicts().get(NAME), self.now - END
-            if self.check(name, found, (trial.verdict, trial.after)):
+            actual = self.verdicts().get(NAME), self.now - END
+            if self.check(name, actual, (trial.verdict, trial.after)):
                 self.must(f"{name}: why", trial.reason in self.result(NAME)["reason"],
                           self.result(NAME)["reason"])
                 os.unlink(self.path(f"out/{NAME}.json"))
@@ -118,8 +127,8 @@ class Judged(Air):
     def test_waits_for_a_recorder_that_lags(self) -> None:
         self.put_segments(0, 900)
         self.lag = 9
-        with mock.patch.object(judging, "segments_between", self.recorded_so_far):
-            self.run_judge(FakeChecker({}), 1500, END + MARGIN)
+        with mock.patch.object(judging, "find_segments", self.list_recorded_segments):
+            self.run_judge(FakeChecker({}), 1500, END + MARGIN_SECONDS)
         self.check("reason", self.result(NAME)["reason"], "no cue agrees")
 
     def test_judges_a_programme_at_most_five_times(self) -> None:
@@ -128,10 +137,11 @@ class Judged(Air):
         self.run_judge(checker, 1500)
         self.must("at most five times", len(checker.calls) <= 5, checker.calls)
 
-    def test_tries_again_after_a_failure_of_the_machine(self) -> None:
+    def test_retries_after_a_system_failure(self) -> None:
         self.put_segments(0, 900)
         left = [*range(20)]
-        self.run_judge(FakeChecker({NAME: Sent(600, 660)}, lambda: bool(left and [left.pop()])),
+        self.run_judge(FakeChecker({NAME: SentProgramme(600, 660)},
+                                   lambda: bool(left and [left.pop()])),
                        3000)
         self.check("in the end it is judged", self.verdicts(), {NAME: "relative"})
 
@@ -162,7 +172,7 @@ class Judged(Air):
     def test_waits_for_a_missing_subtitle_file(self) -> None:
         self.put_segments(0, 900)
         os.rename(self.path("one.stl"), self.path("later.stl"))
-        checker = FakeChecker({NAME: Sent(600, 660)})
+        checker = FakeChecker({NAME: SentProgramme(600, 660)})
         judge = self.run_judge(checker, 725)
         self.check("it is not late yet", judge.monitor.late, [])
         judge.look(DAY + 725)
@@ -188,13 +198,13 @@ class Judged(Air):
             return open_result(path, is_stored)
 
         with mock.patch.object(judging, "open_result", write):
-            self.run_judge(FakeChecker({NAME: Sent(600, 660)}), 900)
+            self.run_judge(FakeChecker({NAME: SentProgramme(600, 660)}), 900)
         self.must("it was tried again", full[0] < 0, full)
         self.check("in the end", self.verdicts(), {NAME: "relative"})
 
     def test_a_damaged_schedule_loses_no_programme(self) -> None:
         self.put_segments(0, 900)
-        checker, whole = FakeChecker({NAME: Sent(600, 660)}), self.read("schedule")
+        checker, whole = FakeChecker({NAME: SentProgramme(600, 660)}), self.read("schedule")
         for data in (b"", whole[:-1], whole[:20], b"\xff\xfe\n", b"'\n", None):
             if data is None:
                 os.unlink(self.path("schedule"))
@@ -206,9 +216,9 @@ class Judged(Air):
         self.run_judge(checker, 700, 650)
         self.check("once it is there again", self.verdicts(), {NAME: "relative"})
 
-    def test_a_result_never_changes(self) -> None:
+    def test_never_replaces_a_written_result(self) -> None:
         self.put_segments(0, 900)
-        self.run_judge(FakeChecker({NAME: Sent(600, 660)}), 700)
+        self.run_judge(FakeChecker({NAME: SentProgramme(600, 660)}), 700)
         whole, path = self.read("schedule"), self.path(f"out/{NAME}.json")
         before = os.stat(path).st_mtime_ns
         for data in (b"", whole[:20] + b"\n", whole * 2):
@@ -219,7 +229,7 @@ class Judged(Air):
 
     def test_uses_the_last_schedule_while_there_is_none(self) -> None:
         self.put_segments(0, 900)
-        judge = self.make_judge(FakeChecker({NAME: Sent(600, 660)}))
+        judge = self.make_judge(FakeChecker({NAME: SentProgramme(600, 660)}))
         judge.look(DAY + 600)
         os.unlink(self.path("schedule"))
         judge.look(DAY + 700)
@@ -233,34 +243,34 @@ class Judged(Air):
         self.write_schedule("2026-12-01T08:10:00Z one.stl",
                             "2026-12-01T08:10:00Z two.stl --page 889")
         self.put_segments(0, 900)
-        judge = self.make_judge(FakeChecker({NAME: Sent(600, 660),
-                                             OTHER: Sent(600, 660, False)}))
+        judge = self.make_judge(FakeChecker({NAME: SentProgramme(600, 660),
+                                             OTHER_NAME: SentProgramme(600, 660, False)}))
         while judge.look(DAY + 700):
             pass
-        self.check("results", self.verdicts(), {NAME: "relative", OTHER: "refused"})
+        self.check("results", self.verdicts(), {NAME: "relative", OTHER_NAME: "refused"})
 
     def test_a_restart_of_the_recorder_is_a_gap(self) -> None:
         self.put_segments(0, 900)
-        os.rename(*(self.path(f"segments/{segment_name(DAY + 630, is_new)}")
+        os.rename(*(self.path(f"segments/{make_segment_name(DAY + 630, is_new)}")
                     for is_new in (False, True)))
-        self.run_judge(FakeChecker({NAME: Sent(600, 660)}), 1000)
+        self.run_judge(FakeChecker({NAME: SentProgramme(600, 660)}), 1000)
         self.check("reason", self.result(NAME)["reason"], "not recorded: 2026-12-01T08:10:30Z to "
                    "2026-12-01T08:10:30Z; of the rest: refused 74")
 
     def test_ignores_an_end_before_the_last_subtitle(self) -> None:
         self.write_schedule("2026-12-01T08:10:00Z/2026-12-01T08:10:01Z one.stl")
         self.put_segments(0, 900)
-        self.run_judge(FakeChecker({NAME: Sent(600, 660)}), 1000)
+        self.run_judge(FakeChecker({NAME: SentProgramme(600, 660)}), 1000)
         self.check("when it was judged", self.now - END, 10)
 
     def test_a_bug_affects_no_other_programme(self) -> None:
         self.write_schedule("2026-12-01T08:10:00Z one.stl", "2026-12-01T08:10:00Z two.stl")
         self.put_segments(0, 900)
-        checker = FakeChecker({OTHER: Sent(600, 660)})
+        checker = FakeChecker({OTHER_NAME: SentProgramme(600, 660)})
         real = checker.check
         checker.check = lambda *args: {}["no"] if args[1] == NAME else real(*args)  # type: ignore
         self.run_judge(checker, 800)
-        self.check("results", self.verdicts(), {OTHER: "relative"})
+        self.check("results", self.verdicts(), {OTHER_NAME: "relative"})
 
     def test_writes_the_page_and_the_list_before_the_result(self) -> None:
         self.put_segments(0, 900)
@@ -269,10 +279,10 @@ class Judged(Air):
         os.mkdir(checker.work)
         for ending in ("html", "json", "txt"):
             self.write(f"work/{NAME}.{ending}", b'{"verdict": "relative"}')
-        found = outcome(NAME, "relative", "relative")
-        assert found.result
-        found.result["request"] = {}  # only results of judged programmes have a request
-        checker.check = lambda *_: found  # type: ignore
+        relative_outcome = outcome(NAME, "relative", "relative")
+        assert relative_outcome.result
+        relative_outcome.result["request"] = {}  # only results of judged programmes have a request
+        checker.check = lambda *_: relative_outcome  # type: ignore
 
         def write(path: str, is_stored: bool) -> contextlib.AbstractContextManager[BinaryIO]:
             written.append(f"{os.path.splitext(path)[1]} {is_stored}")
@@ -286,14 +296,14 @@ class Judged(Air):
         self.put_segments(0, 900)
         command = self.write_program(
             "hook", f'#!/bin/sh\necho "$*" >>{self.path("calls")}\nexit 7\n')
-        judge = self.run_judge(FakeChecker({NAME: Sent(600, 660)}), 800, BEGIN, "--on-result",
-                               command)
+        judge = self.run_judge(FakeChecker({NAME: SentProgramme(600, 660)}), 800, BEGIN,
+                               "--on-result", command)
         judge.look(DAY + 900)
         self.check("calls", self.read("calls").decode(),
                    f"{self.path('out')}/{NAME}.json relative\n")
 
 
-ALARMS: dict[str, tuple[dict[str, Any], list[str]]] = {
+ALARM_CASES: dict[str, tuple[dict[str, Any], list[str]]] = {
     "all is well": ({}, []),
     "no byte": ({"last_byte": DAY - 11}, ["silence"]),
     "a full disk": ({"free": [5, 1 << 40]}, ["disk"]),
@@ -305,26 +315,27 @@ ALARMS: dict[str, tuple[dict[str, Any], list[str]]] = {
     "a fault in the schedule": ({"schedule_faults": ["line 3: what?"]}, ["schedule"])}
 
 
-class State(Air):
+class State(AirCase):
     def test_raises_each_alarm(self) -> None:
-        for name, (values, expected) in ALARMS.items():
-            one = Monitor()
-            one.now, one.started, one.last_byte = DAY, DAY - 9999, DAY - 9
-            one.free = [1 << 40] * 2
-            vars(one).update(values)
-            self.check(name, json.loads(json.dumps(one.state()))["alarms"], expected)
+        for name, (values, expected) in ALARM_CASES.items():
+            monitor = Monitor()
+            monitor.now, monitor.started, monitor.last_byte = DAY, DAY - 9999, DAY - 9
+            monitor.free = [1 << 40] * 2
+            vars(monitor).update(values)
+            self.check(name, json.loads(json.dumps(monitor.state()))["alarms"], expected)
 
     def test_reports_segments_and_disks(self) -> None:
         self.put_segments(0, 50)
-        one, out = Monitor(), self.path("out")
-        one.look(self.path("segments"), out, DAY + 60, "/bin/true", [])
-        self.check("segments", (one.segments, one.last_byte, one.oldest), (5, DAY + 50, DAY))
-        one.look(self.path("nothing"), out, DAY + 60, "/bin/true", [])
-        self.check("without a folder", (one.segments, one.free[0]), (0, 0))
+        monitor, out = Monitor(), self.path("out")
+        monitor.look(self.path("segments"), out, DAY + 60, "/bin/true", [])
+        self.check("segments", (monitor.segments, monitor.last_byte, monitor.oldest),
+                   (5, DAY + 50, DAY))
+        monitor.look(self.path("nothing"), out, DAY + 60, "/bin/true", [])
+        self.check("without a folder", (monitor.segments, monitor.free[0]), (0, 0))
 
     def test_reports_the_headers_of_pages(self) -> None:
-        self.put_segment(0, 10, example_bytes("recording.ts"))
-        one = Monitor()
-        one.look(self.path("segments"), self.path("out"), DAY + 700, self.bench.program,
-                 [(0, 0x88), (0, 0x89)])
-        self.check("headers", one.headers, {(0, 0x88): DAY + 10, (0, 0x89): 0.0})
+        self.put_segment(0, 10, read_example_file("recording.ts"))
+        monitor = Monitor()
+        monitor.look(self.path("segments"), self.path("out"), DAY + 700, self.bench.program,
+                     [(0, 0x88), (0, 0x89)])
+        self.check("headers", monitor.headers, {(0, 0x88): DAY + 10, (0, 0x89): 0.0})

@@ -7,13 +7,13 @@ import re
 import time
 from typing import NamedTuple, Sequence
 
-from subtitles.air.segments import segment_name
-from .air import Air, DAY, FakeChecker, LENGTH, MARGIN, Sent
+from subtitles.air.segments import make_segment_name
+from .air import AirCase, DAY, FakeChecker, LENGTH, MARGIN_SECONDS, SentProgramme
 from .transmissions import write_subtitle_file
 
 SECONDS = 60  # length of a programme in seconds
 GAP = re.compile(r"(\S+Z) to (\S+Z)")
-Lost = Sequence["tuple[int, int]"]
+LostFrames = Sequence["tuple[int, int]"]
 
 
 class Day(NamedTuple):
@@ -26,7 +26,7 @@ class Day(NamedTuple):
 
     lines: list[str]
     times: dict[str, int]
-    sent: dict[str, Sent]
+    sent: dict[str, SentProgramme]
     lost: list[tuple[int, int]]
     end: int
     kept: int
@@ -38,15 +38,15 @@ def date(second: int) -> str:
     return time.strftime("%Y-%m-%dT%H:%M:%SZ", time.gmtime(DAY + second))
 
 
-def random_day(chance: random.Random) -> Day:
-    lines, times, sent, at = list[str](), dict[str, int](), dict[str, Sent](), 200
+def make_random_day(chance: random.Random) -> Day:
+    lines, times, sent, at = list[str](), dict[str, int](), dict[str, SentProgramme](), 200
     for number in range(5):
         at += chance.randint(40, 200)
         name = f"{date(at).replace('-', '').replace(':', '')}-p{number}"
         begin = at + chance.choice((0, 0, 0, -20, 15, 40, 60, 61, 90, -60, -61))
         lines.append(f"{date(at)} p{number}.stl")
         times[name] = at
-        sent[name] = Sent(begin, begin + SECONDS, chance.random() < .6)
+        sent[name] = SentProgramme(begin, begin + SECONDS, chance.random() < .6)
         at += SECONDS
     lost = list[tuple[int, int]]()
     for _ in range(chance.choice((0, 0, 1, 3, 6))):
@@ -58,21 +58,22 @@ def random_day(chance: random.Random) -> Day:
                (away, away + 700))
 
 
-def possible(sent: Sent, time: int, lost: Lost, is_deleted: bool) -> set[str]:
+def list_possible_verdicts(sent: SentProgramme, time: int, lost: LostFrames,
+                           is_deleted: bool) -> set[str]:
     """Return the verdicts that are correct for a programme."""
     is_cut = any(first < sent.end and last > sent.begin for first, last in lost)
-    if abs(sent.begin - time) > MARGIN or is_cut:
+    if abs(sent.begin - time) > MARGIN_SECONDS or is_cut:
         return {"not judged"}
     # A loss just before or after a programme may hide the cause of a fault.
     is_near = any(first <= sent.end and last >= sent.begin for first, last in lost)
     # If the programme begins at the end of its margin, a loss makes its end uncertain.
-    is_last = sent.begin == time + MARGIN and bool(lost)
+    is_last = sent.begin == time + MARGIN_SECONDS and bool(lost)
     deserved = "relative" if sent.is_right else "refused"
     is_open = is_deleted or (is_near or is_last) and not sent.is_right
     return {deserved, "not judged"} if is_open else {deserved}
 
 
-class Days(Air):
+class RandomDays(AirCase):
     SEEDS = range(50)
 
     def test_each_programme_gets_one_correct_result_that_never_changes(self) -> None:
@@ -84,7 +85,7 @@ class Days(Air):
 
     def judge_day(self, chance: random.Random, seed: int) -> None:
         """Record and judge a random day, and check the verdicts."""
-        day, first_seen = random_day(chance), dict[str, str]()
+        day, first_seen = make_random_day(chance), dict[str, str]()
         checker = FakeChecker(day.sent, lambda: chance.random() < .1)
         judge = self.make_judge(checker)
         starts, was_half = {first for first, last in day.lost if first == last}, True
@@ -104,19 +105,19 @@ class Days(Air):
                 while judge.look(DAY + now + LENGTH):
                     pass
             if len(first_seen) < len(day.lines) or now % 500 == 0:
-                found = self.verdicts()
+                verdict_by_name = self.verdicts()
                 changed = {name for name, verdict in first_seen.items()
-                           if found.get(name) != verdict}
+                           if verdict_by_name.get(name) != verdict}
                 self.check(f"seed {seed}: results that have changed at {now}", changed, set())
-                first_seen = found
+                first_seen = verdict_by_name
         self.check(f"seed {seed}: programmes with results", {*first_seen}, {*day.times})
         for name, verdict in first_seen.items():
             lost, is_deleted = day.lost, day.kept < day.end
-            right = possible(day.sent[name], day.times[name], lost, is_deleted)
+            right = list_possible_verdicts(day.sent[name], day.times[name], lost, is_deleted)
             self.must(f"seed {seed}: {name}, {day.sent[name]}", verdict in right,
                       (verdict, right, lost))
             reason = self.result(name)["reason"] if verdict == "not judged" else ""
-            gaps = [(date(first), date(last)) for first, last in merge(lost)]
+            gaps = [(date(first), date(last)) for first, last in merge_spans(lost)]
             for begin, end in GAP.findall(reason) if not is_deleted else []:
                 self.must(f"seed {seed}: {name}: {reason}", any(
                     first <= begin and end <= last for first, last in gaps), gaps)
@@ -124,17 +125,17 @@ class Days(Air):
     def delete_segment(self, begin: int) -> None:
         """Delete the segment that begins at the second `begin`, if it exists."""
         for is_new in (False, True):
-            path = self.path(f"segments/{segment_name(DAY + begin, is_new)}")
+            path = self.path(f"segments/{make_segment_name(DAY + begin, is_new)}")
             if os.path.exists(path):
                 os.unlink(path)
 
 
-def merge(lost: Lost) -> list[tuple[int, int]]:
+def merge_spans(lost: LostFrames) -> list[tuple[int, int]]:
     """Return the losses in order. Losses that overlap or adjoin are merged."""
-    found = list[tuple[int, int]]()
+    result = list[tuple[int, int]]()
     for first, last in sorted(lost):
-        if found and first <= found[-1][1]:
-            found[-1] = found[-1][0], max(last, found[-1][1])
+        if result and first <= result[-1][1]:
+            result[-1] = result[-1][0], max(last, result[-1][1])
         else:
-            found.append((first, last))
-    return found
+            result.append((first, last))
+    return result

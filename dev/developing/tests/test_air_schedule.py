@@ -3,9 +3,9 @@ from __future__ import annotations
 
 import os
 
-from developing.stl import box_line, make_gsi_block, make_subtitle_blocks
-from subtitles.air.schedule import length_of, read_schedule
-from .air import Air, DAY
+from developing.stl import make_box_line, make_gsi_block, make_subtitle_blocks
+from subtitles.air.schedule import measure_length, read_schedule
+from .air import AirCase, DAY
 
 NO_TIME = "is not an air time: begin the line with a date and a time that ends in Z or an " \
     "offset, as `2026-11-29T20:15:00Z news.stl`"
@@ -59,11 +59,12 @@ def shown(time: float | None) -> str:
     return "None" if time is None else f"{time - DAY:g}"
 
 
-class Lines(Air):
+class Lines(AirCase):
     def read_lines(self, text: str) -> list[str]:
         """Parse a schedule. Return a line for each programme, followed by the faults."""
         schedule = read_schedule(self.write("schedule", text.encode()), self.args())
-        printed = [f"{one.name} {shown(one.begin)} {shown(one.end)}" for one in schedule.programmes]
+        printed = [f"{programme.name} {shown(programme.begin)} {shown(programme.end)}"
+                   for programme in schedule.programmes]
         return printed + [*schedule.faults]
 
     def test_reads_each_line(self) -> None:
@@ -89,8 +90,8 @@ class Lines(Air):
 
     def test_finds_files_in_the_folder_of_the_schedule(self) -> None:
         self.write_schedule("2026-12-01T08:00:00Z a.stl")
-        one, = read_schedule(self.path("schedule"), self.args()).programmes
-        self.check("its subtitle file", one.request.stl, self.path("a.stl"))
+        item, = read_schedule(self.path("schedule"), self.args()).programmes
+        self.check("its subtitle file", item.request.stl, self.path("a.stl"))
 
     def test_does_not_read_an_unchanged_schedule_again(self) -> None:
         self.write_schedule("2026-12-01T08:00:00Z a.stl")
@@ -98,18 +99,18 @@ class Lines(Air):
         self.must("the same", read_schedule(self.path("schedule"), self.args(), first) is first)
 
 
-class Lengths(Air):
+class Lengths(AirCase):
     def length(self, options: str = "") -> float:
         self.write_schedule(f"2026-12-01T08:00:00Z one.stl {options}")
-        one, = read_schedule(self.path("schedule"), self.args()).programmes
-        return length_of(one.request)
+        item, = read_schedule(self.path("schedule"), self.args()).programmes
+        return measure_length(item.request)
 
     def write_stl(self, *times: tuple[int, int]) -> None:
-        blocks = [make_subtitle_blocks(number, begin, end, 20, 2, box_line(b"One"))
+        blocks = [make_subtitle_blocks(number, begin, end, 20, 2, make_box_line(b"One"))
                   for number, (begin, end) in enumerate(times)]
         self.write("one.stl", make_gsi_block(b"one", len(times), len(times), 0) + b"".join(blocks))
 
-    def test_lasts_from_the_first_tci_to_the_last_tco(self) -> None:
+    def test_a_programme_lasts_from_first_tci_to_last_tco(self) -> None:
         for name, (times, options, expected) in LENGTHS.items():
             self.write_stl(*times)
             self.check(name, self.length(options), expected)

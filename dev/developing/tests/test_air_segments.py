@@ -10,9 +10,10 @@ from unittest import mock
 from subtitles.air import recorder, segments
 from subtitles.air.recorder import Limits, Recorder
 from subtitles.air.segments import (
-    Segment, Unbroken, begin_in, names_in, segment_name, segments_between, stretches_in)
-from .air import Air, DAY
-from .streams import multiplex_frames, with_packet_size
+    Segment, UnbrokenRun, find_segments, find_unbroken_runs, list_segment_names, make_segment_name,
+    parse_segment_begin)
+from .air import AirCase, DAY
+from .streams import change_packet_size, multiplex_frames
 from .programmes import BEGIN
 
 NAMES = {
@@ -33,7 +34,7 @@ NAMES = {
 
 # Segments as begin-end, with ! if their names report a possible loss before them; the longest
 # allowed pause; and the expected intervals without losses.
-STRETCHES = {
+RUN_CASES = {
     "none": ("", 2, ""),
     "the clock was set back in one": ("10-5 12-20 20-30", 2, "10-30"),
     "the longest pause": ("0-10 12-20", 2, "0-20"),
@@ -46,7 +47,7 @@ STRETCHES = {
 
 # Two segments of one feed: the end of the first and the start of the second in TS packets; the
 # times of all segments, as above; and the expected intervals without losses.
-JOINTS = {
+JOINT_CASES = {
     "it goes on, without a PCR": (900.5, 900.5, "0-10 10-20", "0-20"),
     "the recorder stalled": (900.5, 900.5, "0-10 18-20", "0-20"),
     "it started again, and lost nothing": (900.5, 900.5, "0-10 !11-20", "0-20"),
@@ -67,37 +68,41 @@ OFFSETS = {"before it": (5, 0), "its beginning": (10, 0), "a tenth": (11, 10), "
            "its end": (20, 100), "after it": (99, 100)}
 
 
-class Segments(Air):
+class Segments(AirCase):
     def test_reads_the_time_in_a_name(self) -> None:
-        self.check_each(begin_in, {name: ((name,), time) for name, time in NAMES.items()})
+        self.check_rows(parse_segment_begin,
+                        {name: ((name,), time) for name, time in NAMES.items()})
 
     def test_names_keep_time_and_order(self) -> None:
         chance = random.Random(3)
         times = sorted(round(chance.uniform(0, 4e9), 3) for _ in range(500))
-        for one in times:
-            found = begin_in(segment_name(one)) or 0
-            self.must(f"{one} to the millisecond", abs(found - one) < 1e-3, segment_name(one))
-        names = [*map(segment_name, times)]
+        for item in times:
+            result = parse_segment_begin(make_segment_name(item)) or 0
+            self.must(f"{item} to the millisecond", abs(result - item) < 1e-3,
+                      make_segment_name(item))
+        names = [*map(make_segment_name, times)]
         self.check("order", names, sorted(names))
 
     def test_splits_at_possible_losses(self) -> None:
-        for name, (text, pause, expected) in STRETCHES.items():
-            self.check(name, self.stretches_of(text, pause), expected)
+        for name, (text, pause, expected) in RUN_CASES.items():
+            self.check(name, self.describe_runs(text, pause), expected)
 
     @mock.patch.object(segments, "BLOCK", 100_000)
     def test_detects_losses_by_counters_between_segments(self) -> None:
         feed = b"".join(multiplex_frames([], BEGIN, 110, 1))
         packets = [feed[at:at + 188] for at in range(0, len(feed), 188)]
-        feeds = {"PCR": b"".join(one for one in packets if one[3] & 0x10), "tables": b"".join(
-            one[:3] + b"\x10" + one[4:] if one[1] in (0x40, 0x41) else one for one in packets)}
-        for name, (end, begin, text, expected) in JOINTS.items():
+        feeds = {"PCR": b"".join(packet for packet in packets if packet[3] & 0x10),
+                 "tables": b"".join(
+            packet[:3] + b"\x10" + packet[4:] if packet[1] in (0x40, 0x41) else packet
+            for packet in packets)}
+        for name, (end, begin, text, expected) in JOINT_CASES.items():
             for size in (188, 192, 204):
-                data = with_packet_size(feeds.get(name.split()[-1], feed), size)
+                data = change_packet_size(feeds.get(name.split()[-1], feed), size)
                 parts = data[:int(end * size)], data[int(begin * size):]
-                found = self.stretches_of(text, 5, *[b""] * text.count(" ", 5), *parts)
-                self.check(f"{name}, {size} bytes a packet", found, expected)
+                result = self.describe_runs(text, 5, *[b""] * text.count(" ", 5), *parts)
+                self.check(f"{name}, {size} bytes a packet", result, expected)
 
-    def stretches_of(self, text: str, pause: float, *data: bytes) -> str:
+    def describe_runs(self, text: str, pause: float, *data: bytes) -> str:
         """Write segments with the times in `text` and the contents `data`.
 
         Return the intervals between losses. A gap of up to `pause` seconds is not a loss.
@@ -106,8 +111,8 @@ class Segments(Air):
         for number, word in enumerate(text.split()):
             begin, end = map(float, word.strip("!").split("-"))
             self.put_segment(begin, end, b"".join(data[number:number + 1]), word[0] == "!")
-        found = stretches_in(segments_between(self.path("segments"), 0, DAY + 99), pause)
-        return " ".join(f"{one.begin - DAY:.0f}-{one.end - DAY:.0f}" for one in found)
+        result = find_unbroken_runs(find_segments(self.path("segments"), 0, DAY + 99), pause)
+        return " ".join(f"{item.begin - DAY:.0f}-{item.end - DAY:.0f}" for item in result)
 
     def test_finds_the_segments_of_a_time_range(self) -> None:
         chance = random.Random(4)
@@ -123,39 +128,40 @@ class Segments(Air):
                 known.append((begin, at))
         for _ in range(300):
             first, last = sorted(chance.sample(range(at), 2))
-            found = segments_between(self.path("segments"), DAY + first, DAY + last)
-            self.check(f"{first} to {last}", [(one.begin - DAY, one.end - DAY) for one in found],
+            result = find_segments(self.path("segments"), DAY + first, DAY + last)
+            self.check(f"{first} to {last}",
+                       [(item.begin - DAY, item.end - DAY) for item in result],
                        [(begin, end) for begin, end in known if begin < last and end >= first])
 
     def test_ignores_a_segment_that_was_deleted_meanwhile(self) -> None:
         self.put_segments(0, 30)
-        names = names_in(self.path("segments"))
+        names = list_segment_names(self.path("segments"))
         os.unlink(self.path(f"segments/{names[1][1]}"))
-        with mock.patch.object(segments, "names_in", lambda _: names):
-            self.check("segments", len(segments_between(self.path("segments"), DAY, DAY + 30)), 2)
+        with mock.patch.object(segments, "list_segment_names", lambda _: names):
+            self.check("segments", len(find_segments(self.path("segments"), DAY, DAY + 30)), 2)
 
     def test_converts_a_time_to_an_offset_in_a_segment(self) -> None:
-        self.check_each(Segment("", 100, 10, 20).offset_at, {
+        self.check_rows(Segment("", 100, 10, 20).find_offset, {
             name: ((time,), offset) for name, (time, offset) in OFFSETS.items()})
-        self.check("one of a moment", Segment("", 100, 10, 10).offset_at(10.5), 100)
+        self.check("one of a moment", Segment("", 100, 10, 10).find_offset(10.5), 100)
 
     def test_reads_the_bytes_of_a_time_range(self) -> None:
         parts = [Segment(self.put_segment(at, at + 10, bytes(range(at, at + 10))), 10,
                          DAY + at, DAY + at + 10) for at in (0, 10, 20)]
-        stretch = Unbroken(tuple(parts))
+        stretch = UnbrokenRun(tuple(parts))
         for first, middle, last in ((0, 5, 30), (3, 10, 25), (7, 7, 8), (0, 0, 99), (12, 18, 19)):
-            found = [b"".join(stretch.read(DAY + begin, DAY + end))
-                     for begin, end in ((first, middle), (middle, last))]
-            self.check(f"{first}, {middle}, {last}", found,
+            result = [b"".join(stretch.read(DAY + begin, DAY + end))
+                      for begin, end in ((first, middle), (middle, last))]
+            self.check(f"{first}, {middle}, {last}", result,
                        [bytes(range(first, middle)), bytes(range(middle, min(last, 30)))])
         pes = Segment(self.put_segment(40, 50, b"\0\0\1\xbdxxxxxx"), 10, DAY + 40, DAY + 50)
-        self.check("not as PES packets do", b"".join(Unbroken((pes,)).read(DAY, DAY + 99)),
+        self.check("not as PES packets do", b"".join(UnbrokenRun((pes,)).read(DAY, DAY + 99)),
                    b"\0\1\xbdxxxxxx")
         os.truncate(parts[1].path, 5)
         self.assertRaisesRegex(OSError, "shorter", lambda: [*stretch.read(DAY, DAY + 30)])
 
 
-class Recorded(Air):
+class Recorded(AirCase):
     def setUp(self) -> None:
         super().setUp()
         self.now = DAY
@@ -171,46 +177,46 @@ class Recorded(Air):
     def recorder(self, length: float = 10, kept: float = 1000, free: int = 0) -> Recorder:
         return Recorder(self.path("segments"), Limits(length, kept, free))
 
-    def contents(self) -> list[tuple[float, bytes]]:
+    def read_segments(self) -> list[tuple[float, bytes]]:
         return [(round(begin - DAY, 3), self.read(f"segments/{name}"))
-                for begin, name in names_in(self.path("segments"))]
+                for begin, name in list_segment_names(self.path("segments"))]
 
     def are_new(self) -> list[bool]:
         """Return, for each segment, whether its name reports a possible loss before it."""
-        return ["-new" in name for _, name in names_in(self.path("segments"))]
+        return ["-new" in name for _, name in list_segment_names(self.path("segments"))]
 
     def test_writes_each_byte_into_the_segment_of_its_time(self) -> None:
-        one = self.recorder()
+        item = self.recorder()
         for at in range(35):
             self.now = DAY + at
-            one.take(b"%c" % (65 + at))
+            item.take(b"%c" % (65 + at))
         text = bytes(range(65, 100))
-        self.check("contents", self.contents(), [(0.0, text[:10]), (10.0, text[10:20]),
-                                                 (20.0, text[20:30]), (30.0, text[30:])])
+        self.check("contents", self.read_segments(), [(0.0, text[:10]), (10.0, text[10:20]),
+                                                      (20.0, text[20:30]), (30.0, text[30:])])
         self.check("only the first is new", self.are_new(), [True, False, False, False])
 
     def test_each_start_begins_a_new_segment(self) -> None:
         for at in (0, 3, 3, 9):
             self.now = DAY + at
             self.recorder().take(b"%d" % at)
-        self.check("contents", self.contents(),
+        self.check("contents", self.read_segments(),
                    [(0.0, b"0"), (3.0, b"3"), (3.001, b"3"), (9.0, b"9")])
         self.check("all are new", self.are_new(), [True] * 4)
 
     def test_keeps_the_order_when_the_clock_is_set(self) -> None:
-        one = self.recorder(kept=10_000)
+        item = self.recorder(kept=10_000)
         with mock.patch.object(recorder, "print_stderr", lambda _: None):
             for number, at in enumerate((0, 5, -3600, -3595, -3590, 3600, 3605, 20)):
                 self.now = DAY + at
-                one.take(b"%d" % number)
-        self.check("all of it", b"".join(data for _, data in self.contents()), b"01234567")
+                item.take(b"%d" % number)
+        self.check("all of it", b"".join(data for _, data in self.read_segments()), b"01234567")
 
     def test_deletes_segments_that_are_too_old(self) -> None:
-        one = self.recorder(kept=50)
+        item = self.recorder(kept=50)
         for at in range(0, 200, 10):
             self.now = DAY + at
-            one.take(b".")
-        self.check("begins", [begin for begin, _ in self.contents()],
+            item.take(b".")
+        self.check("begins", [begin for begin, _ in self.read_segments()],
                    [140.0, 150.0, 160.0, 170.0, 180.0, 190.0])
 
     def test_deletes_segments_until_the_disk_has_free_space(self) -> None:
@@ -223,29 +229,30 @@ class Recorded(Air):
 
         with mock.patch.object(os, "statvfs", free):
             self.recorder(free=5 * about.f_frsize).take(b".")
-        self.check("begins", [int(one) for one, _ in self.contents()], [*range(-100, 0, 10), 0])
+        self.check("begins", [int(item) for item, _ in self.read_segments()],
+                   [*range(-100, 0, 10), 0])
 
     def test_marks_a_loss_after_a_full_disk(self) -> None:
         self.put_segments(-30, 0)
         room, real = [0], os.write
 
         def write(file: int, data: bytes) -> int:
-            if sum(len(data) for _, data in self.contents()) >= room[0]:
+            if sum(len(data) for _, data in self.read_segments()) >= room[0]:
                 raise OSError(errno.ENOSPC, "full")
             return real(file, data[:1])
 
-        one = self.recorder()
+        item = self.recorder()
         with mock.patch.object(os, "write", write), \
                 mock.patch.object(recorder, "print_stderr", lambda _: None):
             room[0] = 12
-            one.take(b"abcd")
-            self.check("the oldest made room", self.contents(), [(0.0, b"abcd")])
+            item.take(b"abcd")
+            self.check("the oldest made room", self.read_segments(), [(0.0, b"abcd")])
             room[0] = 0
-            one.take(b"lost")
+            item.take(b"lost")
             room[0] = 99
-            one.take(b"more")
-        self.check("what was written stays", self.contents()[0], (0.0, b"abcd"))
-        self.check("what came later", self.contents()[-1][1], b"more")
+            item.take(b"more")
+        self.check("what was written stays", self.read_segments()[0], (0.0, b"abcd"))
+        self.check("what came later", self.read_segments()[-1][1], b"more")
         self.check("the last one is new", self.are_new()[-1], True)
 
     def test_raises_any_other_error(self) -> None:

@@ -7,12 +7,12 @@ import shlex
 import shutil
 
 from subtitles.common.program import TOP
-from .bench import Case, tool_path
+from .bench import Case, get_tool_path
 
 MANUAL = os.path.join(TOP, "docs", "manual")
-RECORD, JUDGE = "subttx-air-record.service", "subttx-air-judge.service"
+RECORD_UNIT, JUDGE_UNIT = "subttx-air-record.service", "subttx-air-judge.service"
 # For each unit, the argument that precedes the folder to which its command writes.
-UNITS = {RECORD: "record", JUDGE: "-o", "subttx-watch.service": "-o"}
+UNITS = {RECORD_UNIT: "record", JUDGE_UNIT: "-o", "subttx-watch.service": "-o"}
 
 
 def read_unit(name: str) -> configparser.ConfigParser:
@@ -23,7 +23,7 @@ def read_unit(name: str) -> configparser.ConfigParser:
     return unit
 
 
-def arguments_of(command: str) -> list[str]:
+def split_unit_command(command: str) -> list[str]:
     """Split a command into arguments; if it runs a shell, split the shell's command."""
     words = shlex.split(command)
     return shlex.split(words[2]) if words[:2] == ["/bin/sh", "-c"] else words
@@ -35,7 +35,7 @@ class Units(Case):
                                        if name.endswith(".service")})
         for name, option in UNITS.items():
             unit = read_unit(name)
-            words = arguments_of(unit["Service"]["ExecStart"])
+            words = split_unit_command(unit["Service"]["ExecStart"])
             written = words[words.index(option) + 1]
             self.check(name, unit["Service"]["ReadWritePaths"].split(), [written])
             self.check(f"{name}: all else", unit["Service"]["ProtectSystem"], "strict")
@@ -44,21 +44,22 @@ class Units(Case):
                 os.path.commonpath([written, folder]) == folder for folder in mounted), mounted)
 
     def test_the_judge_reads_the_recorders_folder(self) -> None:
-        words = {name: arguments_of(read_unit(name)["Service"]["ExecStart"]) for name in UNITS}
-        self.must("the same folder", words[RECORD][-1] in words[JUDGE], words)
+        words = {name: split_unit_command(read_unit(name)["Service"]["ExecStart"])
+                 for name in UNITS}
+        self.must("the same folder", words[RECORD_UNIT][-1] in words[JUDGE_UNIT], words)
 
     def test_a_signal_stops_each_judge(self) -> None:
-        for name in (JUDGE, "subttx-watch.service"):
+        for name in (JUDGE_UNIT, "subttx-watch.service"):
             service = read_unit(name)["Service"]
             self.check(name, service["SuccessExitStatus"], "2")
         self.check("kill mode", service["KillMode"], "mixed")
         self.must("languages", "--option auto" in service["ExecStart"], service["ExecStart"])
 
-    def test_is_restarted_without_a_limit(self) -> None:
+    def test_systemd_restarts_the_units_without_a_limit(self) -> None:
         for name in UNITS:
             unit = read_unit(name)
             self.check(name, unit["Service"]["Restart"], "always")
-            if name in (RECORD, JUDGE):
+            if name in (RECORD_UNIT, JUDGE_UNIT):
                 self.check(f"{name}: limit", unit["Unit"]["StartLimitIntervalSec"], "0")
                 self.must(f"{name}: wait", int(unit["Service"]["RestartSec"]) > 0)
 
@@ -68,8 +69,8 @@ class Units(Case):
         for name in UNITS:
             with open(os.path.join(MANUAL, name), encoding="utf-8") as file:
                 text = file.read()
-            text = text.replace("/usr/bin/subttx-air", tool_path("air")).replace(
-                "/usr/bin/subttx-qc", tool_path("qc")).replace("User=subtitles", "User=root")
-            done = self.call(["systemd-analyze", "verify", self.write(name, text.encode())])
-            own = [line for line in done.told if name in line]
-            self.must(name, done.status == 0 and not own, done)
+            text = text.replace("/usr/bin/subttx-air", get_tool_path("air")).replace(
+                "/usr/bin/subttx-qc", get_tool_path("qc")).replace("User=subtitles", "User=root")
+            process = self.call(["systemd-analyze", "verify", self.write(name, text.encode())])
+            own = [line for line in process.told if name in line]
+            self.must(name, process.status == 0 and not own, process)

@@ -16,7 +16,7 @@ from unittest import mock
 
 from subtitles.cli import batch
 from subtitles.cli.batch import (
-    ForkedProcess, PairRunner, hold_signals, judge_all, resumed_rows, wait_for_any)
+    ForkedProcess, PairRunner, hold_signals, judge_items, read_resumed_rows, wait_for_any)
 from subtitles.cli.collection import format_progress
 from subtitles.cli.single import PairOptions
 from subtitles.common import files
@@ -32,7 +32,7 @@ from subtitles.results.files import (
 from subtitles.results.schema import PROGRAM, REQUEST
 from .bench import Case, SECONDS
 from .programmes import wait_until
-from .parts import request_for, call_arguments, default_options, run_qc
+from .parts import make_example_request, list_call_arguments, make_default_options, run_qc
 from .results import make_result, row
 
 
@@ -50,10 +50,10 @@ class Lists(Case):
                  "{0}/one.stl {0}/one.ts\n\"\n{0}/one.stl\n{0}/one.stl {0}/folder\n"
                  "{0}/none.stl {0}/one.ts\n{0}/one.stl {0}/pipe\n{0}/x.stl -\n"
                  "{0}/x.stl /dev/null --within 2\n{0}/x.stl {0}/socket\n").format(self.folder)
-        with socket.socket(socket.AF_UNIX) as made:
-            made.bind(self.path("socket"))
+        with socket.socket(socket.AF_UNIX) as result:
+            result.bind(self.path("socket"))
         items = read_pairs(self.write("list", lines.encode() + b"caf\xe9.stl x.ts"),
-                         default_options())
+                         make_default_options())
         self.must("names", [item.name for item in items] == [
             "one", "two", "one~2", "line 6", "line 7", "one~3", "none", "one~4", "line 11", "x",
             "x~2", "caf%E9"],
@@ -74,11 +74,11 @@ class Lists(Case):
         self.must("no name of one", "null" in (find_path_problem("a\0") or ""))
         for path in (self.write("empty", b"# none\n"), self.path("folder")):
             with self.assertRaises(Stop):
-                read_pairs(path, default_options())
+                read_pairs(path, make_default_options())
 
     def test_protects_the_inputs_of_an_invalid_line(self) -> None:
         path = self.write("list", b"one.stl one.ts --bogus\none.stl one.ts --pace=two.stl\n")
-        for item in read_pairs(path, default_options()):
+        for item in read_pairs(path, make_default_options()):
             self.must(item.name, item.request is None and {"one.stl", self.path("one.ts")} <=
                       {*item.files} and ("two.stl" in item.files) == (item.name == "line 2"),
                       item.files)
@@ -89,19 +89,19 @@ class Lists(Case):
         lines = [f"one.stl one.ts --within {number}" for number in range(3)] + [
             "", "# none", '"', "x.stl", "two.stl one.ts", "one.stl none.ts --origin 5"]
         path = self.write("list", "\n".join(lines).encode())
-        whole = {item.name: item for item in read_pairs(path, default_options())}
+        whole = {item.name: item for item in read_pairs(path, make_default_options())}
         for number, name in ((1, "one"), (2, "one~2"), (3, "one~3"), (6, "line 6"), (7, "line 7"),
                              (8, "two"), (9, "one~4")):
-            item, words = read_line_pair(path, number, default_options())
+            item, words = read_line_pair(path, number, make_default_options())
             self.must(f"{number}", item == whole[name] and {
                 "one.stl", "one.ts", "x.stl", "two.stl", "none.ts", '"'} <= {*words}, (item, words))
         for wrong in (4, 5, 10, 99):
             self.assertRaisesRegex(Stop, "has no pair", read_line_pair, path, wrong,
-                                   default_options())
+                                   make_default_options())
         self.assertRaisesRegex(Stop, "--line needs a list, but ", read_line_pair, self.folder, 1,
-                               default_options())
+                               make_default_options())
         with mock.patch("subtitles.request.lines.find_path_problem", return_value=None) as looked:
-            read_line_pair(path, 8, default_options())
+            read_line_pair(path, 8, make_default_options())
         self.must("files of one pair", [call[0][0] for call in looked.call_args_list] == [
             "two.stl", "one.ts"], looked.call_args_list)
         with mock.patch.object(files, "find_identities",
@@ -116,7 +116,7 @@ class Lists(Case):
         for name in ("B.STL", "b.TS", "c.stl", "c.ts", "c.pes", "d.m2t", "e.stl", "e.txt", "F.pes",
                      "f.stl", "f.trp", "G.stl", "g.MTS", "g.stl", "h\x1b.m2ts", "h\x1b.stl"):
             self.write(f"folder/{name}", b"")
-        items = read_pairs(self.path("folder"), default_options())
+        items = read_pairs(self.path("folder"), make_default_options())
         at = self.path("folder")
         self.must("items", [(item.name, item.reason) for item in items] == [
             ("B", None),
@@ -128,25 +128,26 @@ class Lists(Case):
             [(item.name, item.reason) for item in items])
         self.must("files", [(item.request.stl, item.request.recording) for item in items
                             if item.request]
-                  == [(f"{at}/{one}", f"{at}/{two}") for one, two in (
+                  == [(f"{at}/{element}", f"{at}/{two}") for element, two in (
                       ("B.STL", "b.TS"), ("f.stl", "f.trp"), ("g.stl", "g.MTS"),
                       ("h\x1b.stl", "h\x1b.m2ts"))])
 
 
 class CompleteBatches(Case):
-    seen: Any = None  # arguments of the last call to `judge_all`
+    seen: Any = None  # arguments of the last call to `judge_items`
 
     def batch(self, judged: str, *, is_stopped: bool = False, unwritten: dict[str, Any] = {},
               **more: Any) -> tuple[int, list[str], list[str]]:
         """Judge pairs that have the verdicts in `judged`. Return the status, table and messages."""
-        words = argparse.Namespace(**{**vars(default_options()),
+        words = argparse.Namespace(**{**vars(make_default_options()),
                                       "batch": self.write("list", "".join(
             f"{self.path(name)}.stl {self.path('one.ts')}\n" for name in ("one", "two", "three")
         ).encode()), "out": None, "program": self.path("program"), "is_kept": False, "jobs": None,
             "limit": 7, "is_resumed": False, "line": None, "json": None, "csv": None,
             "junit": None, **more})
 
-        def judge_all(calls: PairRunner, items: list[BatchItem], kept: dict[str, Row], jobs: int) \
+        def judge_items(calls: PairRunner, items: list[BatchItem], kept: dict[str, Row],
+                        jobs: int) \
                 -> dict[str, Row]:
             self.seen = calls, [item.name for item in items], kept, jobs
             self.must("folders", os.path.isdir(words.out or calls.folder) and
@@ -154,7 +155,7 @@ class CompleteBatches(Case):
                       (self.path("program"), words.out, words.is_kept, 7))
             rows = {}
             for item, verdict in reversed(list(zip(items, judged.split(", ")))):
-                with open(calls.result_path(item), "w", encoding="ascii") as file:
+                with open(calls.get_result_path(item), "w", encoding="ascii") as file:
                     json.dump(make_result(verdict, **{
                         "reason" if verdict == "not judged" else "worst_fault": item.name}), file)
                 rows[item.name] = row(item.name, verdict, item.name)
@@ -162,7 +163,8 @@ class CompleteBatches(Case):
             return rows
 
         out, told = io.StringIO(), io.StringIO()
-        with mock.patch.object(batch, "judge_all", judge_all), contextlib.redirect_stdout(out), \
+        with mock.patch.object(batch, "judge_items",
+                               judge_items), contextlib.redirect_stdout(out), \
                 contextlib.redirect_stderr(told):
             status = batch.judge_batch(words, "tools/qc")
         return status, out.getvalue().splitlines(), told.getvalue().splitlines()
@@ -178,11 +180,11 @@ class CompleteBatches(Case):
                                ("accepted, relative, waived", 3),
                                ("accepted, relative, refused", 1),
                                ("refused, not judged, accepted", 2)):
-            for jobs, wanted in ((None, os.cpu_count()), (3, 3)):
+            for jobs, expected in ((None, os.cpu_count()), (3, 3)):
                 found_status, lines, told = self.batch(judged, jobs=jobs, json=self.path("all"))
                 self.must(judged, (found_status, told) == (status, []) and [
                     line.split()[0] for line in lines[1:]] == ["one", "two", "three", "3"], lines)
-                self.must("at a time", self.seen[1:] == (["one", "two", "three"], {}, wanted))
+                self.must("at a time", self.seen[1:] == (["one", "two", "three"], {}, expected))
                 have = json.loads(self.read("all"))
                 names = [one["worst_fault"] or one["reason"] for one in have["pairs"]]
                 self.must("objects", (names, have["status"]) == (["one", "two", "three"], status))
@@ -201,7 +203,7 @@ class CompleteBatches(Case):
 
     def test_resumes_only_if_requested(self) -> None:
         earlier = {"two": row("two", "lost")}
-        with mock.patch.object(batch, "resumed_rows", lambda calls, items: earlier):
+        with mock.patch.object(batch, "read_resumed_rows", lambda calls, items: earlier):
             for is_resumed, kept in ((False, []), (True, ["two"])):
                 self.batch("accepted, accepted, accepted", out=self.path("out"),
                            is_resumed=is_resumed, is_kept=True)
@@ -251,7 +253,8 @@ class ForkedPairs(Case):
         def execute(request: Request, call: PairOptions) -> int:
             kept = ["-o", call.out] if call.out else ["--json", call.json or ""]
             words = [f"--name={call.name}", *["--claimed"] * call.is_claimed, *kept,
-                     *["--keep"] * call.is_kept, "-p", call.program or "", *call_arguments(request)]
+                     *["--keep"] * call.is_kept, "-p", call.program or "",
+                     *list_call_arguments(request)]
             # The parent process detects the end of this process by a file descriptor that it
             # inherits.
             for file in os.listdir("/proc/self/fd"):
@@ -268,20 +271,20 @@ class ForkedPairs(Case):
         self.write("one.ts", b"1")
         self.calls = PairRunner(self.command_paths, self.path("temporary"), self.path("out"), False)
 
-    def item(self, kind: str, name: str = "one", *words: str) -> BatchItem:
+    def item(self, kind: str, name: str = "one", *args: str) -> BatchItem:
         """Return a pair whose subtitle file contains `kind`, which tells `CALL` how to end."""
         stl = self.write(f"{name}.stl", kind.encode())
-        return BatchItem(name, request_for(stl, self.path("one.ts"), *words), None)
+        return BatchItem(name, make_example_request(stl, self.path("one.ts"), *args), None)
 
-    def judge_one(self, calls: PairRunner, item: BatchItem) -> Row:
-        return calls.start(item) or next(calls.finished_rows(SECONDS))
+    def judge_item(self, calls: PairRunner, item: BatchItem) -> Row:
+        return calls.start(item) or next(calls.collect_rows(SECONDS))
 
     def test_gives_each_call_its_files_and_options(self) -> None:
         for out, is_kept in ((None, False), (self.path("out"), False), (self.path("out"), True)):
             calls = PairRunner(self.command_paths, self.path("temporary"), out, is_kept)
             item = self.item("refused", "one", "--every", "50")._replace(name="pair")
             path = os.path.join(out or self.path("temporary"), "pair.json")
-            self.must("row", (self.judge_one(calls, item).name, calls.result_path(item)) == (
+            self.must("row", (self.judge_item(calls, item).name, calls.get_result_path(item)) == (
                 "pair", path))
             have = read_result(path)
             kept = f"-o {out}{' --keep' * is_kept}" if out else f"--json {path}"
@@ -290,9 +293,9 @@ class ForkedPairs(Case):
                 f"--name=pair --claimed {kept} -p {self.command_paths.program_path} --every 50 "
                 ) and
                 called.endswith(f" -- {self.path('one.stl')} {self.path('one.ts')}")
-                and not calls.running, have)
+                and not calls.running_pairs, have)
 
-    def test_takes_the_verdict_from_the_result_of_the_pair(self) -> None:
+    def test_reads_the_verdict_from_the_pairs_result(self) -> None:
         for kind, verdict, line in (
                 ("accepted", "accepted", "accepted 72 Content"),
                 ("refused", "refused", "refused 72 Content"),
@@ -301,23 +304,23 @@ class ForkedPairs(Case):
             self.write("one.ts", b"1")
             item = self.item(kind, "one", "--severity", self.write("levels", b"72 error\n"))
             self.write("out/one.json", json.dumps(make_result("accepted")).encode())
-            found_row = self.judge_one(self.calls, item)
+            found_row = self.judge_item(self.calls, item)
             self.must(kind, (found_row.name, found_row.verdict, found_row.line) == (
                 "one", verdict, line), found_row)
-            have = read_result(self.calls.result_path(item))
+            have = read_result(self.calls.get_result_path(item))
             self.must("its object", have is not None and have["verdict"] == verdict, have)
-        none = self.judge_one(self.calls, BatchItem("two", None, "no pair"))
+        none = self.judge_item(self.calls, BatchItem("two", None, "no pair"))
         self.must("no pair", (none.name, none.verdict, none.line) == (
             "two", "not judged", "no pair") and read_result(self.path("out/two.json")) ==
                   make_unjudged(
                 "two", "no pair") and {*os.listdir(self.path("out"))} == {"one.json", "two.json"})
         with mock.patch("os.fork", side_effect=BlockingIOError(11, "Try again")):
-            gone = self.judge_one(self.calls, self.item("accepted"))
+            gone = self.judge_item(self.calls, self.item("accepted"))
         self.must("no call", gone.line == "a process could not be started: Try again", gone)
         for name in ("one", "two"):
             self.calls.start(self.item("waits", name))
         self.calls.stop()
-        self.must("all are ended", not self.calls.running)
+        self.must("all are ended", not self.calls.running_pairs)
         self.calls.record_unjudged(BatchItem("three", None, "x"), "stopped")
         self.must("nothing is written then", not os.path.exists(self.path("out/three.json")))
         nowhere = PairRunner(self.command_paths, self.path("temporary"), self.path("none"), False)
@@ -330,11 +333,11 @@ class ForkedPairs(Case):
             calls = PairRunner(self.command_paths, self.path("temporary"), self.path("out"), False,
                                1)
             with mock.patch.object(batch, "GRACE_SECONDS", most):
-                rows = judge_all(calls, [self.item(kind, "long"), self.item("accepted")], {}, 2)
+                rows = judge_items(calls, [self.item(kind, "long"), self.item("accepted")], {}, 2)
             self.must(kind, (rows["long"].verdict, rows["long"].line) == (
                 "not judged", "it used more than 1 second of CPU time: give a greater --limit")
-                and rows["one"].verdict == "accepted" and not calls.over_limit, rows)
-            have = read_result(calls.result_path(self.item(kind, "long")))
+                and rows["one"].verdict == "accepted" and not calls.overdue_processes, rows)
+            have = read_result(calls.get_result_path(self.item(kind, "long")))
             self.must("its object", have is not None and have["reason"] == rows["long"].line, have)
         self.must("all is gone", wait_until(
             lambda: not os.path.exists(f"/proc/{int(self.read('its'))}/fd/0")))
@@ -343,19 +346,19 @@ class ForkedPairs(Case):
         for seconds, ended in ((59.9, []), (60, ["stop"]), (69.9, ["stop"]), (70, ["kill"])):
             calls = [mock.Mock(**{"cpu_seconds.return_value": used}) for used in (seconds, 0)]
             running = {call: mock.Mock(limit=60) for call in calls}
-            with mock.patch.object(self.calls, "running", running), \
+            with mock.patch.object(self.calls, "running_pairs", running), \
                     mock.patch.object(batch, "wait_for_any", return_value=[]):
-                self.must("no row", not [*self.calls.finished_rows(0)])
+                self.must("no row", not [*self.calls.collect_rows(0)])
             self.check(f"{seconds} seconds", ([one for one in ("stop", "kill") if getattr(
-                calls[0], one).called], calls[1] in self.calls.over_limit), (ended, False))
+                calls[0], one).called], calls[1] in self.calls.overdue_processes), (ended, False))
 
     def test_limits_the_time_by_the_size_of_the_files(self) -> None:
-        for sizes, wanted in (((None, None), 60), ((0, 9_999_999), 60), ((1, 9_999_999), 61),
-                              ((0, 4_000_000_000), 460)):
+        for sizes, expected in (((None, None), 60), ((0, 9_999_999), 60), ((1, 9_999_999), 61),
+                                ((0, 4_000_000_000), 460)):
             found_files = {name: None if size is None else {"size": size, "modified": ""}
                            for name, size in zip(("stl", "recording"), sizes)}
-            self.must(f"{sizes}", batch.default_limit(found_files) == wanted)
-        self.must("none of a process that is gone", batch.cpu_seconds_of("0") == 0.0)
+            self.must(f"{sizes}", batch.compute_default_limit(found_files) == expected)
+        self.must("none of a process that is gone", batch.read_cpu_seconds("0") == 0.0)
 
     def test_a_crash_affects_only_its_own_pair(self) -> None:
         ends: dict[str, Callable[[], object]] = {
@@ -372,10 +375,11 @@ class ForkedPairs(Case):
                 self.calls.start(self.item("accepted", "dies"))
             self.calls.start(self.item("accepted", "other"))
             rows: dict[str, Row] = {}
-            while self.calls.running:
-                rows.update((one.name, one) for one in self.calls.finished_rows(SECONDS))
+            while self.calls.running_pairs:
+                rows.update((element.name, element) for element in self.calls.collect_rows(SECONDS))
             reason = "--none" if name == "no words" else " process "
-            self.must(f"{name} {is_written}", [rows[one].verdict for one in ("dies", "other")] == [
+            self.must(f"{name} {is_written}",
+                      [rows[element].verdict for element in ("dies", "other")] == [
                 "not judged", "accepted"] and reason in rows["dies"].line, rows)
 
     def test_a_forked_call_has_its_own_session_and_signals(self) -> None:
@@ -403,14 +407,14 @@ class ForkedPairs(Case):
         items = [self.item(kind, f"name{at}", *(["--strict"] if at == 1 else []))
                  for at, kind in enumerate(("accepted", "refused", "accepted", "not judged"))]
         kept = {"name2": row("name2", "waived", "kept")}
-        rows = judge_all(self.calls, items, kept, 2)
-        self.must("verdicts", {name: one.verdict for name, one in rows.items()} == {
+        rows = judge_items(self.calls, items, kept, 2)
+        self.must("verdicts", {name: element.verdict for name, element in rows.items()} == {
             "name0": "accepted", "name1": "refused", "name2": "waived", "name3": "not judged"}
             and len(kept) == 1, rows)
-        notes = [(read_result(self.calls.result_path(item)) or {})["notes"][0] for item in
+        notes = [(read_result(self.calls.get_result_path(item)) or {})["notes"][0] for item in
                  items[:2]]
         self.must("strict", ["--strict" in note for note in notes] == [False, True])
-        self.must("not called", not os.path.exists(self.calls.result_path(items[2])))
+        self.must("not called", not os.path.exists(self.calls.get_result_path(items[2])))
 
     def test_keeps_finished_results_after_a_signal(self) -> None:
         kinds = ("accepted", "waits", "waits", "waits")
@@ -428,11 +432,11 @@ class ForkedPairs(Case):
             with mock.patch("subtitles.request.commands.Progress.show", show), \
                     mock.patch.object(batch, "ignore_signals") as ignored:
                 if isinstance(reason, KeyboardInterrupt):
-                    rows = judge_all(calls, items, {}, 2)
+                    rows = judge_items(calls, items, {}, 2)
                     self.must("rows", list(rows) == ["name0"], rows)
                 else:
-                    self.assertRaises(ValueError, judge_all, calls, items, {}, 2)
-            self.must("ended", calls.is_stopped and not calls.running and lines and
+                    self.assertRaises(ValueError, judge_items, calls, items, {}, 2)
+            self.must("ended", calls.is_stopped and not calls.running_pairs and lines and
                       ignored.called == isinstance(reason, KeyboardInterrupt))
             self.must("objects", os.listdir(self.path("out")) == ["name0.json"])
 
@@ -440,8 +444,8 @@ class ForkedPairs(Case):
         items, taken = [self.item("accepted", f"name{at}") for at in range(3)], list[Row]()
 
         def are_over() -> bool:
-            running = self.calls.running  # empty if all processes have ended
-            return all(os.path.exists(self.calls.result_path(item)) for item in items) and (
+            running = self.calls.running_pairs  # empty if all processes have ended
+            return all(os.path.exists(self.calls.get_result_path(item)) for item in items) and (
                 not running or len(wait_for_any(running, SECONDS)) == len(running))
 
         def stopped(*_: object) -> None:
@@ -450,8 +454,8 @@ class ForkedPairs(Case):
 
         with mock.patch("subtitles.request.commands.Progress.show", stopped), \
                 mock.patch.object(batch, "ignore_signals"):
-            rows = judge_all(self.calls, items, {}, 3, taken.append)
-        self.must("all", sorted(rows) == sorted(one.name for one in taken) == [
+            rows = judge_items(self.calls, items, {}, 3, taken.append)
+        self.must("all", sorted(rows) == sorted(element.name for element in taken) == [
             "name0", "name1", "name2"], rows)
 
     def test_resumes_only_from_current_results(self) -> None:
@@ -472,8 +476,8 @@ class ForkedPairs(Case):
         self.write("out/five.json", json.dumps(make_result()).encode())
         for text in (b"", b"{", b"[]"):
             self.write("out/eight.json", text)
-            rows = resumed_rows(self.calls, items)
-            self.must("kept", {name: one.verdict for name, one in rows.items()} ==
+            rows = read_resumed_rows(self.calls, items)
+            self.must("kept", {name: element.verdict for name, element in rows.items()} ==
                       {"one": "refused", "four": "waived"}, rows)
 
     def test_prints_verdict_counts_and_the_remaining_time(self) -> None:

@@ -15,7 +15,7 @@ from unittest import mock
 
 from subtitles.cli import batch, collection
 from subtitles.cli.batch import FolderWatch, PairRunner, refuse_folders
-from subtitles.cli.single import claim_pair
+from subtitles.cli.single import lock_pair
 from subtitles.common.command_line import Lateness, Stop
 from subtitles.common.program import ProgramInfo, describe_program
 from subtitles.judging.status import STATUSES
@@ -26,8 +26,8 @@ from subtitles.results.files import (
     read_results, make_row, make_unjudged)
 from subtitles.results import schema
 from subtitles.results.schema import FORMAT, REQUEST
-from .bench import Case, example, example_bytes
-from .parts import request_for, default_options
+from .bench import Case, get_example_path, read_example_file
+from .parts import make_example_request, make_default_options
 from .results import FAULT, make_result, row
 
 PROGRAM = ProgramInfo("1", "ab" * 32, None)
@@ -40,18 +40,18 @@ OTHERS: dict[str, object] = {
 
 
 class CurrentResults(Case):
-    def accepted_pair(self) -> tuple[Any, dict[str, Any]]:
+    def make_accepted_result(self) -> tuple[Any, dict[str, Any]]:
         """Return the request for a pair with a severity file, and its earlier result `accepted`."""
         paths = [self.write(name, data) for name, data in (
-            ("one.stl", example_bytes("story.stl")), ("one.pes", example_bytes("story.pes")),
-            ("severity", b"72 warning\n"))]
-        request = dataclasses.replace(request_for(*paths[:2]), severity=paths[2])
+            ("one.stl", read_example_file("story.stl")),
+            ("one.pes", read_example_file("story.pes")), ("severity", b"72 warning\n"))]
+        request = dataclasses.replace(make_example_request(*paths[:2]), severity=paths[2])
         return request, make_result("accepted", request=REQUEST.to_json(request),
                                     files_at_start=describe_inputs(request),
                                     program=PROGRAM._asdict())
 
     def test_a_result_is_current_only_for_the_same_options(self) -> None:
-        request, accepted_pair = self.accepted_pair()
+        request, accepted_pair = self.make_accepted_result()
         self.must("the same", is_current(accepted_pair, request, PROGRAM))
         for name, value in OTHERS.items():
             other = dataclasses.replace(request, **{name: value})
@@ -73,13 +73,14 @@ class CurrentResults(Case):
             ((), 1, ["story.html", "story.json", "story.txt"]),
             (("--page", "150"), 2, ["story.html", "story.json"])]
         for more, status, left in rows:
-            done = self.tool("qc", example("story.stl"), example("five-faults.pes"), "-o", "out",
-                             *more, "-p", self.bench.program)
-            self.must(f"{more}", (done.status, sorted(os.listdir(self.path("out")))) == (
+            process = self.tool("qc", get_example_path("story.stl"),
+                                get_example_path("five-faults.pes"), "-o", "out", *more, "-p",
+                                self.bench.program)
+            self.must(f"{more}", (process.status, sorted(os.listdir(self.path("out")))) == (
                 status, left), sorted(os.listdir(self.path("out"))))
 
     def test_a_result_is_current_only_for_the_same_program(self) -> None:
-        request, accepted_pair = self.accepted_pair()
+        request, accepted_pair = self.make_accepted_result()
         for name in ("version", "sha256"):
             other = PROGRAM._replace(**{name: "0" * 64})
             self.must(name, not is_current(accepted_pair, request, other))
@@ -95,7 +96,7 @@ class CurrentResults(Case):
     def test_a_result_is_current_only_for_unchanged_files(self) -> None:
         for name in ("one.stl", "one.pes", "severity"):
             for what in ("longer", "later", "gone"):
-                request, accepted_pair = self.accepted_pair()
+                request, accepted_pair = self.make_accepted_result()
                 self.must(f"{name} as it was", is_current(accepted_pair, request, PROGRAM))
                 path, about = self.path(name), os.stat(self.path(name))
                 if what == "gone":
@@ -190,9 +191,9 @@ class StoredResults(Case):
             accepted_pair = {**none, "verdict": word, "status": status, "reason": reason, **opened}
             self.write("one.json", json.dumps(accepted_pair).encode())
             is_one = (word, status, reason, opened) == ("not judged", 2, "why", {})
-            found = read_result(self.path("one.json")) or {}
-            if (found == accepted_pair) != is_one or make_row(found, "one").status != 2:
-                self.must(f"{accepted_pair}", False, found)
+            result = read_result(self.path("one.json")) or {}
+            if (result == accepted_pair) != is_one or make_row(result, "one").status != 2:
+                self.must(f"{accepted_pair}", False, result)
 
     def test_reads_only_visible_json_files_in_order(self) -> None:
         for name in ("b.json", "a.json", ".c.json", "d.txt", "e.jsonl"):
@@ -201,7 +202,7 @@ class StoredResults(Case):
         names = [os.path.basename(path) for path, _ in read_results(self.folder)]
         self.must("names", names == ["a.json", "b.json"], names)
 
-    def test_takes_a_result_only_with_its_own_status(self) -> None:
+    def test_rejects_a_result_with_another_status(self) -> None:
         path = self.path("one.json")
         for verdict, ended, is_its in (("refused", 1, True), ("refused", 0, False),
                                        ("accepted", 0, True), ("accepted", 2, False),
@@ -217,19 +218,19 @@ class StoredResults(Case):
                   "the judging process wrote no result")
 
     def test_replaces_only_results_and_empty_files(self) -> None:
-        for data, wanted in ((b"{", True), (b"", True), (b"GSI", False), (b" {", False),
-                             (b'{"a', True)):
-            self.must(f"{data!r}", can_replace(self.write("x", data)) == wanted)
-        for data, wanted in ((b"stl,recording,part", True), (b"", True), (b"stl", False),
-                             (b"{", False)):
+        for data, expected in ((b"{", True), (b"", True), (b"GSI", False), (b" {", False),
+                               (b'{"a', True)):
+            self.must(f"{data!r}", can_replace(self.write("x", data)) == expected)
+        for data, expected in ((b"stl,recording,part", True), (b"", True), (b"stl", False),
+                               (b"{", False)):
             self.must(f"{data!r}: a table", can_replace(self.write("x", data), b"stl,recording,") ==
-                      wanted)
+                      expected)
         self.must("not there", can_replace(self.path("none")) and can_replace("/dev/zero"))
 
 
 class WatchedFolders(Case):
     def arguments(self, **more: Any) -> argparse.Namespace:
-        arguments = argparse.Namespace(**vars(default_options()))
+        arguments = argparse.Namespace(**vars(make_default_options()))
         vars(arguments).update({"watch": self.path("in"), "out": self.path("out"), "settled": 0,
                             "is_kept": True, "jobs": 3, "limit": 7, "every": 99,
                             **more})
@@ -325,7 +326,7 @@ class WatchedFolders(Case):
                 yield judged(calls, waiting.popleft())
 
         with mock.patch("signal.signal"), mock.patch("time.sleep", next_look), \
-                mock.patch.object(batch, "judge_next", judge), \
+                mock.patch.object(batch, "judge_next_items", judge), \
                 contextlib.redirect_stdout(io.StringIO()) as out:
             os.symlink(self.bench.program, self.path("program"))
             status = batch.watch(self.arguments(program=self.path("program")), "tools/qc")
@@ -337,7 +338,7 @@ class WatchedFolders(Case):
             os.mkdir(self.path(name))
         program = describe_program(self.bench.program)
         for name in ("a", "b", "c"):
-            request = request_for(self.write(f"in/{name}.stl", b"1"),
+            request = make_example_request(self.write(f"in/{name}.stl", b"1"),
                                 self.write(f"in/{name}.ts", b"1"),
                               "--every", "99")
             files = {**describe_inputs(request), **({"stl": None} if name == "b" else {})}
@@ -366,7 +367,7 @@ class WatchedFolders(Case):
             assert row_of
             return row_of
 
-        with claim_pair(self.path("out"), "a"):
+        with lock_pair(self.path("out"), "a"):
             lines = self.run_watch(5, judged)
         self.must("once", len(lines) == 1 and "another run of qc is writing the files of pair a" in
                   lines[0] and not os.path.exists(self.path("out/a.json")), lines)
@@ -382,8 +383,8 @@ class WatchedFolders(Case):
             return row_of or row(item.name, "accepted")
 
         other = contextlib.ExitStack()
-        other.enter_context(claim_pair(self.path("out"), "a"))
-        with other, mock.patch.object(PairRunner, "start_claimed", return_value=None):
+        other.enter_context(lock_pair(self.path("out"), "a"))
+        with other, mock.patch.object(PairRunner, "start_locked_pair", return_value=None):
             lines = self.run_watch(8, judged, lambda look: other.close() if look == 4 else None)
         self.must("judged once", begun == [False, False, False, True] and len(lines) == 2 and
                   lines[1] == "a  accepted", (begun, lines))
@@ -402,7 +403,8 @@ class WatchedFolders(Case):
     def test_judges_a_pair_again_when_it_changes_back(self) -> None:
         self.write_pair()
         os.mkdir(self.path("out"))
-        request, path = request_for(self.path("in/a.stl"), self.path("in/a.ts"), "--every", "99"), \
+        request, path = make_example_request(self.path("in/a.stl"), self.path("in/a.ts"), "--every",
+                                             "99"), \
             self.path("in/a.ts")
         self.write("out/a.json", json.dumps(make_result(
             request=REQUEST.to_json(request), files_at_start=describe_inputs(request),
@@ -422,6 +424,6 @@ class WatchedFolders(Case):
         watch, errors = FolderWatch(self.path("in"), 0), io.StringIO()
         with contextlib.redirect_stderr(errors):
             for reason in ("first", "first", "second", "second", "first", "first"):
-                self.must(reason, watch.ready_items([BatchItem("a", None, reason)]) == [])
+                self.must(reason, watch.find_ready_items([BatchItem("a", None, reason)]) == [])
         lines = [line.partition(": ")[2] for line in errors.getvalue().splitlines()]
         self.must("told", lines == ["first", "second", "first"], lines)

@@ -18,11 +18,11 @@ from subtitles.cli.single import SIGNALS
 from subtitles.common.command_line import run
 from subtitles.common.program import TOP
 from subtitles.formats.stl import read_stl
-from .bench import Case, example, tool_path
+from .bench import Case, get_example_path, get_tool_path
 from .judged import FEW
 
-QC = tool_path("qc")
-HELLO = [example("hello.stl"), example("hello.pes")]
+QC = get_tool_path("qc")
+HELLO = [get_example_path("hello.stl"), get_example_path("hello.pes")]
 ACCEPTED = "accepted 51 frames 2 transmissions"
 CONTROL = "refused 67 Control frame 10:00:00:00 packet 0"
 # A script in place of subttx. `check` runs {alone} for a subtitle file and {said} for a recording.
@@ -61,7 +61,7 @@ ANSWERS: dict[str, tuple[list[str], str | None, str | None]] = {
 ENDS = ("exit 0", "exit 1", "exit 2", "kill -9 $$")
 
 
-class Ended(NamedTuple):
+class EndedCall(NamedTuple):
     """The exit status, output and error output of qc, without the note that ends with FEW."""
 
     status: int
@@ -87,14 +87,14 @@ class CallCase(Case):
             text = text.replace(place, f"printf '%s\\n' {quoted}; {end}" if some else end)
         return self.write_program("program", text)
 
-    def qc(self, *words: str) -> Ended:
+    def qc(self, *args: str) -> EndedCall:
         before = os.getcwd()
-        received = [(one, signal.getsignal(one)) for one in SIGNALS]
+        received = [(item, signal.getsignal(item)) for item in SIGNALS]
         os.chdir(self.folder)
         try:
             with open("out.txt", "w", encoding="utf-8") as printed, \
                     open("told.txt", "w", encoding="utf-8") as reported, \
-                    mock.patch.multiple(sys, stdout=printed, stderr=reported, argv=[QC, *words]):
+                    mock.patch.multiple(sys, stdout=printed, stderr=reported, argv=[QC, *args]):
                 try:
                     run(lambda line: main("", QC, line))
                 except SystemExit as ended:
@@ -103,14 +103,14 @@ class CallCase(Case):
                     raise AssertionError(f"it ended by {reason!r}") from reason
             lines = self.text("out.txt").splitlines()
             output = self.text("told.txt").splitlines()
-            return Ended(status, lines, [line for line in output if not line.endswith(FEW)])
+            return EndedCall(status, lines, [line for line in output if not line.endswith(FEW)])
         finally:
             os.chdir(before)
-            for one, handler in received:  # qc ignores signals while it exits
-                signal.signal(one, handler)
+            for item, handler in received:  # qc ignores signals while it exits
+                signal.signal(item, handler)
 
-    def judge(self, program: str, *words: str) -> Ended:
-        return self.qc(*HELLO, "--origin", "0", "-p", program, *words)
+    def judge(self, program: str, *args: str) -> EndedCall:
+        return self.qc(*HELLO, "--origin", "0", "-p", program, *args)
 
 
 class Programs(CallCase):
@@ -127,16 +127,16 @@ class Programs(CallCase):
             self.check_judged(f"{name}, {end}", status, self.judge(
                 self.fake_program(*lines, then=end), "--json", "one.json"))
 
-    def check_judged(self, name: str, status: int, done: Ended) -> None:
+    def check_judged(self, name: str, status: int, ended: EndedCall) -> None:
         """Check that a run of qc has this exit status, and that its JSON result agrees."""
         known = self.object()
         with self.subTest(name):
-            self.assertEqual((done.status, known["status"], known["line"] is None),
-                             (status, status, status == 2), done)
+            self.assertEqual((ended.status, known["status"], known["line"] is None),
+                             (status, status, status == 2), ended)
             if status == 2:
                 self.assertEqual(known["verdict"], "not judged")
-                self.assertTrue(known["reason"].startswith("check gave no verdict: "), done)
-                self.assertEqual(done.told, [f"qc: {known['reason']}"])
+                self.assertTrue(known["reason"].startswith("check gave no verdict: "), ended)
+                self.assertEqual(ended.told, [f"qc: {known['reason']}"])
 
     def test_judges_only_if_each_call_of_the_program_succeeds(self) -> None:
         for when, several in (
@@ -148,25 +148,26 @@ class Programs(CallCase):
                              f"'{self.bench.program}' \"$@\"; exit 1",
                              f"'{self.bench.program}' \"$@\"; kill -9 $$"))):
             for does in several:
-                program = self.program_but(when, does)
+                program = self.make_program_with_exception(when, does)
                 with self.subTest(when=when, does=does):
                     self.write("one.json", b"{as it was")
-                    done = self.qc(example("story.stl"), example("recording.ts"), "-p", program,
-                                   "--json", "one.json")
+                    process = self.qc(get_example_path("story.stl"),
+                                      get_example_path("recording.ts"), "-p", program, "--json",
+                                      "one.json")
                     known = self.object()
-                    self.assertEqual((done.status, known["status"], known["verdict"],
-                                      known.get("line")), (2, 2, "not judged", None), done)
-                    self.assertTrue(known["reason"] and done.told and not any(
-                        line.startswith("accepted") for line in done.printed[-1:]), done)
-                    self.assertTrue(all(line.startswith("qc: ") for line in done.told), done)
+                    self.assertEqual((process.status, known["status"], known["verdict"],
+                                      known.get("line")), (2, 2, "not judged", None), process)
+                    self.assertTrue(known["reason"] and process.told and not any(
+                        line.startswith("accepted") for line in process.printed[-1:]), process)
+                    self.assertTrue(all(line.startswith("qc: ") for line in process.told), process)
 
     def test_ends_with_0_if_all_faults_are_waived(self) -> None:
         program = self.fake_program(CONTROL, "1 faults", then="exit 1")
         named = self.write("named", b"67 warning\n")
-        done = self.judge(program, "--severity", named, "--json", "one.json", "--csv", "one.csv",
-                          "--junit", "one.xml")
+        process = self.judge(program, "--severity", named, "--json", "one.json", "--csv", "one.csv",
+                             "--junit", "one.xml")
         known, line = self.object(), f"waived: {CONTROL}"
-        self.assertEqual((done.status, done.printed[-1]), (0, line), done)
+        self.assertEqual((process.status, process.printed[-1]), (0, line), process)
         self.assertEqual((known["verdict"], known["status"], known["line"]), ("waived", 0, line))
         rows = list(csv.DictReader(self.text("one.csv").splitlines()))
         self.assertEqual(rows[0]["verdict"], "waived")
@@ -181,22 +182,22 @@ class Programs(CallCase):
         program, line = self.fake_program(ACCEPTED), "relative 51 frames 2 transmissions"
         for words, status in (((), 3), (("--relative",), 0), (("--profile", "profile"), 0),
                               (("--strict",), 3), (("--strict", "--relative"), 0)):
-            done = self.qc(*HELLO, "-p", program, *words, "--quiet", "--json", "one.json", "--csv",
-                           "one.csv", "--junit", "one.xml", "-o", "out")
+            process = self.qc(*HELLO, "-p", program, *words, "--quiet", "--json", "one.json",
+                              "--csv", "one.csv", "--junit", "one.xml", "-o", "out")
             known, last = self.object(), line + "; the profile has --relative" * (
                 "--profile" in words)
-            self.assertEqual((done.status, len(done.printed), done.printed[-1]), (status, 2, last),
-                             status)
+            self.assertEqual((process.status, len(process.printed), process.printed[-1]),
+                             (status, 2, last), status)
             self.assertEqual([known[name] for name in (
                 "verdict", "status", "line", "worst_fault")], ["relative", status, last, last])
-            self.assertEqual(known["sentence"], done.printed[0], status)
-            self.assertIn("No clock was given, so its delay was not checked", done.printed[0],
+            self.assertEqual(known["sentence"], process.printed[0], status)
+            self.assertIn("No clock was given, so its delay was not checked", process.printed[0],
                           status)
             rows = list(csv.DictReader(self.text("one.csv").splitlines()))
             self.assertEqual((rows[0]["verdict"], rows[0]["reason"]), (
                 "relative", known["sentence"]), status)
             case = tree.fromstring(self.read("one.xml"))[0][0]
-            self.assertEqual([one.tag for one in case], ["failure" if status else "system-out"],
+            self.assertEqual([item.tag for item in case], ["failure" if status else "system-out"],
                              status)
             self.assertIn(known["sentence"], case[0].text or "", status)
             self.assertNotIn("ccepted", self.text("one.csv") + self.text("one.xml"), status)
@@ -215,23 +216,24 @@ class UsageErrors(CallCase):
             for request in (("--json", "one.json"), ("--json=one.json",)):
                 with self.subTest(words=words, asked=request):
                     self.write("one.json", b'{"format": 2, "verdict": "accepted", "status": 0}')
-                    done = self.qc(*request, *words)
+                    process = self.qc(*request, *words)
                     known = self.object()
-                    self.assertEqual((done.status, len(done.told)), (2, 1), done)
+                    self.assertEqual((process.status, len(process.told)), (2, 1), process)
                     self.assertEqual((known["verdict"], known["status"]), ("not judged", 2))
-                    self.assertEqual(done.told, [f"qc: {known['reason']}"])
+                    self.assertEqual(process.told, [f"qc: {known['reason']}"])
 
     def test_prints_a_result_for_wrong_arguments(self) -> None:
-        done = self.qc("--none", "--json", "-")
-        self.assertEqual((done.status, json.loads("".join(done.printed))["status"]), (2, 2), done)
+        process = self.qc("--none", "--json", "-")
+        self.assertEqual((process.status, json.loads("".join(process.printed))["status"]), (2, 2),
+                         process)
 
     def test_never_overwrites_an_input(self) -> None:
         for name in ("one.stl", "one.pes", "list"):
             self.write(name, b"an input")
             for words in (["one.stl", "one.pes", "--every", "x"], ["one.stl", "--none"],
                           ["--batch", "list", "--every", "x"], ["--severity", "list", "one.stl"]):
-                done = self.qc(*words, "--json", name)
-                self.assertEqual((done.status, self.read(name)), (2, b"an input"), (name, words))
+                process = self.qc(*words, "--json", name)
+                self.assertEqual((process.status, self.read(name)), (2, b"an input"), (name, words))
         program = self.fake_program(ACCEPTED)
         os.mkdir(self.path("in"))
         for name, data in (("list", f"{HELLO[0]} {self.path('in/one.pes')}\n".encode()),
@@ -250,25 +252,25 @@ class UsageErrors(CallCase):
             for option, name in itertools.product(("--json", "--csv", "--junit"), names):
                 before = self.read(name)
                 more = [] if "--collect" in words else ["-p", program]
-                done = self.qc(*words, option, name, *more)
-                self.assertEqual((done.status, done.told, self.read(name)),
+                process = self.qc(*words, option, name, *more)
+                self.assertEqual((process.status, process.told, self.read(name)),
                                  (2, [f"qc: {name} is also an input: give another "
                                       "name"], before), (words, option))
         self.assertEqual(kept, self.read("in/one.json"))
 
 
 class Bugs(CallCase):
-    def check_failing(self, place: str, error: Exception) -> None:
+    def check_bug_message(self, place: str, error: Exception) -> None:
         """Check that qc gives no verdict and reports `error` if the function `place` raises it."""
         if os.path.exists(self.path("one.json")):
             os.unlink(self.path("one.json"))
         with mock.patch(f"subtitles.{place}", side_effect=error):
-            done = self.judge(self.fake_program(ACCEPTED), "--json", "one.json")
+            process = self.judge(self.fake_program(ACCEPTED), "--json", "one.json")
         known = self.object()
-        self.assertEqual((done.status, len(done.told)), (2, 1), done)
+        self.assertEqual((process.status, len(process.told)), (2, 1), process)
         self.assertEqual((known["verdict"], known["status"]), ("not judged", 2), known)
         self.assertIsNone(known.get("line"))
-        self.assertEqual(done.told, [f"qc: {known['reason']}"])
+        self.assertEqual(process.told, [f"qc: {known['reason']}"])
         self.assertIn(str(error).strip("'"), known["reason"])
 
     def test_reports_a_bug_in_each_step(self) -> None:
@@ -280,14 +282,14 @@ class Bugs(CallCase):
                       "cli.single.CommandPaths", "cli.single.describe_inputs",
                       "results.files.write_list", "cli.single.describe_program"):
             with self.subTest(place):
-                self.check_failing(place, ValueError("odd"))
+                self.check_bug_message(place, ValueError("odd"))
 
     def test_has_status_2_if_a_module_cannot_be_imported(self) -> None:
-        done = subprocess.run(
+        process = subprocess.run(
             [sys.executable, "-c", "import sys; sys.path.insert(0, sys.argv[1]); "
              "import subtitles; import subtitles.common.nothing", os.path.join(TOP, "tools")],
             capture_output=True, encoding="utf-8", check=False)
-        self.assertEqual((done.returncode, len(done.stderr.splitlines())), (2, 1), done)
+        self.assertEqual((process.returncode, len(process.stderr.splitlines())), (2, 1), process)
 
 
 if __name__ == "__main__":

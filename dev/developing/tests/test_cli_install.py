@@ -20,7 +20,7 @@ from subtitles.common.program import (
     PAGES, TOP, find_program, list_documents, read, remove_dead_links)
 from ..compiled import make_plain_environment
 from ..proved import find_crates_without_line, parse_proved
-from .bench import Case, Done, SECONDS, example, example_bytes, tool_path
+from .bench import Case, CompletedCall, SECONDS, get_example_path, get_tool_path, read_example_file
 from .programmes import wait_until
 
 
@@ -34,29 +34,29 @@ printf '%s\\n' "${COMPREPLY[@]}"
 
 def check_installation(case: Case, prefix: str) -> None:
     """Check that the tools installed in a folder can judge a recording."""
-    def run(name: str, *words: str) -> Done:
+    def run(name: str, *words: str) -> CompletedCall:
         return case.call([os.path.join(prefix, "bin", name), *words], env=make_plain_environment())
 
-    stl = example("story.stl")
-    stream = case.tool("pes2ts", example("story.pes"), "0x101")
-    done = run("subttx", "extract", case.write("story.ts", stream.out), "recording.pes", "--pid",
-               "0x101")
-    case.must("extract", done.out == b"written 5 pes 0 gaps\n", done)
-    done = run("subttx", "check", stl, "recording.pes", "--pes", "0-4")
-    case.must("check", done.out == b"accepted 226 frames 5 transmissions\n", done)
-    done = run("subttx-qc", stl, "story.ts", "-o", "report")
-    case.must("qc", done.out.endswith(b"\nrelative 226 frames 5 transmissions\n") and
-              os.path.join(prefix, "bin", "subttx").encode() in done.out and
-              os.path.exists(case.path("report/story.html")), done)
-    done = run("subttx-air", "--help")
-    case.must("its own names in the help", b"subttx-air" in done.out
-              and b"tools/" not in done.out, done)
-    done = run("subttx-qc", "--help")
-    named = re.findall(r"\S+/docs/manual/\w+\.md", done.out.decode())
+    stl = get_example_path("story.stl")
+    stream = case.tool("pes2ts", get_example_path("story.pes"), "0x101")
+    process = run("subttx", "extract", case.write("story.ts", stream.out), "recording.pes", "--pid",
+                  "0x101")
+    case.must("extract", process.out == b"written 5 pes 0 gaps\n", process)
+    process = run("subttx", "check", stl, "recording.pes", "--pes", "0-4")
+    case.must("check", process.out == b"accepted 226 frames 5 transmissions\n", process)
+    process = run("subttx-qc", stl, "story.ts", "-o", "report")
+    case.must("qc", process.out.endswith(b"\nrelative 226 frames 5 transmissions\n") and
+              os.path.join(prefix, "bin", "subttx").encode() in process.out and
+              os.path.exists(case.path("report/story.html")), process)
+    process = run("subttx-air", "--help")
+    case.must("its own names in the help", b"subttx-air" in process.out
+              and b"tools/" not in process.out, process)
+    process = run("subttx-qc", "--help")
+    named = re.findall(r"\S+/docs/manual/\w+\.md", process.out.decode())
     case.must("documents in the help", len(named) == 2 and all(map(os.path.isfile, named)), named)
 
 
-def proof_file(case: Case) -> str:
+def get_proof_file(case: Case) -> str:
     """Return the path of PROVED. Skip the test if the program has not been proved here."""
     program, _ = find_program(TOP)
     proved = os.path.join(os.path.dirname(program), "PROVED")
@@ -71,11 +71,11 @@ def is_compiled(folder: str) -> bool:
         for name in names:
             if not name.endswith(".py"):
                 continue
-            made = os.path.join(place, "__pycache__",
-                                f"{name.removesuffix('.py')}.{sys.implementation.cache_tag}.pyc")
-            if not os.path.exists(made):
+            result = os.path.join(place, "__pycache__",
+                                  f"{name.removesuffix('.py')}.{sys.implementation.cache_tag}.pyc")
+            if not os.path.exists(result):
                 return False
-            with open(made, "rb") as file:
+            with open(result, "rb") as file:
                 if file.read(8)[4:] != bytes([1, 0, 0, 0]):  # not an unchecked hash-based .pyc
                     return False
     return True
@@ -83,11 +83,11 @@ def is_compiled(folder: str) -> bool:
 
 class Installation(Case):
     def test_installed_tools_run_from_a_moved_folder(self) -> None:
-        done = self.tool("install", "-p", self.bench.program, "first/prefix")
-        self.must("status", done.status == 0, done)
+        process = self.tool("install", "-p", self.bench.program, "first/prefix")
+        self.must("status", process.status == 0, process)
         os.rename(self.path("first/prefix"), self.path("moved"))
         paths = [path.replace("first/prefix", self.path("moved"))
-                 for path in done.out.decode().splitlines()]
+                 for path in process.out.decode().splitlines()]
         self.must("each file that is told", paths and all(map(os.path.exists, paths)), paths)
         again = self.tool("install", "-p", self.bench.program, "moved")
         self.must("once more over it", again.status == 0, again)
@@ -96,20 +96,21 @@ class Installation(Case):
 
     def test_removes_only_what_was_installed(self) -> None:
         tool = ("install", "--remove")
-        done = self.tool("install", "-p", self.bench.program, "own/prefix")
-        reported = done.out.decode().splitlines()
-        done = self.tool(*tool, "own/prefix")
+        process = self.tool("install", "-p", self.bench.program, "own/prefix")
+        reported = process.out.decode().splitlines()
+        process = self.tool(*tool, "own/prefix")
         self.must("what is told",
-                  done.status == 0 and {*reported} <= {*done.out.decode().splitlines()},
-                  done)
+                  process.status == 0 and {*reported} <= {*process.out.decode().splitlines()},
+                  process)
         self.must("its folder", not os.path.exists(self.path("own/prefix"))
                   and os.path.isdir(self.path("own")))
         self.tool("install", "-p", self.bench.program, "linked")
         os.rename(self.path("linked/lib/subttx"), self.path("elsewhere"))
         os.symlink(self.path("elsewhere"), self.path("linked/lib/subttx"))
-        done = self.tool(*tool, "linked")
-        self.must("a link", done.status == 2 and "linked/lib/subttx is a link" in done.told[0] and
-                  os.path.exists(self.path("linked/bin/subttx")), done)
+        process = self.tool(*tool, "linked")
+        self.must("a link", process.status == 2
+                  and "linked/lib/subttx is a link" in process.told[0]
+                  and os.path.exists(self.path("linked/bin/subttx")), process)
         os.makedirs(self.path("shared/bin"))
         os.makedirs(self.path("shared/share/man/man1"))
         self.write("shared/bin/subttx-own", b"of somebody else")
@@ -117,18 +118,18 @@ class Installation(Case):
         self.tool("install", "-p", self.bench.program, "shared")  # replace the first installation
         self.write("shared/share/man/other", b"")
         os.symlink("../lib/subttx/tools/older", self.path("shared/bin/subttx-older"))
-        done = self.tool(*tool, "shared")
+        process = self.tool(*tool, "shared")
         left = sorted(os.path.relpath(os.path.join(place, name), self.path("shared"))
                       for place, folders, names in os.walk(self.path("shared"))
                       for name in [*folders, *names])
-        self.must("of others nothing", done.status == 0 and left == [
+        self.must("of others nothing", process.status == 0 and left == [
             "bin", "bin/subttx-own", "share", "share/man", "share/man/man1", "share/man/other"],
                   left)
         for words in ([*tool, "shared"], [*tool, "none"],
                       [*tool, "-p", self.bench.program, "shared"],
                       list(tool)):
-            done = self.tool(*words)
-            self.must(" ".join(words[1:]), done.status == 2 and len(done.told) == 1, done)
+            process = self.tool(*words)
+            self.must(" ".join(words[1:]), process.status == 2 and len(process.told) == 1, process)
 
     def test_installed_documents_have_no_dead_links(self) -> None:
         self.tool("install", "-p", self.bench.program, "prefix")
@@ -156,22 +157,24 @@ class Installation(Case):
         if not shutil.which("bash"):
             self.skipTest("completion, since there is no bash")
 
-        def offered(*words: str) -> set[str]:
-            done = self.call(["bash", "-c", COMPLETE, "bash",
-                              os.path.join(TOP, "tools", "completion.bash"), *words])
-            return set(done.out.decode().split())
+        def complete_words(*words: str) -> set[str]:
+            process = self.call(["bash", "-c", COMPLETE, "bash",
+                                 os.path.join(TOP, "tools", "completion.bash"), *words])
+            return set(process.out.decode().split())
 
         paths = glob.glob(os.path.join(TOP, "docs", "manual", "*.md"))
         manual = "".join(read(path) or "" for path in paths)
         headings = re.findall(r"^##+ `(\w+) (.*)`$", manual, re.MULTILINE)
-        self.must("commands", offered("subttx", "") == {name for name, _ in headings}, headings)
+        self.must("commands",
+                  complete_words("subttx", "") == {name for name, _ in headings}, headings)
         for name, words in headings:
             options = set(re.findall(r"--[\w-]+", words))
-            self.must(name, options <= offered("subttx", name, "-"), (options, name))
-        self.must("values", offered("subttx", "check", "--option", "g") == {"german"})
+            self.must(name, options <= complete_words("subttx", name, "-"), (options, name))
+        self.must("values", complete_words("subttx", "check", "--option", "g") == {"german"})
         tool = os.path.join(TOP, "tools", "qc")
-        self.must("qc", {"--batch", "--allow-lost", "--severity", "-o"} <= offered(tool, "-"),
-                  offered(tool, "-"))
+        self.must("qc",
+                  {"--batch", "--allow-lost", "--severity", "-o"} <= complete_words(tool, "-"),
+                  complete_words(tool, "-"))
 
     def test_manual_pages_and_change_log_have_the_version(self) -> None:
         version = (read(os.path.join(TOP, "VERSION")) or "none").strip()
@@ -182,17 +185,17 @@ class Installation(Case):
         self.must("the first of the change log with a date", log and log[1] == version, log)
 
     def test_makes_a_reproducible_archive(self) -> None:
-        proved = proof_file(self)
-        done = self.tool("dist")
-        path = self.path(done.out.decode().strip())
-        self.must("status", done.status == 0, done)
+        proved = get_proof_file(self)
+        process = self.tool("dist")
+        path = self.path(process.out.decode().strip())
+        self.must("status", process.status == 0, process)
         before = self.read(path)
-        done = self.tool("dist", "new/folder")
+        process = self.tool("dist", "new/folder")
         self.must("the same bytes again, in a folder that is made",
-                  self.read(done.out.decode().strip()) == before, done)
-        done = self.tool("dist", self.write("file", b""))
-        self.must("no folder", done.status == 2 and done.told == [
-            f"dist: {self.path('file')} is not a folder"], done)
+                  self.read(process.out.decode().strip()) == before, process)
+        process = self.tool("dist", self.write("file", b""))
+        self.must("no folder", process.status == 2 and process.told == [
+            f"dist: {self.path('file')} is not a folder"], process)
         with tarfile.open(path) as archive:
             archive.extractall(self.folder)
             folder = self.path(archive.getnames()[0])
@@ -202,21 +205,21 @@ class Installation(Case):
         check_installation(self, folder)
 
     def test_makes_a_reproducible_debian_package(self) -> None:
-        proved = proof_file(self)
+        proved = get_proof_file(self)
         if not shutil.which("dpkg-deb"):
             self.skipTest("dev/dist --deb, since there is no dpkg-deb")
-        done = self.tool("dist", "--deb")
-        path = self.path(done.out.decode().strip())
-        self.must("status", done.status == 0, done)
+        process = self.tool("dist", "--deb")
+        path = self.path(process.out.decode().strip())
+        self.must("status", process.status == 0, process)
         before = self.read(path)
         self.tool("dist", "--deb")
         self.must("the same bytes again", self.read(path) == before)
-        done = self.call(["dpkg-deb", "-f", path, "Version", "Depends"])
-        self.must("version, and what it needs", done.out.decode().splitlines() == [
+        process = self.call(["dpkg-deb", "-f", path, "Version", "Depends"])
+        self.must("version, and what it needs", process.out.decode().splitlines() == [
             f"Version: {(read(os.path.join(TOP, 'VERSION')) or '').strip()}",
-            "Depends: libc6 (>= 2.34), python3 (>= 3.9)"], done)
-        done = self.call(["dpkg-deb", "-x", path, "empty"])
-        self.must("unpacked", done.status == 0, done)
+            "Depends: libc6 (>= 2.34), python3 (>= 3.9)"], process)
+        process = self.call(["dpkg-deb", "-x", path, "empty"])
+        self.must("unpacked", process.status == 0, process)
         folder = self.path("empty/usr/share/doc/subttx")
         self.must("the manual", os.path.isfile(os.path.join(folder, "docs", "manual", "qc.md")))
         self.must("what was proved", read(os.path.join(folder, "PROVED")) == read(proved))
@@ -224,27 +227,28 @@ class Installation(Case):
         shared = "/usr/lib/subttx/tools/subtitles"
         for name, is_there in (("postinst", True), ("prerm", False)):
             script = self.read(f"control/{name}").decode().replace(shared, f"empty{shared}")
-            done = self.call(["sh", "-c", script], env=os.environ | {"PYTHONPYCACHEPREFIX": ""})
-            self.must(name, done.status == 0 and is_compiled(self.path(f"empty{shared}"))
-                      == is_there, done)
+            process = self.call(["sh", "-c", script], env=os.environ | {"PYTHONPYCACHEPREFIX": ""})
+            self.must(name, process.status == 0 and is_compiled(self.path(f"empty{shared}"))
+                      == is_there, process)
             if is_there:
                 check_installation(self, self.path("empty/usr"))
         if shutil.which("lintian"):
-            done = self.call(["lintian", "--allow-root", "--fail-on", "error", path])
-            self.must("lintian", done.status == 0, done)
+            process = self.call(["lintian", "--allow-root", "--fail-on", "error", path])
+            self.must("lintian", process.status == 0, process)
         else:
             self.bench.over.append("the package by lintian, which is not there")
 
 
-SETTLED = 2  # seconds without change after which a file is judged
-HOSTILE = [b"\xff\xfe", b"caf\xe9", "caf\u00e9".encode(), b"-o", b"--help", b"=1+2", b"\x1b[31mred",
-           b"two\nlines", b"tab\there", b" leading", b"trailing ", b"a  b", b"$(date)", b"`date`",
-           b"*", b"?", b"[a]", b"a;b", b"a|b&c", b"#one", b"100%", b"back\\slash", b"it's\"",
-           b"<b>&amp;"]
+SETTLED_SECONDS = 2  # seconds without change after which a file is judged
+HOSTILE_NAMES = [b"\xff\xfe", b"caf\xe9", "caf\u00e9".encode(), b"-o", b"--help", b"=1+2",
+                 b"\x1b[31mred", b"two\nlines", b"tab\there", b" leading", b"trailing ", b"a  b",
+                 b"$(date)", b"`date`",
+                 b"*", b"?", b"[a]", b"a;b", b"a|b&c", b"#one", b"100%", b"back\\slash", b"it's\"",
+                 b"<b>&amp;"]
 
 
-def qc(case: Case, *words: str) -> Done:
-    return case.tool("qc", *words, "-p", case.bench.program)
+def qc(case: Case, *args: str) -> CompletedCall:
+    return case.tool("qc", *args, "-p", case.bench.program)
 
 
 def fill(case: Case, folder: str, count: int) -> None:
@@ -252,9 +256,9 @@ def fill(case: Case, folder: str, count: int) -> None:
     os.mkdir(case.path(folder))
     for number in range(1, count + 1):
         is_broken = number == 2
-        case.write(f"{folder}/{number}.stl", example_bytes("hello.stl"))
+        case.write(f"{folder}/{number}.stl", read_example_file("hello.stl"))
         case.write(f"{folder}/{number}.pes",
-                   example_bytes("no-erase.pes" if is_broken else "hello.pes"))
+                   read_example_file("no-erase.pes" if is_broken else "hello.pes"))
 
 
 def blocking_program(case: Case, count: int) -> str:
@@ -284,34 +288,34 @@ def reaches_pair(case: Case, folder: str, count: int) -> bool:
     Return whether this happened in time.
     """
     return wait_until(lambda: os.path.isdir(case.path(folder)) and count_judged(case) == count + 1
-                 and len(results_in(case, folder)) == count)
+                 and len(read_results_in(case, folder)) == count)
 
 
-def results_in(case: Case, folder: str) -> dict[str, Any]:
-    found = {}
+def read_results_in(case: Case, folder: str) -> dict[str, Any]:
+    result = {}
     for name in os.listdir(case.path(folder)):
         if name.endswith(".json") and not name.startswith("."):
-            found[name.removesuffix(".json")] = json.loads(case.read(f"{folder}/{name}"))
-    return found
+            result[name.removesuffix(".json")] = json.loads(case.read(f"{folder}/{name}"))
+    return result
 
 
 def write_slowly(case: Case, name: str) -> float:
     """Write a recording for longer than the settle time. Return the longest pause in seconds."""
-    data, longest = example_bytes("recording.ts"), 0.0
-    case.write(f"{name}.stl", example_bytes("story.stl"))
+    data, longest = read_example_file("recording.ts"), 0.0
+    case.write(f"{name}.stl", read_example_file("story.stl"))
     last = time.monotonic()
     for part in range(8):
         before = time.monotonic()
         with open(case.path(f"{name}.ts"), "ab") as file:
             file.write(data[part * len(data) // 8:(part + 1) * len(data) // 8])
         longest, last = max(longest, time.monotonic() - last), before
-        time.sleep(SETTLED / 5)
+        time.sleep(SETTLED_SECONDS / 5)
     return longest
 
 
 def rename_example(case: Case, name: str, of: str) -> None:
     """Copy an example so that the final name appears only with the complete contents."""
-    os.rename(case.write("whole", example_bytes(of)), case.path(name))
+    os.rename(case.write("whole", read_example_file(of)), case.path(name))
 
 
 def check_watch(case: Case, process: subprocess.Popen[bytes]) -> None:
@@ -322,9 +326,9 @@ def check_watch(case: Case, process: subprocess.Popen[bytes]) -> None:
         return [line for line in reported if line.partition("  ")[0] not in too_slow]
 
     too_slow = set[str]()
-    case.write("in/lone.stl", example_bytes("story.stl"))
+    case.write("in/lone.stl", read_example_file("story.stl"))
     for name in map("slow {}".format, itertools.count()):
-        if write_slowly(case, f"in/{name}") < SETTLED:
+        if write_slowly(case, f"in/{name}") < SETTLED_SECONDS:
             break
         too_slow.add(name)
     whole = [f"{name}  relative: no clock was given"]
@@ -350,32 +354,34 @@ class StoppedCalls(Case):
     def test_resumes_after_a_kill(self) -> None:
         fill(self, "in", 4)
         program = blocking_program(self, 1)
-        words = [tool_path("qc"), "--batch", "in", "-o", "out", "--jobs", "1", "-p", program]
+        words = [get_tool_path("qc"), "--batch", "in", "-o", "out", "--jobs", "1", "-p", program]
         with subprocess.Popen(words, cwd=self.folder, stdout=subprocess.DEVNULL,
                               stderr=subprocess.DEVNULL) as process:
             came = reaches_pair(self, "out", 1)
             process.kill()
         self.write("goes on", b"")
-        self.must("both are judged", came and wait_until(lambda: len(results_in(self, "out")) == 2))
-        kept = set(results_in(self, "out"))
+        self.must("both are judged", came
+                  and wait_until(lambda: len(read_results_in(self, "out")) == 2))
+        kept = set(read_results_in(self, "out"))
         for again in (2, 0):
             before = count_judged(self)
-            done = self.tool("qc", "--batch", "in", "-o", "out", "--resume", "-p", program)
+            result = self.tool("qc", "--batch", "in", "-o", "out", "--resume", "-p", program)
             judged = count_judged(self) - before
             self.must(f"{again} are judged", judged == again, (judged, kept, before))
-            self.must("all are told", done.status == 1 and
-                      done.out.decode().splitlines()[-1] == "4 pairs: 3 relative, 1 refused", done)
+            self.must("all are told", result.status == 1 and
+                      result.out.decode().splitlines()[-1] == "4 pairs: 3 relative, 1 refused",
+                      result)
 
-    def test_writes_what_was_judged_before_a_signal(self) -> None:
+    def test_writes_results_finished_before_a_signal(self) -> None:
         fill(self, "in", 6)
-        for one in (signal.SIGINT, signal.SIGTERM, signal.SIGHUP):
-            name, out, program = one.name, f"out.{one.name}", blocking_program(self, 2)
-            words = [tool_path("qc"), "--batch", "in", "-o", out, "--jobs", "1", "-p", program,
+        for item in (signal.SIGINT, signal.SIGTERM, signal.SIGHUP):
+            name, out, program = item.name, f"out.{item.name}", blocking_program(self, 2)
+            words = [get_tool_path("qc"), "--batch", "in", "-o", out, "--jobs", "1", "-p", program,
                      "--json", "all.json"]
             with subprocess.Popen(words, cwd=self.folder, stdout=subprocess.PIPE,
                                   stderr=subprocess.PIPE) as process:
                 came = reaches_pair(self, out, 2)
-                process.send_signal(one)
+                process.send_signal(item)
                 lines, errors = (text.decode().splitlines() for text in process.communicate())
             known = json.loads(self.read("all.json"))
             count = len(known["pairs"])
@@ -391,31 +397,32 @@ class StoppedCalls(Case):
 
     def test_a_batch_judges_hostile_names(self) -> None:
         os.mkdir(self.path("in"))
-        for name in HOSTILE:
+        for name in HOSTILE_NAMES:
             for ending, data in ((b".stl", "hello.stl"), (b".pes", "hello.pes")):
                 path = os.path.join(os.fsencode(self.path("in")), name + ending)
                 with open(path, "wb") as file:
-                    file.write(example_bytes(data))
-        done = qc(self, "--batch", "in", "-o", "out", "--csv", "all.csv", "--junit", "all.xml")
-        lines = done.out.decode().splitlines()
-        self.must("all are right", done.status == 3 and
-                  lines[-1] == f"{len(HOSTILE)} pairs: {len(HOSTILE)} relative", done)
-        self.must("a line each", len(lines) == len(HOSTILE) + 2, lines)
+                    file.write(read_example_file(data))
+        process = qc(self, "--batch", "in", "-o", "out", "--csv", "all.csv", "--junit", "all.xml")
+        lines = process.out.decode().splitlines()
+        self.must("all are right", process.status == 3 and
+                  lines[-1] == f"{len(HOSTILE_NAMES)} pairs: {len(HOSTILE_NAMES)} relative",
+                  process)
+        self.must("a line each", len(lines) == len(HOSTILE_NAMES) + 2, lines)
         self.must("nothing that a terminal obeys", not re.search(
-            "[\x00-\x09\x0b-\x1f\x7f\x9b\u202e]", done.out.decode()), done.out)
-        self.must("an object each", len(results_in(self, "out")) == len(HOSTILE))
+            "[\x00-\x09\x0b-\x1f\x7f\x9b\u202e]", process.out.decode()), process.out)
+        self.must("an object each", len(read_results_in(self, "out")) == len(HOSTILE_NAMES))
         page = self.read("out/index.html").decode()
         links = [unquote(link) for link in re.findall(r'href="\./([^"]+)"', page)]
-        self.must("its links", len(links) == 3 * len(HOSTILE) and all(
+        self.must("its links", len(links) == 3 * len(HOSTILE_NAMES) and all(
             os.path.exists(self.path(f"out/{link}")) for link in links), links)
         self.must("no mark of a name is one of the page", "<b>" not in page, page)
         self.must("files for machines", self.read("all.csv").decode() and
-                  len(tree.fromstring(self.read("all.xml"))[0]) == len(HOSTILE))
+                  len(tree.fromstring(self.read("all.xml"))[0]) == len(HOSTILE_NAMES))
 
     def test_judges_a_watched_pair_when_it_is_complete_or_changes(self) -> None:
         os.mkdir(self.path("in"))
-        words = [tool_path("qc"), "--watch", "in", "-o", "out", "--settled", str(SETTLED), "-p",
-                 self.bench.program]
+        words = [get_tool_path("qc"), "--watch", "in", "-o", "out", "--settled",
+                 str(SETTLED_SECONDS), "-p", self.bench.program]
         with open(self.path("log"), "wb") as log, subprocess.Popen(
                 words, cwd=self.folder, stdout=log, stderr=log) as process:
             try:
@@ -426,19 +433,21 @@ class StoppedCalls(Case):
     def test_an_interrupted_pair_has_no_result(self) -> None:
         os.mkdir(self.path("in"))
         for name in ("one.stl", "one.pes"):
-            self.write(f"in/{name}", example_bytes(name.replace("one", "hello")))
+            self.write(f"in/{name}", read_example_file(name.replace("one", "hello")))
         self.write("in/one.done", b"")
-        slow = self.program_but("*check*", f"touch '{self.path('begun')}'; exec sleep {SECONDS}")
+        slow = self.make_program_with_exception("*check*",
+                                                f"touch '{self.path('begun')}'; exec sleep "
+                                                f"{SECONDS}")
         # A signal no longer stops a pair after its line has been printed.
-        for program, wanted, words_in in ((slow, "begun", b""),
-                                          (self.bench.program, "said", b"relative")):
-            words = [tool_path("qc"), "--watch", "in", "-o", "out", "-p", program]
+        for program, expected, words_in in ((slow, "begun", b""),
+                                            (self.bench.program, "said", b"relative")):
+            words = [get_tool_path("qc"), "--watch", "in", "-o", "out", "-p", program]
             with open(self.path("said"), "wb") as printed, \
                     subprocess.Popen(words, cwd=self.folder, stdout=printed) as process:
-                wait_until(lambda: os.path.exists(self.path(wanted)) and
-                      words_in in self.read(wanted))
+                wait_until(lambda: os.path.exists(self.path(expected)) and
+                      words_in in self.read(expected))
                 process.send_signal(signal.SIGTERM)
-                self.must(f"{wanted}: it ends", process.wait(SECONDS) == 2)
-            self.must(f"{wanted}: its result", os.path.exists(self.path("out/one.json")) ==
+                self.must(f"{expected}: it ends", process.wait(SECONDS) == 2)
+            self.must(f"{expected}: its result", os.path.exists(self.path("out/one.json")) ==
                       (program != slow), os.listdir(self.path("out")))
         self.must("judged", json.loads(self.read("out/one.json"))["verdict"] == "relative")

@@ -12,77 +12,85 @@ from collections import Counter
 
 from developing.pes import make_packet
 from subtitles.cli.measure import (
-    Delays, MAX_EXAMPLES, measure_delays, measure_recording, named_lines, propose_keeping,
+    Delays, MAX_EXAMPLES, format_name_lines, measure_delays, measure_recording, propose_keeping,
     propose_lateness, propose_option, remove_unusual)
 from subtitles.common.command_line import MAX_WITHIN
 from subtitles.common.times import TICKS
 from subtitles.formats.stl import Subtitle
-from subtitles.formats.teletext import BY_WORD
+from subtitles.formats.teletext import OPTION_BY_WORD
 from subtitles.request.commands import CommandPaths
 from subtitles.stream.repeats import measure_repeats
 from subtitles.stream.packets import Packets
 from subtitles.stream.receiver import BLANK_PAGE, Timeline
 from .bench import BENCH, Case
 from .judged import judge_files
-from .parts import request_for
+from .parts import make_example_request
 from .planted import INSERTERS, LATE, BLANK_FRAMES, Inserter, Programme
 from .transmissions import (
-    ORIGIN, PAGE, with_pauses, pes_file, write_programme, schedule_pages, subtitle_times)
+    ORIGIN, PAGE, add_pauses, join_pes_packets, write_programme, schedule_pages, subtitle_times)
 from .test_judging_reasons import KEEPING_HEADER
 
-ENGLISH = BY_WORD["english"]
+ENGLISH = OPTION_BY_WORD["english"]
 GERMAN_HEADER = make_packet(0, 0, bytes([8, 8, 0, 8, 0, 8, 1, 8]), b" " * 32)
 GERMAN_KEEPING = make_packet(0, 0, bytes([8, 8, 0, 0, 0, 8, 1, 8]), b" " * 32)
 KINDS = {"missing": b"", "late": b"", "keeping": KEEPING_HEADER, "german": GERMAN_HEADER}
 # Columns: subtitles (begin, end, text); page changes; first and last received frame; expected
 # delays of in-cues; expected delays of out-cues; expected early cues and missing subtitles.
-ONE, TWO = (100, 150, "a"), (200, 250, "b")
-Shown = tuple[int, int, str]
-ROWS: list[tuple[list[Shown], dict[int, str], tuple[int, int], list[int], list[int], list[str]]] = [
-    ([ONE, TWO], {100: "a", 150: "", 200: "b", 250: ""}, (0, 999), [0, 0], [0, 0], []),
-    ([ONE, TWO], {103: "a", 152: "", 201: "b", 250: ""}, (0, 999), [3, 1], [2, 0], []),
+FIRST_SHOWN, SECOND_SHOWN = (100, 150, "a"), (200, 250, "b")
+ShownText = tuple[int, int, str]
+ROWS: list[tuple[list[ShownText], dict[int, str], tuple[int, int], list[int], list[int],
+                 list[str]]] = [
+    ([FIRST_SHOWN, SECOND_SHOWN], {100: "a", 150: "", 200: "b", 250: ""}, (0, 999), [0, 0],
+     [0, 0], []),
+    ([FIRST_SHOWN, SECOND_SHOWN], {103: "a", 152: "", 201: "b", 250: ""}, (0, 999), [3, 1],
+     [2, 0], []),
     # Cues at the first or last received frame are ignored.
-    ([ONE], {100: "a", 150: ""}, (100, 999), [], [0], []),
-    ([ONE], {101: "a", 150: ""}, (100, 999), [1], [0], []),
-    ([ONE], {100: "a"}, (0, 149), [0], [], []), ([ONE], {100: "a"}, (0, 151), [0], [], []),
-    ([ONE], {100: "a", 151: ""}, (0, 151), [0], [1], []),
+    ([FIRST_SHOWN], {100: "a", 150: ""}, (100, 999), [], [0], []),
+    ([FIRST_SHOWN], {101: "a", 150: ""}, (100, 999), [1], [0], []),
+    ([FIRST_SHOWN], {100: "a"}, (0, 149), [0], [], []),
+    ([FIRST_SHOWN], {100: "a"}, (0, 151), [0], [], []),
+    ([FIRST_SHOWN], {100: "a", 151: ""}, (0, 151), [0], [1], []),
     # Cues that are a frame or more early are listed.
-    ([ONE], {99: "a", 149: ""}, (0, 999), [], [], ["begins 1 frame", "ends 1 frame"]),
-    ([ONE], {75: "a", 147: ""}, (0, 999), [], [], ["begins 25 frames", "ends 3 frames"]),
-    ([ONE], {60: "a", 70: "", 100: "a", 150: ""}, (0, 999), [0], [0], []),
-    ([ONE], {80: "a", 90: "", 100: "a", 150: ""}, (0, 999), [], [0], ["begins 20 frames"]),
-    ([ONE], {70: "a", 76: "", 100: "a", 150: ""}, (0, 999), [], [0], ["begins 30 frames"]),
-    ([ONE], {70: "a", 75: "", 100: "a", 150: ""}, (0, 999), [0], [0], []),
+    ([FIRST_SHOWN], {99: "a", 149: ""}, (0, 999), [], [], ["begins 1 frame", "ends 1 frame"]),
+    ([FIRST_SHOWN], {75: "a", 147: ""}, (0, 999), [], [], ["begins 25 frames", "ends 3 frames"]),
+    ([FIRST_SHOWN], {60: "a", 70: "", 100: "a", 150: ""}, (0, 999), [0], [0], []),
+    ([FIRST_SHOWN], {80: "a", 90: "", 100: "a", 150: ""}, (0, 999), [], [0], ["begins 20 frames"]),
+    ([FIRST_SHOWN], {70: "a", 76: "", 100: "a", 150: ""}, (0, 999), [], [0], ["begins 30 frames"]),
+    ([FIRST_SHOWN], {70: "a", 75: "", 100: "a", 150: ""}, (0, 999), [0], [0], []),
     # If the same text is sent again, its in-cue is measured only if the pause exceeds a second.
-    ([ONE, (176, 220, "a")], {100: "a", 150: "", 178: "a", 220: ""}, (0, 999), [0, 2], [0, 0], []),
-    ([ONE, (175, 220, "a")], {100: "a", 150: "", 178: "a", 220: ""}, (0, 999), [0], [0, 0], []),
-    ([ONE, (160, 220, "b")], {100: "a", 150: "", 163: "b", 220: ""}, (0, 999), [0, 3], [0, 0], []),
+    ([FIRST_SHOWN, (176, 220, "a")], {100: "a", 150: "", 178: "a", 220: ""}, (0, 999), [0, 2],
+     [0, 0], []),
+    ([FIRST_SHOWN, (175, 220, "a")], {100: "a", 150: "", 178: "a", 220: ""}, (0, 999), [0],
+     [0, 0], []),
+    ([FIRST_SHOWN, (160, 220, "b")], {100: "a", 150: "", 163: "b", 220: ""}, (0, 999), [0, 3],
+     [0, 0], []),
     # If two subtitles adjoin, the TCO of the first is the TCI of the second.
-    ([ONE, (150, 200, "b")], {100: "a", 152: "b", 200: ""}, (0, 999), [0, 2], [0], []),
-    ([ONE, (151, 200, "b")], {100: "a", 150: "", 152: "b", 200: ""}, (0, 999), [0, 1], [0, 0], []),
-    ([ONE, (150, 200, "a")], {100: "a", 201: ""}, (0, 999), [0], [1], []),
+    ([FIRST_SHOWN, (150, 200, "b")], {100: "a", 152: "b", 200: ""}, (0, 999), [0, 2], [0], []),
+    ([FIRST_SHOWN, (151, 200, "b")], {100: "a", 150: "", 152: "b", 200: ""}, (0, 999), [0, 1],
+     [0, 0], []),
+    ([FIRST_SHOWN, (150, 200, "a")], {100: "a", 201: ""}, (0, 999), [0], [1], []),
     # If a subtitle is sent again within two seconds of its TCO, its out-cue is the last erasure.
-    ([ONE], {100: "a", 110: "", 120: "a", 150: ""}, (0, 999), [0], [0], []),
-    ([ONE], {100: "a", 200: ""}, (0, 999), [0], [50], []),
-    ([ONE], {100: "a", 150: "", 200: "a", 210: ""}, (0, 999), [0], [60], []),
-    ([ONE], {100: "a", 150: "", 201: "a", 210: ""}, (0, 999), [0], [0], []),
-    ([ONE, (180, 230, "b")], {100: "a", 150: "", 180: "a", 182: "b", 230: ""}, (0, 999),
+    ([FIRST_SHOWN], {100: "a", 110: "", 120: "a", 150: ""}, (0, 999), [0], [0], []),
+    ([FIRST_SHOWN], {100: "a", 200: ""}, (0, 999), [0], [50], []),
+    ([FIRST_SHOWN], {100: "a", 150: "", 200: "a", 210: ""}, (0, 999), [0], [60], []),
+    ([FIRST_SHOWN], {100: "a", 150: "", 201: "a", 210: ""}, (0, 999), [0], [0], []),
+    ([FIRST_SHOWN, (180, 230, "b")], {100: "a", 150: "", 180: "a", 182: "b", 230: ""}, (0, 999),
      [0, 2], [0, 0], []),
     # Some subtitles were never sent, or have no characters.
-    ([ONE, TWO], {100: "a", 150: ""}, (0, 999), [0], [0], ["2"]),
-    ([ONE, TWO], {100: "a", 150: "", 250: "b"}, (0, 999), [0], [0], ["2"]),
-    ([ONE, (170, 220, "a")], {100: "a", 150: ""}, (0, 999), [0], [0], ["2"]),
-    ([ONE, (160, 170, ""), TWO], {100: "a", 150: "", 200: "b", 250: ""}, (0, 999),
+    ([FIRST_SHOWN, SECOND_SHOWN], {100: "a", 150: ""}, (0, 999), [0], [0], ["2"]),
+    ([FIRST_SHOWN, SECOND_SHOWN], {100: "a", 150: "", 250: "b"}, (0, 999), [0], [0], ["2"]),
+    ([FIRST_SHOWN, (170, 220, "a")], {100: "a", 150: ""}, (0, 999), [0], [0], ["2"]),
+    ([FIRST_SHOWN, (160, 170, ""), SECOND_SHOWN], {100: "a", 150: "", 200: "b", 250: ""}, (0, 999),
      [0, 0], [0, 0], [])]
 
 
-def timeline_with(pages: dict[int, str], first: int, last: int) -> Timeline:
+def make_timeline_with(pages: dict[int, str], first: int, last: int) -> Timeline:
     """Return a timeline in which the page changes to one character or to blank at these frames."""
     decoded = Timeline(Packets(0), PAGE, 0)
     decoded.first, decoded.last = first, last
-    decoded.note_page(first, BLANK_PAGE)
+    decoded.record_page(first, BLANK_PAGE)
     for frame, text in pages.items():
-        decoded.note_page(frame, (text.encode().ljust(40), *BLANK_PAGE[1:]))
+        decoded.record_page(frame, (text.encode().ljust(40), *BLANK_PAGE[1:]))
     return decoded
 
 
@@ -91,7 +99,8 @@ class Cues(Case):
         for shown, pages, received, begins, ends, words in ROWS:
             subtitles = [Subtitle(at, at, begin, end, 20, 2, text.encode())
                          for at, (begin, end, text) in enumerate(shown, 1)]
-            found = measure_delays("x.stl", subtitles, timeline_with(pages, *received), ENGLISH)
+            found = measure_delays("x.stl", subtitles, make_timeline_with(pages, *received),
+                                   ENGLISH)
             early = [word for word in words if " " in word]
             self.must(f"{shown} {pages} {received}", (found.begins, found.ends) == (
                 Counter(begins), Counter(ends)) and [
@@ -107,32 +116,32 @@ class Cues(Case):
             ([0], [3], "--within 3|--late 0:1/3:1"), ([2], [], ""), ([], [2], ""),
             ([most], [0], f"--within {most}|--late {most}:1/0:1"), ([most + 1], [0], ""),
             ([0], [most + 1], "")]
-        for begins, ends, wanted in rows:
-            one = Delays(Counter(begins), Counter(ends), ["x"], ["y"])
-            for some in ([one], [one, Delays(Counter(), Counter(), ["z"], [])],
-                         [Delays(Counter(), Counter(), ["z"], []), one]):
-                found = [*propose_lateness(some, [])]
-                lines = [line for finding in found for line in finding.lines]
+        for begins, ends, expected in rows:
+            item = Delays(Counter(begins), Counter(ends), ["x"], ["y"])
+            for some in ([item], [item, Delays(Counter(), Counter(), ["z"], [])],
+                         [Delays(Counter(), Counter(), ["z"], []), item]):
+                result = [*propose_lateness(some, [])]
+                lines = [line for finding in result for line in finding.lines]
                 self.must(f"{begins} {ends}", "|".join(filter(None, (
-                    finding.text for finding in found))) == wanted and any(
+                    finding.text for finding in result))) == expected and any(
                         f"within can be at most {most} frames" in line for line in lines) == (
                             most + 1 in (*begins, *ends)) and sum(
                                 "z" in line for line in lines) == len(some) - 1 and
-                    "text never sent: y" in lines, found)
+                    "text never sent: y" in lines, result)
         on_time = [Delays(Counter([0]), Counter([0]), [], [])]
         of_off: list[tuple[list[Delays], tuple[int, int], str]] = [
             (on_time, (0, 100), ""), (on_time, (4, 100), ""), ([], (4, 100), ""),
             (on_time, (5, 100), "--within 1|--late 0:1/0:1"), ([], (5, 100), "--within 1"),
             ([Delays(Counter(), Counter([0]), [], [])], (5, 100), "--within 1"),
             ([Delays(Counter([3]), Counter([0]), [], [])], (50, 100), "--within 3|--late 3:1/0:1")]
-        for delays, off, wanted in of_off:
-            found = [*propose_lateness(delays, [], off)]
+        for delays, off, expected in of_off:
+            result = [*propose_lateness(delays, [], off)]
             self.check(f"{delays}, {off} off", "|".join(filter(None, (
-                finding.text for finding in found))), wanted)
+                finding.text for finding in result))), expected)
         names = [f"n{at}" for at in range(MAX_EXAMPLES + 2)]
         for count, end in ((0, None), (MAX_EXAMPLES, ""), (MAX_EXAMPLES + 1, ", and 1 more"),
                            (MAX_EXAMPLES + 2, ", and 2 more")):
-            self.must(f"{count} names", named_lines("what", names[:count]) == (
+            self.must(f"{count} names", format_name_lines("what", names[:count]) == (
                 [] if end is None
                 else [f"what: {'; '.join(names[:min(count, MAX_EXAMPLES)])}{end}"]))
         for headers, keeping, is_alone in itertools.product((9, 20, 21), (0, 1), (False, True)):
@@ -141,21 +150,21 @@ class Cues(Case):
                 keeping > 0 and headers < 21 and is_alone))
 
     def test_ignores_delays_of_fewer_than_one_cue_in_twenty(self) -> None:
-        self.check_each(lambda delays: dict(remove_unusual(Counter(delays))), {
+        self.check_rows(lambda delays: dict(remove_unusual(Counter(delays))), {
             "none": (({},), {}), "one alone": (({5: 1},), {5: 1}),
             "one of twenty": (({0: 19, 5: 1},), {0: 19, 5: 1}),
             "one of 21": (({0: 20, 5: 1},), {0: 20}),
             "two of 40, each alone": (({0: 38, 4: 1, 5: 1},), {0: 38, 4: 1}),
             "a tail": (({0: 45, 1: 4, 2: 1},), {0: 45, 1: 4})})
         late = Delays(Counter({0: 89, 5: 1}), Counter({0: 90}), [], [], [(5, "x begins late")])
-        found = [*propose_lateness([late], [])]
-        self.check("one of 90", ("".join(one.text for one in found), found[0].lines[1]), (
+        result = [*propose_lateness([late], [])]
+        self.check("one of 90", ("".join(item.text for item in result), result[0].lines[1]), (
             "", "later than usual, which check refuses with this --within: x begins late"))
         late = late._replace(begins=Counter({0: 19, 5: 1}))
         self.check("one of 20", next(propose_lateness([late], [])).lines[1:], [])
 
     def test_proposes_the_option_of_all_headers(self) -> None:
-        self.check_each(lambda *sent: propose_option(sent, "english").text, {
+        self.check_rows(lambda *sent: propose_option(sent, "english").text, {
             "none": ((), ""), "one": (("german",), "--option german"),
             "two": (("german", "english"), "")})
 
@@ -165,8 +174,9 @@ class Cues(Case):
                 ("one of twenty", [*range(0, 400, 25), *range(425, 550, 25)], 50, []),
                 ("none is lost", [*range(0, 900, 25)], 25, []),
                 ("some are longer", [at for at in range(0, 900, 25) if at % 100 != 50], 50, [])):
-            found = measure_repeats([TICKS * frame for frame in frames], None, 0, [(0, 900)])
-            self.check(name, found and (found.longest, found.exceptions), (longest, exceptions))
+            repeats = measure_repeats([TICKS * frame for frame in frames], None, 0, [(0, 900)])
+            self.check(name, repeats and (repeats.longest, repeats.exceptions),
+                       (longest, exceptions))
 
 
 class Parts(Case):
@@ -185,20 +195,20 @@ class Parts(Case):
             else:
                 for at in (places[part], places[part] + 1):
                     changed[at] = (sent[at][0], [KINDS[what], *sent[at][1][1:]])
-            path = self.write("one.pes", pes_file(with_pauses(changed, 130)))
-            found = measure_recording(
-                request_for(stl, path, "--breaks", "1", "--origin", f"{ORIGIN}"), typed,
+            path = self.write("one.pes", join_pes_packets(add_pauses(changed, 130)))
+            recording = measure_recording(
+                make_example_request(stl, path, "--breaks", "1", "--origin", f"{ORIGIN}"), typed,
                              self.path(f"{number}"))
-            self.must(f"{what} in {part}", ([(one.longest, len(one.exceptions))
-                                             for one in found.repeats], found.headers,
-                      found.is_alone, found.options) == (
+            self.must(f"{what} in {part}", ([(item.longest, len(item.exceptions))
+                                             for item in recording.repeats], recording.headers,
+                      recording.is_alone, recording.options) == (
                           [(25, int(what == "missing" and part == at)) for at in (0, 1)],
                           (len(changed), 2 * (what == "keeping")), what != "german",
                           {"english", *["german"] * (what == "german")}) and
-                      [one.begins[2] for one in found.delays] == [
+                      [item.begins[2] for item in recording.delays] == [
                           int(what == "late" and part == at) for at in (0, 1)] and
-                      not any(one.unseen or one.early for one in found.delays) and
-                      len(found.paces) == 2 and len(found.sendings) == 24, found)
+                      not any(item.unseen or item.early for item in recording.delays) and
+                      len(recording.paces) == 2 and len(recording.sendings) == 24, recording)
 
 
 SEEDS = 20  # number of seeds in an automatic test run
@@ -206,17 +216,18 @@ ACCEPTED = "# With this profile, qc refuses none of these recordings."
 
 
 class Profiles(Case):
-    def profile(self, *made: Programme) -> tuple[list[str], list[str]]:
+    def profile(self, *programme: Programme) -> tuple[list[str], list[str]]:
         """Measure recordings with qc. Return the lines of the profile and the recordings' paths."""
-        paths = [self.write(f"{one.number}.pes", pes_file(one.sent())) for one in made]
-        lines = [f"{one.stl} {path} --origin 0" for one, path in zip(made, paths)]
+        paths = [self.write(f"{item.number}.pes", join_pes_packets(item.sent()))
+                 for item in programme]
+        lines = [f"{item.stl} {path} --origin 0" for item, path in zip(programme, paths)]
         listed = self.write("list", "\n".join(lines).encode())
-        done = self.tool("qc", "--measure", listed, "-p", self.bench.program)
-        self.check("status", (done.status, done.told), (0, []))
-        self.write("profile", done.out)
-        return done.out.decode().splitlines(), paths
+        process = self.tool("qc", "--measure", listed, "-p", self.bench.program)
+        self.check("status", (process.status, process.told), (0, []))
+        self.write("profile", process.out)
+        return process.out.decode().splitlines(), paths
 
-    def test_accepts_its_own_recordings_or_says_which_not(self) -> None:
+    def test_accepts_its_own_recordings_or_lists_others(self) -> None:
         for seed in range(SEEDS):
             self.measure(seed)
 
@@ -224,16 +235,16 @@ class Profiles(Case):
         """Measure one or two random programmes. Return whether their profile accepts them."""
         chance = random.Random(seed)
         inserter = chance.choice(INSERTERS)
-        made = [Programme(self, 10 * seed + number, inserter)
-                for number in range(chance.choice((1, 2)))]
-        lines, paths = self.profile(*made)
+        programmes = [Programme(self, 10 * seed + number, inserter)
+                      for number in range(chance.choice((1, 2)))]
+        lines, paths = self.profile(*programmes)
         refused = [line for line in lines if "# With this profile, qc does not accept " in line]
         name = f"{seed}, {inserter.name}"
         self.check(f"{name}: last line", lines[-1] == ACCEPTED, not refused)
-        for one, path in zip(made, paths):
-            found = judge_files(self, one.stl, path, "--profile", self.path("profile"), "--origin",
-                                "0")
-            self.check(f"{name}: {found.verdict.sentence}", found.word == "accepted",
+        for item, path in zip(programmes, paths):
+            result = judge_files(self, item.stl, path, "--profile", self.path("profile"),
+                                 "--origin", "0")
+            self.check(f"{name}: {result.verdict.sentence}", result.word == "accepted",
                        not any(path in line for line in refused))
         return not refused
 
@@ -244,18 +255,19 @@ class Profiles(Case):
         single = Programme(self, 2, Inserter("one a frame"))
         sent = single.sent()
         sent[BLANK_FRAMES] = (sent[BLANK_FRAMES][0] + 7, sent[BLANK_FRAMES][1])
-        done = self.tool("qc", "--measure", single.stl, self.write("one.pes", pes_file(sent)),
-                         "--origin", "0", "-p", self.bench.program)
-        self.check("one alone", [line.partition(" PTS ")[2] for line in done.out.decode(
+        process = self.tool("qc", "--measure", single.stl,
+                            self.write("one.pes", join_pes_packets(sent)), "--origin", "0", "-p",
+                            self.bench.program)
+        self.check("one alone", [line.partition(" PTS ")[2] for line in process.out.decode(
             ).splitlines() if line.startswith("# within: 1 of ")],
             ["differ from their frames, which check refuses with --within 0 (fault 61)"])
 
     def test_names_an_unusual_delay_and_refuses_it(self) -> None:
-        made = Programme(self, 7, Inserter("usual", begins=(0, 0, 1)), 40)
-        self.must("planted", made.plant(LATE))
-        assert made.fault
-        lines, _ = self.profile(made)
-        name = f"subtitle {made.fault.place + 1} at "
+        programme = Programme(self, 7, Inserter("usual", begins=(0, 0, 1)), 40)
+        self.must("planted", programme.place_fault(LATE))
+        assert programme.fault
+        lines, _ = self.profile(programme)
+        name = f"subtitle {programme.fault.place + 1} at "
         self.check("within", [line for line in lines if line.startswith("--within")],
                    ["--within 1"])
         self.check("named", [name in line for line in lines if "later than usual" in line],
@@ -265,10 +277,10 @@ class Profiles(Case):
     def test_decodes_by_the_option_that_it_proposes(self) -> None:
         stl = write_programme(self, subtitle_times(12))
         sent = [(pts, [GERMAN_KEEPING if pts // TICKS % 100 in (25, 50) else GERMAN_HEADER,
-                       *some[1:]]) for pts, some in schedule_pages(self, stl)]
-        done = self.tool("qc", "--measure", stl, self.write("one.pes", pes_file(sent)), "-p",
-                         self.bench.program)
-        lines = done.out.decode().splitlines()
+                       *packets[1:]]) for pts, packets in schedule_pages(self, stl)]
+        process = self.tool("qc", "--measure", stl,
+                            self.write("one.pes", join_pes_packets(sent)), "-p", self.bench.program)
+        lines = process.out.decode().splitlines()
         self.check("profile", [line in lines for line in ("--option german", "--keeping")],
                    [True, True])
         self.check("accepted", lines[-1], ACCEPTED)
@@ -277,7 +289,7 @@ class Profiles(Case):
 def main(program: str, first: int, last: int) -> None:
     """Print how many profiles for the seeds `first` to `last - 1` accept their recordings."""
     BENCH.chosen = program
-    case = Profiles("test_accepts_its_own_recordings_or_says_which_not")
+    case = Profiles("test_accepts_its_own_recordings_or_lists_others")
     case.setUp()
     good = sum(case.measure(seed) for seed in range(first, last))
     print(f"{good} of {last - first} profiles refuse none of what they were measured on")

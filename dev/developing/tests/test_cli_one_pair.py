@@ -14,8 +14,8 @@ from unittest import mock
 
 from subtitles.cli import batch, collection, single
 from subtitles.cli.single import (
-    FilesInUse, KEPT_SECONDS, Output, OutputFiles, PairOptions, claim_pair, judge_pair, now,
-    pair_title, print_verdict, refuse_outputs, remove_results, report_pair)
+    FilesInUse, KEPT_SECONDS, Output, OutputFiles, PairOptions, judge_pair, lock_pair,
+    make_pair_title, now, print_verdict, refuse_outputs, remove_results, report_pair)
 from subtitles.clock.start import (
     Clock, ESTIMATED_LATER_NOTE, ESTIMATED_NOTE, GIVEN, RECORDING, TimedPart)
 from subtitles.common.command_line import Stop, ProgramInterrupted
@@ -31,9 +31,9 @@ from subtitles.request.commands import CommandPaths, OutputNames
 from subtitles.request.request import Request, Unclear, IncompleteAnswer
 from subtitles.results.files import Row, describe_inputs
 from subtitles.stream.gaps import LossPlace
-from .bench import Case, example
+from .bench import Case, get_example_path
 from .judged import LineRecorder
-from .parts import make_answer, request_for, markup_text, make_part
+from .parts import make_answer, make_example_request, markup_text, make_part
 from .test_formats_files import refusal
 
 REFUSED = ["refused 72 Content frame 00:00:01:00 row 1 column 2", "refused 68 Parity frame "
@@ -47,13 +47,14 @@ def gap(is_judged: bool, mark: int | None = None) -> Gap:
 
 
 class LastLines(Case):
-    def verdict(self, parts: Sequence[Part], *words: str, **more: Any) -> Verdict:
-        made = Verdict(request_for("one.stl", "one.pes", "--origin", "0", *words), Severity(
-            None, "--allow-lost" in words), "now", subtitle_count=3)
-        made.parts = list(parts)
+    def verdict(self, parts: Sequence[Part], *args: str, **more: Any) -> Verdict:
+        result = Verdict(make_example_request("one.stl", "one.pes", "--origin", "0", *args),
+                         Severity(
+            None, "--allow-lost" in args), "now", subtitle_count=3)
+        result.parts = list(parts)
         for name, value in more.items():
-            setattr(made, name, value)
-        return made
+            setattr(result, name, value)
+        return result
 
     def said(self, verdict: Verdict) -> list[str]:
         """Return the lines that qc prints for a verdict."""
@@ -83,10 +84,10 @@ class LastLines(Case):
             said = self.said(self.verdict([make_part(0, 9, 0, make_answer(
                 lines, path=self.path("list")), source=RECORDING)]))
             self.must("without a clock", said[-1] == last and any(
-                one.startswith(ESTIMATED_NOTE) for one in said) == is_printed, said)
+                item.startswith(ESTIMATED_NOTE) for item in said) == is_printed, said)
         causes: list[Any] = ["first", None, "third"]
         with mock.patch.object(single, "format_cause_counts", lambda some: f"{some}"):
-            said = self.said(self.verdict([make_part(0, 9, 0, causes=one) for one in causes]))
+            said = self.said(self.verdict([make_part(0, 9, 0, causes=item) for item in causes]))
         self.must("causes of all parts", said[0] == "['first', 'third']", said)
 
     def test_names_at_most_twenty_losses(self) -> None:
@@ -95,15 +96,16 @@ class LastLines(Case):
             said = self.said(self.verdict([make_part(0, 99, 0)], gaps=[gap(True)] * count))
             place = "! between 00:00:01:00 and 00:00:02:00: 3 TS packets were lost"
             self.must(f"{count}", said.count(place) == min(count, 20) and
-                      (more in said if more else not any("more place" in one for one in said[:-2])),
+                      (more in said if more
+                       else not any("more place" in item for item in said[:-2])),
                       said)
             self.must("not recorded", "! record that part again: the missing frames were not "
                                       "checked" in said, said)
         said = self.said(self.verdict([make_part(0, 99, 0)], gaps=[gap(False)]))
         self.must("outside", said[0].endswith("3 TS packets were lost, outside the judged range")
-                  and not any("record that part" in one for one in said), said)
+                  and not any("record that part" in item for item in said), said)
         said = self.said(self.verdict([make_part(0, 99, 0)], "--allow-lost", gaps=[gap(True)]))
-        self.must("allowed", not any("record that part" in one for one in said) and
+        self.must("allowed", not any("record that part" in item for item in said) and
                   said[-1].startswith("accepted"), said)
         said = self.said(self.verdict([make_part(0, 99, 0, make_answer(REFUSED))],
                                       gaps=[gap(True)]))
@@ -118,8 +120,8 @@ class LastLines(Case):
         rows: list[tuple[Sequence[int], int, bool]] = [
             ((0, 3), 1, True), ((), 1, False), ((0, 3), 0, False)]
         for delays, within, is_printed in rows:
-            one = make_part(0, 9, 0, delays=delays)
-            said = self.said(self.verdict([one], *(["--within", str(within)] if within else [])))
+            part = make_part(0, 9, 0, delays=delays)
+            said = self.said(self.verdict([part], *(["--within", str(within)] if within else [])))
             self.must(f"{delays} {within}", len(said) == 2 + is_printed, said)
         accepted = [make_part(0, 9, 0)]
         for some, page, where in (
@@ -147,11 +149,11 @@ class LastLines(Case):
         rows: list[tuple[str, list[str]]] = [
             ("accepted 5 frames 2 transmissions", ["not judged"]), ("3 faults", ["not judged"]),
             ("+ a command", []), ("", [])]
-        for last, wanted in rows:
+        for last, expected in rows:
             heard = LineRecorder()
             heard.last_line = last
             print_verdict(self.verdict([], unjudged=Unjudged("why")), heard)
-            self.must(last, heard.lines == [*wanted, "! why"], heard.lines)
+            self.must(last, heard.lines == [*expected, "! why"], heard.lines)
 
 
 class OutputFilesOfPair(Case):
@@ -172,15 +174,15 @@ class OutputFilesOfPair(Case):
             said.read_line(line)
         said.finish(1)
         names = OutputNames("a", self.folder, self.folder)
-        names.program_stl = example("story.stl")
+        names.program_stl = get_example_path("story.stl")
         return make_part(0, 9, 0, said, number, names=names)
 
     def verdict(self, lines: Sequence[str] = REFUSED) -> Verdict:
-        made = Verdict(request_for(example("story.stl"), self.path("one.pes")), Severity(None),
-                       now())
-        made.files_at_start = describe_inputs(made.request)
-        made.parts = [self.part(1, lines)]
-        return made
+        result = Verdict(make_example_request(get_example_path("story.stl"), self.path("one.pes")),
+                         Severity(None), now())
+        result.files_at_start = describe_inputs(result.request)
+        result.parts = [self.part(1, lines)]
+        return result
 
     def refusal(self, asked: Request, **words: Any) -> str:
         """Return the error message with which qc refuses output files."""
@@ -194,10 +196,10 @@ class OutputFilesOfPair(Case):
         os.symlink("nowhere", self.path("out/one.3.txt"))
         remove_results(self.path("out"), "one")
         self.must("left", {*os.listdir(self.path("out"))} == others)
-        os.symlink(example("story.stl"), self.path("link"))
+        os.symlink(get_example_path("story.stl"), self.path("link"))
         asked = self.verdict().request
         for name in ("json", "csv", "junit"):
-            for path in (self.path("one.pes"), example("story.stl"), self.path("link")):
+            for path in (self.path("one.pes"), get_example_path("story.stl"), self.path("link")):
                 self.must(f"{name} {path}",
                           "is also an input: give another "
                           "name" in self.refusal(asked, **{name: path}))
@@ -247,7 +249,7 @@ class OutputFilesOfPair(Case):
             os.utime(kept, ns=(at - before, at - before))
             self.must(f"{before} ns before a result", bool(self.refusal(asked, out=out)) != is_own)
 
-    def test_takes_a_lock_that_nobody_holds(self) -> None:
+    def test_acquires_a_free_lock(self) -> None:
         path, kept, calls = self.path("out/.one.lock"), self.write("kept", b"1"), list[int]()
 
         def taken(handle: int, _: int) -> None:
@@ -261,23 +263,23 @@ class OutputFilesOfPair(Case):
             os.symlink(kept, path)
             before = os.listdir("/proc/self/fd")
             with mock.patch("fcntl.flock", side_effect=does) as open_locked, \
-                    claim_pair(self.path("out"), "one"):
+                    lock_pair(self.path("out"), "one"):
                 self.must(f"{does}", open_locked.call_count == count and os.path.isfile(path) and
                           not os.path.islink(path), calls)
             self.must("left", (os.listdir("/proc/self/fd"), os.listdir(self.path("out")),
                                self.read("kept")) == (before, [], b"1"))
-        with claim_pair(self.path("out"), "one"):
+        with lock_pair(self.path("out"), "one"):
             before = os.listdir("/proc/self/fd")
             for _ in range(2):
-                self.assertRaises(FilesInUse, claim_pair(self.path("out"), "one").__enter__)
+                self.assertRaises(FilesInUse, lock_pair(self.path("out"), "one").__enter__)
             self.must("in use", os.listdir("/proc/self/fd") == before and os.path.exists(path))
 
     def test_hashes_the_inputs_only_if_an_output_needs_it(self) -> None:
         rows: list[tuple[dict[str, str], bool]] = [
             ({}, False), ({"json": "x"}, True), ({"csv": "x"}, True), ({"junit": "x"}, False),
             ({"out": self.path("out")}, True)]
-        for words, wanted in rows:
-            self.must(f"{words}", self.files(self.verdict(), **words).needs_sums() == wanted)
+        for words, expected in rows:
+            self.must(f"{words}", self.files(self.verdict(), **words).needs_sums() == expected)
 
     def test_writes_each_requested_file(self) -> None:
         files = self.files(self.verdict(), json=self.path("one.json"), csv=self.path("one.csv"),
@@ -296,10 +298,10 @@ class OutputFilesOfPair(Case):
         several.write()
         self.must("page of parts", b"part 2" in self.read("out/one.html"), verdict.failed_outputs)
 
-    def test_all_outputs_name_an_output_that_failed(self) -> None:
+    def test_reports_a_failed_output_in_all_others(self) -> None:
         for name, nowhere in itertools.product(("csv", "junit", "json"), (
                 self.path("no/where"), *["/dev/full"] * os.path.exists("/dev/full"))):
-            outputs = {one: self.path(f"{name}.{one}") for one in ("csv", "junit", "json")}
+            outputs = {item: self.path(f"{name}.{item}") for item in ("csv", "junit", "json")}
             outputs[name] = nowhere
             files = self.files(self.verdict(), **outputs, out=self.path("out"))
             files.write()
@@ -341,8 +343,8 @@ class OutputFilesOfPair(Case):
         verdict.parts += [make_part(0, 9, 0), self.part(2, [*many, "70 faults"])]
         lines = self.files(verdict).list_lines()
         self.must("lines", lines == [*many, "70 faults", *many[:29]], lines[65:75])
-        self.must("name", pair_title(request_for("a.stl", None)) == "a.stl" and
-                  pair_title(request_for("a.stl", "b.ts")) == "a.stl b.ts")
+        self.must("name", make_pair_title(make_example_request("a.stl", None)) == "a.stl" and
+                  make_pair_title(make_example_request("a.stl", "b.ts")) == "a.stl b.ts")
 
     def test_is_not_judged_if_the_verdict_cannot_be_printed(self) -> None:
         for reason in (OSError(28, "No space left on device"), KeyboardInterrupt()):
@@ -380,7 +382,7 @@ class OutputFilesOfPair(Case):
         self.must("an output", not verdict.is_final)
 
     def test_a_bug_in_a_forked_call_leaves_a_result(self) -> None:
-        asked = request_for(example("hello.stl"), example("hello.pes"))
+        asked = make_example_request(get_example_path("hello.stl"), get_example_path("hello.pes"))
         with mock.patch.object(batch, "judge_and_report", side_effect=ZeroDivisionError("one")), \
                 contextlib.redirect_stderr(io.StringIO()):
             status = batch.judge_forked_pair(asked, PairOptions(
@@ -393,12 +395,12 @@ class OutputFilesOfPair(Case):
 class Pages(Case):
     def several(self) -> Verdict:
         """Return a verdict on a recording with three parts."""
-        verdict = Verdict(request_for(example("story.stl"), "one.pes"), Severity(None),
-                          "2026-01-02T03:04:05Z")
+        verdict = Verdict(make_example_request(get_example_path("story.stl"), "one.pes"),
+                          Severity(None), "2026-01-02T03:04:05Z")
         verdict.parts = [make_part(0, 9, 7), make_part(50, 99, 9, make_answer(REFUSED), 2),
                          make_part(120, 149, 7, number=3)]
         for part in verdict.parts:
-            part.names.program_stl = example("story.stl")
+            part.names.program_stl = get_example_path("story.stl")
         return verdict
 
     def test_links_a_row_to_each_part(self) -> None:
@@ -422,17 +424,18 @@ class Pages(Case):
         for verdict.gaps, count in ((verdict.gaps, 1), (verdict.gaps[:1], 0)):
             listed = "".join(report_page.list_unchecked(verdict))
             self.must("outside", listed.count("3 TS packets were lost, outside") == count, listed)
-        scope = markup_text(report_page.scope_section(verdict))
+        scope = markup_text(report_page.make_scope_section(verdict))
         self.must("scope", "00:00:00:00 to 00:00:05:24, " in scope, scope)
-        verdict.request = request_for("piped.stl", "one.pes")  # a pipe is judged by its stored copy
-        verdict.request.kept_stl = example("story.stl")
+        # a pipe is judged by its stored copy
+        verdict.request = make_example_request("piped.stl", "one.pes")
+        verdict.request.kept_stl = get_example_path("story.stl")
         self.must("a pipe", "Programme" in scope and "piped.stl" in
-                  markup_text(report_page.scope_section(verdict)), scope)
+                  markup_text(report_page.make_scope_section(verdict)), scope)
         verdict.parts = [make_part(0, 9, 7, packets=mock.MagicMock(count=9), pes=(2, 4))]
         listed = "".join(report_page.list_unchecked(verdict))
         self.must("packets", "6 PES packets of 9, before" in listed, listed)
         verdict.named_faults = [NamedFault("never sent", "a"), NamedFault("not shown", "b")]
-        verdict.severity.by_fault = {"not shown": "warning"}
+        verdict.severity.severity_by_fault = {"not shown": "warning"}
         self.must("waived", [*report_page.list_waived(verdict)] == ["not shown: b"])
 
     def test_has_unique_anchors_for_all_parts(self) -> None:
@@ -471,7 +474,7 @@ class Pages(Case):
                 one("c", "waived", 0, "waived: x", 1, 1),
                 one("d<", "refused", 1, "refused 72", 9, 7, "a hint"),
                 one("e", "lost", 1, "not accepted")]
-        self.must("order", [row.name for row in sorted(rows, key=collection.sort_key)] ==
+        self.must("order", [row.name for row in sorted(rows, key=collection.make_sort_key)] ==
                   ["d<", "e", "b", "c", "a"])
         for name in ("a.html", "a.json", "b.json", "b.txt"):
             self.write(name, b"")

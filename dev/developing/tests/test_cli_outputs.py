@@ -23,8 +23,8 @@ from subtitles.common.command_line import escape_hidden
 from subtitles.common.files import SummedFile
 from subtitles.judging.verdict import Gap
 from subtitles.results.files import (
-    Row, TestCase, format_cell, column_rows, junit_file as junit_of, format_change_time,
-    part_columns, table_value, table_lines as csv_of, make_unjudged)
+    Row, TestCase, format_cell, make_column_rows, make_junit_file as junit_of, format_change_time,
+    make_part_columns, escape_table_value, make_table_lines as csv_of, make_unjudged)
 from subtitles.results.schema import JUDGED_PART, LOSS, PartResult
 from subtitles.stream.gaps import LossPlace
 from .bench import Case
@@ -61,9 +61,9 @@ class Tables(unittest.TestCase):
         return list(csv.DictReader(io.StringIO(text)))
 
     def test_has_a_row_for_each_pair_and_each_fault(self) -> None:
-        found = [(row["stl"], row["recording"], row["verdict"], row["number"], row["pes"],
-                  row["reason"], row["line"]) for row in self.rows(OBJECTS)]
-        self.assertEqual(found, [
+        result = [(row["stl"], row["recording"], row["verdict"], row["number"], row["pes"],
+                   row["reason"], row["line"]) for row in self.rows(OBJECTS)]
+        self.assertEqual(result, [
             ("one.stl", "one.ts", "refused", "", "", "", "refused 72"),
             ("one.stl", "one.ts", "refused", "72", "", "", "refused 72"),
             ("one.stl", "one.ts", "refused", "38", "5", "", "refused 38"),
@@ -71,14 +71,14 @@ class Tables(unittest.TestCase):
             ("three.stl", "", "accepted", "", "", "", "accepted")])
 
     def test_has_subtitle_counts_in_each_row(self) -> None:
-        for counts, wanted in (({"judged": 9, "refused": 2}, ("9", "2")), (None, ("", ""))):
+        for counts, expected in (({"judged": 9, "refused": 2}, ("9", "2")), (None, ("", ""))):
             rows = self.rows([make_result("refused", subtitle_counts=counts,
                                           faults=[fault(38)] * 150)])
             names = ("subtitle_counts_judged", "subtitle_counts_refused")
-            self.assertEqual([tuple(row[name] for name in names) for row in rows], [wanted] * 151,
+            self.assertEqual([tuple(row[name] for name in names) for row in rows], [expected] * 151,
                              counts)
 
-    def test_has_one_header_row(self) -> None:
+    def test_a_csv_table_has_one_header_row(self) -> None:
         for order in ((0, 1, 2), (2, 1, 0), (1, 0, 2), (0,), ()):
             alone = [row for at in order for row in self.rows([OBJECTS[at]])]
             with self.subTest(order=order):
@@ -105,18 +105,18 @@ class Testcases(unittest.TestCase):
                      for at, (verdict, status) in enumerate(self.CASES[:count])]
             suites = ElementTree.fromstring(junit_of(cases, "2026-11-26T10:00:00Z"))
             statuses = [status for _, status in self.CASES[:count]]
-            wanted = [str(number) for number in (count, statuses.count(1), statuses.count(2),
-                                                 f"{count / 2:.3f}")]
+            expected = [str(number) for number in (count, statuses.count(1), statuses.count(2),
+                                                   f"{count / 2:.3f}")]
             with self.subTest(count=count):
                 for element in (suites, suites[0]):
                     self.assertEqual([element.get(name) for name in (
-                        "tests", "failures", "errors", "time")], wanted)
+                        "tests", "failures", "errors", "time")], expected)
                 kinds = [[child.tag for child in case] for case in suites[0]]
                 self.assertEqual(kinds, [
                     [{0: "system-out", 1: "failure", 2: "error"}[status]] * (verdict != "accepted")
                     for verdict, status in self.CASES[:count]])
 
-    def test_has_name_time_and_first_lines(self) -> None:
+    def test_a_test_case_has_name_time_and_first_lines(self) -> None:
         for verdict, status, tag in (("refused", 1, "failure"), ("not judged", 2, "error"),
                                      ("waived", 0, "system-out"), ("accepted", 0, None)):
             suites = ElementTree.fromstring(junit_of([TestCase(
@@ -125,7 +125,7 @@ class Testcases(unittest.TestCase):
                              ("2026T10:00", "0"), (verdict, status, tag))
             self.assertEqual(suites[0][0].attrib, {"classname": "subttx", "name": "a\\x1bb",
                                                    "time": "1.250"}, (verdict, status, tag))
-            reported = [(one.tag, one.text, one.attrib) for one in suites[0][0]]
+            reported = [(item.tag, item.text, item.attrib) for item in suites[0][0]]
             words = {"message": "a\\ufffe\nline", "type": verdict} if status else {}
             self.assertEqual(reported,
                              [(tag, "a\\ufffe\nline\none\ntwo", words)] * (tag is not None),
@@ -150,11 +150,11 @@ class Statuses(Case):
         self.must("the page", self.end({}, False, nowhere) == 2)
         for name in ("csv", "junit", "json"):
             for others in ((), ("csv", "junit", "json")):
-                outputs = {one: self.path(f"out.{one}") for one in others if one != name}
+                outputs = {item: self.path(f"out.{item}") for item in others if item != name}
                 self.must(f"{name} {others}", self.end({**outputs, name: nowhere}) == 2)
             if name != "json":
                 self.must("its object", json.loads(self.read("out.json"))["status"] == 2)
-        written = {one: self.path(f"good.{one}") for one in ("csv", "junit", "json")}
+        written = {item: self.path(f"good.{item}") for item in ("csv", "junit", "json")}
         self.must("all written", self.end(written) == 0)
 
 
@@ -204,7 +204,7 @@ class Members(unittest.TestCase):
                              [0x101, 204, "3-9", {"name": name, "size": 5, "sha256": "sum"}, None],
                              (is_kept, name))
 
-    def test_has_columns_of_the_only_part_or_the_faulty_one(self) -> None:
+    def test_a_row_has_the_columns_of_one_part(self) -> None:
         parts: list[dict[str, Any]] = [
             {"part": number, "pid": pid, "pes": f"{number}-9", "packet_size": 188}
             for number, pid in ((1, 0x101), (2, None))]
@@ -212,17 +212,19 @@ class Members(unittest.TestCase):
                           "part_packet_size": 188}
                          for number, pid in ((1, "0x101"), (2, None)))
         nothing: dict[str, object] = {}
-        for end, number, wanted in ((1, None, first), (2, None, nothing), (2, 1, first),
-                                    (2, 2, second), (2, 3, nothing), (0, None, nothing)):
-            self.assertEqual(part_columns(parts[:end], number), wanted, (end, number))
+        for end, number, expected in ((1, None, first), (2, None, nothing), (2, 1, first),
+                                      (2, 2, second), (2, 3, nothing), (0, None, nothing)):
+            self.assertEqual(make_part_columns(parts[:end], number), expected, (end, number))
         known = make_result(parts=parts, faults=[{**FAULT, "part": number} for number in (1, 2, 1)])
-        self.assertEqual([{name: row.get(name) for name in first} for row in column_rows(known)],
+        self.assertEqual([{name: row.get(name) for name in first}
+                          for row in make_column_rows(known)],
                          [dict.fromkeys(first), first, second, first])
         for code, letter, words in (("41", "A", "41 A"), ("00", "", "00")):
             self.assertEqual(format_cell({"code": code, "character": letter}), words,
                              (code, letter))
-        self.assertEqual(table_value("a\nb\x07"), "a\n" + escape_hidden("b\x07"))
-        self.assertEqual((table_value(5), table_value(-5), table_value(None)), (5, -5, None))
+        self.assertEqual(escape_table_value("a\nb\x07"), "a\n" + escape_hidden("b\x07"))
+        self.assertEqual((escape_table_value(5), escape_table_value(-5), escape_table_value(None)),
+                         (5, -5, None))
         for text in ("=1+1", "+1", "-1", "@A1", "=a\nb"):
-            self.assertEqual(table_value(text), f"'{text}", text)
-        self.assertEqual((table_value("a=1"), table_value("\ta")), ("a=1", "\\x09a"))
+            self.assertEqual(escape_table_value(text), f"'{text}", text)
+        self.assertEqual((escape_table_value("a=1"), escape_table_value("\ta")), ("a=1", "\\x09a"))

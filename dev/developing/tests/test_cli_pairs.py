@@ -8,46 +8,47 @@ import signal
 import subprocess
 from unittest import mock
 
-from subtitles.cli.single import claim_folder
+from subtitles.cli.single import lock_folder
 from subtitles.common.command_line import counted
 from subtitles.common.program import TOP
 from subtitles.formats.stl import MAX_STL
 from subtitles.recording import recording
-from .bench import Case, Done, SECONDS, example, example_bytes, tool_path
+from .bench import Case, CompletedCall, SECONDS, get_example_path, get_tool_path, read_example_file
 from .programmes import wait_until
 from .judged import judge_files
 from .transmissions import write_pipe
 
 
-STORY, RECORDING = example("story.stl"), example("recording.ts")
+STORY, RECORDING = get_example_path("story.stl"), get_example_path("recording.ts")
 ACCEPTED, RELATIVE = (f"{word} 226 frames 5 transmissions" for word in ("accepted", "relative"))
 TS = 188  # size of a TS packet in bytes
 
 
-def qc(case: Case, *words: str, data: bytes | None = None) -> Done:
-    return case.tool("qc", *words, "-p", case.bench.program, data=data)
+def qc(case: Case, *args: str, data: bytes | None = None) -> CompletedCall:
+    return case.tool("qc", *args, "-p", case.bench.program, data=data)
 
 
-def lines_of(done: Done) -> list[str]:
-    return done.out.decode().splitlines()
+def split_output_lines(process: CompletedCall) -> list[str]:
+    return process.out.decode().splitlines()
 
 
 def stream(case: Case, name: str, pes: bytes, pid: str = "0x101", page: str = "888") -> bytes:
     """Convert PES packets to a transport stream with dev/pes2ts."""
-    done = case.tool("pes2ts", case.write(name + ".in.pes", pes), pid, "--page", page)
-    assert done.status == 0, done
-    return done.out
+    process = case.tool("pes2ts", case.write(name + ".in.pes", pes), pid, "--page", page)
+    assert process.status == 0, process
+    return process.out
 
 
 class Pairs(Case):
     def test_prints_the_command_that_it_ran(self) -> None:
-        done = qc(self, STORY, RECORDING, "-o", "out")
-        lines = lines_of(done)
+        process = qc(self, STORY, RECORDING, "-o", "out")
+        lines = split_output_lines(process)
         commands = [line[2:] for line in lines if line.startswith("+ ")]
-        self.must("relative", (done.status, lines[-1], done.told) == (3, RELATIVE, [
+        self.must("relative", (process.status, lines[-1], process.told) == (3, RELATIVE, [
             "qc: not checked: losses on this PID alone, since there are too few PES "
-            "packets to measure their interval"]), done)
-        self.must("one command, on the two files", [one.split()[1:] for one in commands] == [[
+            "packets to measure their interval"]), process)
+        self.must("one command, on the two files",
+                  [command.split()[1:] for command in commands] == [[
             "check", STORY, RECORDING, "--pid", "0x101", "--pes", "2-6", "--complete", "--origin",
             "5000000000", "--all"]], commands)
         kept = sorted(os.listdir(self.path("out")))
@@ -58,12 +59,14 @@ class Pairs(Case):
                   again)
 
     def test_judges_files_and_standard_input_the_same(self) -> None:
-        pes = example_bytes("story.pes")
-        for name, words, data in (("a file", [example("story.pes")], None), ("a pipe", ["-"], pes),
-                                  ("a stream in a pipe", ["-"], example_bytes("recording.ts")),
+        pes = read_example_file("story.pes")
+        for name, words, data in (("a file", [get_example_path("story.pes")], None),
+                                  ("a pipe", ["-"], pes),
+                                  ("a stream in a pipe", ["-"], read_example_file("recording.ts")),
                                   ("/dev/stdin", ["/dev/stdin"], pes)):
-            done = qc(self, STORY, *words, data=data)
-            self.must(name, done.status == 3 and lines_of(done)[-1] == RELATIVE, done)
+            process = qc(self, STORY, *words, data=data)
+            self.must(name, process.status == 3 and split_output_lines(process)[-1] == RELATIVE,
+                      process)
         with open(RECORDING, "rb") as file:
             again = subprocess.run([os.path.join(TOP, "tools", "qc"), STORY, "-", "-p",
                                     self.bench.program, "--relative", "--json", "one.json"],
@@ -78,77 +81,79 @@ class Pairs(Case):
 class Batches(Case):
     def test_refuses_a_folder_that_another_batch_writes(self) -> None:
         self.write("list", f"{STORY} {RECORDING}\n".encode())
-        with claim_folder(self.path("out")):
-            self.must("refused", qc(self, "--batch", "list", "-o", "out") == Done(2, b"", [
+        with lock_folder(self.path("out")):
+            self.must("refused", qc(self, "--batch", "list", "-o", "out") == CompletedCall(2, b"", [
                 "qc: another run of qc is judging a batch into out"]))
 
     def test_prints_only_json_to_standard_output(self) -> None:
-        done = qc(self, STORY, RECORDING, "--json", "-")
-        self.must("alone", json.loads(done.out)["line"] == done.told[-1] == RELATIVE, done)
+        process = qc(self, STORY, RECORDING, "--json", "-")
+        self.must("alone", json.loads(process.out)["line"] == process.told[-1] == RELATIVE, process)
 
 
 FIVE_WORDS = ("--origin", "0", "--every", "25")
 
 
-class Piped(Case):
+class PipedRecordings(Case):
     def test_judges_a_pipe_as_a_file(self) -> None:
-        for name, data in (("one.pes", example_bytes("five-faults.pes")),
-                           ("one.ts", stream(self, "five", example_bytes("five-faults.pes"))),
-                           ("cut.ts", stream(self, "five", example_bytes("five-faults.pes"))[:-99]),
+        for name, data in (("one.pes", read_example_file("five-faults.pes")),
+                           ("one.ts", stream(self, "five", read_example_file("five-faults.pes"))),
+                           ("cut.ts",
+                            stream(self, "five", read_example_file("five-faults.pes"))[:-99]),
                            ("empty.pes", b"")):
             of_file = qc(self, STORY, self.write(name, data), *FIVE_WORDS, "--json", "file.json")
             piped_in = qc(self, STORY, "-", *FIVE_WORDS, "--json", "pipe.json", data=data)
             self.must(name, of_file.status == piped_in.status and len(of_file.told) ==
                       len(piped_in.told), (of_file, piped_in))
-            one, other = (json.loads(self.read(f"{kind}.json")) for kind in ("file", "pipe"))
+            item, other = (json.loads(self.read(f"{kind}.json")) for kind in ("file", "pipe"))
             for member in ("verdict", "line", "faults", "causes", "trusted_frames", "losses",
                            "notes"):
-                self.must(f"{name}: {member}", one[member] == other[member],
-                          (one[member], other[member]))
+                self.must(f"{name}: {member}", item[member] == other[member],
+                          (item[member], other[member]))
 
     def test_refuses_devices_and_limits_pipes(self) -> None:
-        done = self.tool("qc", STORY, "/dev/zero", "-p", self.bench.program)
-        self.must("a device", done.status == 2 and done.told[-1] ==
-                  "qc: /dev/zero is a device: give a file or a pipe", done)
-        pes = example_bytes("story.pes")
+        process = self.tool("qc", STORY, "/dev/zero", "-p", self.bench.program)
+        self.must("a device", process.status == 2 and process.told[-1] ==
+                  "qc: /dev/zero is a device: give a file or a pipe", process)
+        pes = read_example_file("story.pes")
         for most, word in ((len(pes), "accepted"), (len(pes) - 1, "not judged")):
-            with mock.patch.object(recording, "MAX_PIPED", most):
-                found = judge_files(self, STORY, write_pipe(self, pes), "--origin", "0")
-            self.must(f"{most}", found.word == word, found.said)
-        self.must("what to type", found.told[-1].endswith(
+            with mock.patch.object(recording, "MAX_PIPED_BYTES", most):
+                result = judge_files(self, STORY, write_pipe(self, pes), "--origin", "0")
+            self.must(f"{most}", result.word == word, result.said)
+        self.must("what to type", result.told[-1].endswith(
             f" has not ended after {most:,} bytes: judge an endless feed with "
-            "tools/air") and recording.MAX_PIPED == 32_000_000_000, found.told)
+            "tools/air") and recording.MAX_PIPED_BYTES == 32_000_000_000, result.told)
 
     def test_reports_a_full_disk_for_a_pipe(self) -> None:
-        data = stream(self, "story", example_bytes("story.pes")) * 400
+        data = stream(self, "story", read_example_file("story.pes")) * 400
         command = 'ulimit -f 200; exec "$0" "$1" - --json one.json -p "$2"'
-        done = self.call(["bash", "-c", command, tool_path("qc"), STORY, self.bench.program], data)
-        self.must("said", done.status == 2 and "File too large" in done.told[-1], done)
+        process = self.call(["bash", "-c", command, get_tool_path("qc"), STORY, self.bench.program],
+                            data)
+        self.must("said", process.status == 2 and "File too large" in process.told[-1], process)
         self.must("its object", "File too large" in json.loads(self.read("one.json"))["reason"])
 
 
 class Ended(Case):
     def test_a_signal_leaves_a_result_and_no_temporary_files(self) -> None:
         os.mkdir(self.path("temporary"))
-        for one in (signal.SIGINT, signal.SIGTERM, signal.SIGHUP):
+        for item in (signal.SIGINT, signal.SIGTERM, signal.SIGHUP):
             with subprocess.Popen(
-                    [tool_path("qc"), "-p", self.bench.program, STORY, "-", "--json", "one.json",
-                     "-o", "out"], cwd=self.folder, stdin=subprocess.PIPE, stdout=subprocess.PIPE,
-                    stderr=subprocess.PIPE, env={**os.environ, "TMPDIR": self.path("temporary")}) \
-                    as process:
+                    [get_tool_path("qc"), "-p", self.bench.program, STORY, "-", "--json",
+                     "one.json", "-o", "out"], cwd=self.folder, stdin=subprocess.PIPE,
+                    stdout=subprocess.PIPE, stderr=subprocess.PIPE,
+                    env={**os.environ, "TMPDIR": self.path("temporary")}) as process:
                 assert process.stdin and process.stderr
-                process.stdin.write(example_bytes("story.pes"))
+                process.stdin.write(read_example_file("story.pes"))
                 process.stdin.flush()
                 is_there = wait_until(lambda: any("story.recording" in files for _, _,
                                                   files in os.walk(
                     self.path("temporary"))))
-                process.send_signal(one if is_there else signal.SIGKILL)
+                process.send_signal(item if is_there else signal.SIGKILL)
                 errors = process.stderr.read().decode().splitlines()
             known = json.loads(self.read("one.json"))
-            self.must(f"{one}", process.returncode == 2 and known["status"] == 2 and errors ==
+            self.must(f"{item}", process.returncode == 2 and known["status"] == 2 and errors ==
                       [f"qc: not judged: {known['reason']}"] and not known["faults"] and
                       known["reason"].startswith("stopped at "), errors)
-            self.must(f"{one}: nothing is left", os.listdir(self.path("temporary")) == [] and
+            self.must(f"{item}: nothing is left", os.listdir(self.path("temporary")) == [] and
                       sorted(os.listdir(self.path("out"))) == [
                           "story.html", "story.json"], os.listdir(self.path("out")))
 
@@ -157,10 +162,11 @@ class Ended(Case):
                                      (2, 1, "all up to 20:15:01:00"),
                                      (4, 3, "all up to 20:15:03:00")):
             begun = self.path(f"begun {count}")
-            self.program_but("check*--pes*--all*", f"'{self.bench.program}' \"$@\" | head -n "
-                             f"{count}; touch '{begun}'; exec sleep {SECONDS} 2>/dev/null")
-            with subprocess.Popen([tool_path("qc"), STORY, example("five-faults.pes"), "--every",
-                                   "25",
+            self.make_program_with_exception("check*--pes*--all*",
+                                             f"'{self.bench.program}' \"$@\" | head -n {count}; "
+                                             f"touch '{begun}'; exec sleep {SECONDS} 2>/dev/null")
+            with subprocess.Popen([get_tool_path("qc"), STORY, get_example_path("five-faults.pes"),
+                                   "--every", "25",
                                    "-o", "out", "-p", "./program"], cwd=self.folder,
                                   stdout=subprocess.PIPE, stderr=subprocess.PIPE) as process:
                 assert process.stdout
@@ -181,34 +187,34 @@ class Ended(Case):
             self.must(f"{count}: the list", self.read("out/story.txt") == b"".join(came), came)
 
     def test_writes_a_complete_result_if_its_output_is_closed(self) -> None:
-        five = self.write("five.ts", stream(self, "five", example_bytes("five-faults.pes")))
+        five = self.write("five.ts", stream(self, "five", read_example_file("five-faults.pes")))
         command = ('cat "$1" | "$2" "$3" "$4" --origin 0 --every 25 --json one.json -p "$5" 2>told '
                    '| head -2; echo ${PIPESTATUS[1]}')
         for name, recording in (("a feed", "-"), ("a file", five)):
-            done = self.call(["bash", "-c", command, "bash", five, tool_path("qc"), STORY,
-                              recording,
-                              self.bench.program])
+            process = self.call(["bash", "-c", command, "bash", five, get_tool_path("qc"), STORY,
+                                 recording,
+                                 self.bench.program])
             reported = self.read("told").decode()
-            self.must(name, len(done.out.splitlines()) == 3 and "Traceback" not in reported
-                      and "Exception" not in reported, (done, reported))
+            self.must(name, len(process.out.splitlines()) == 3 and "Traceback" not in reported
+                      and "Exception" not in reported, (process, reported))
             self.must(f"{name}: its object", json.loads(self.read("one.json"))["fault_count"] == 5)
 
 
-PES = example("story.pes")
+PES = get_example_path("story.pes")
 
 
 class SubtitlePipes(Case):
-    def qc(self, *words: str) -> Done:
-        return self.tool("qc", *words, "-p", self.bench.program, "--json", self.path("x.json"))
+    def qc(self, *args: str) -> CompletedCall:
+        return self.tool("qc", *args, "-p", self.bench.program, "--json", self.path("x.json"))
 
     def test_judges_a_subtitle_pipe_as_a_file(self) -> None:
-        french = example_bytes("story.stl")[:14] + b"0F" + example_bytes("story.stl")[16:]
+        french = read_example_file("story.stl")[:14] + b"0F" + read_example_file("story.stl")[16:]
         rows: list[tuple[bytes, list[str]]] = [
-            (example_bytes("story.stl"), [PES, "--origin", "0"]),
-            (example_bytes("story.stl"), [PES, "--start", "tcp"]),
-            (example_bytes("story.stl"), []), (example_bytes("accent.stl"), [PES]),
+            (read_example_file("story.stl"), [PES, "--origin", "0"]),
+            (read_example_file("story.stl"), [PES, "--start", "tcp"]),
+            (read_example_file("story.stl"), []), (read_example_file("accent.stl"), [PES]),
             (french, [PES, "--origin", "0", "--option", "auto"]),
-            (b"", [PES]), (example_bytes("story.pes"), [PES]), (b"x" * 2000, [PES])]
+            (b"", [PES]), (read_example_file("story.pes"), [PES]), (b"x" * 2000, [PES])]
         for data, words in rows:
             name = self.write("one.stl", data)
             of_file = self.qc(name, *words, "-o", self.path("out"))
@@ -222,8 +228,8 @@ class SubtitlePipes(Case):
             self.must(f"{words}", of_pipe.status == of_file.status and
                       [line.replace(pipe, name) for line in of_pipe.told] == of_file.told and
                       of_pipe.out.decode().replace(pipe, name) == of_file.out.decode(), of_pipe)
-            same = [{**one, "inputs": {**one["inputs"], "stl": one["inputs"]["stl"] and {
-                **one["inputs"]["stl"], "name": ""}}} for one in (known, other)]
+            same = [{**item, "inputs": {**item["inputs"], "stl": item["inputs"]["stl"] and {
+                **item["inputs"]["stl"], "name": ""}}} for item in (known, other)]
             for member in ("verdict", "status", "fault_count", "faults", "inputs",
                            "trusted_frames"):
                 self.must(f"{words}: {member}", same[0][member] == same[1][member],
@@ -231,7 +237,7 @@ class SubtitlePipes(Case):
             self.must(f"{words}: option", known["request"]["option"] == other["request"]["option"])
 
     def test_limits_a_subtitle_pipe(self) -> None:
-        done = self.call(["sh", "-c", 'mkfifo endless; (yes >endless &) ; exec "$@"', "sh",
-                          tool_path("qc"), "endless", PES, "-p", self.bench.program])
-        self.must("endless", done.status in (1, 2) and len(done.told) <= 3, done)
+        process = self.call(["sh", "-c", 'mkfifo endless; (yes >endless &) ; exec "$@"', "sh",
+                             get_tool_path("qc"), "endless", PES, "-p", self.bench.program])
+        self.must("endless", process.status in (1, 2) and len(process.told) <= 3, process)
         self.assertEqual(MAX_STL, 1024 + 128 * 99_999 + 1)

@@ -16,15 +16,15 @@ from unittest import mock
 
 from subtitles.air.check import Checker
 from subtitles.air.schedule import read_schedule
-from subtitles.air.segments import segments_between, stretches_in
+from subtitles.air.segments import find_segments, find_unbroken_runs
 from subtitles.cli import batch
 from subtitles.cli.main import main as qc
 from subtitles.common.times import CLOCK, TICKS
 from .air import DAY
-from .random_calls import in_process
-from .bench import BENCH, example
+from .random_calls import call_in_same_process
+from .bench import BENCH, get_example_path
 from .programmes import BEGIN, SECOND
-from .test_air_calls import ALL, LEAD, Feeds
+from .test_air_calls import ALL, LEAD_SECONDS, Feeds
 
 SEEDS = 12  # number of seeds in an automatic test run
 # Subtitle files, recordings, and origins of the recordings.
@@ -36,23 +36,23 @@ OTHERS = ("", "--within 1", "--severity severity", "--severity severity --strict
 GOOD = {"accepted", "waived"}
 
 
-class Given(NamedTuple):
+class GivenClock(NamedTuple):
     """Options for a pair: whether it has a clock, and whether --relative allows status 0."""
 
     has_clock: bool
     is_allowed: bool
 
-    def may_be(self, verdict: str, status: int) -> bool:
+    def is_possible_verdict(self, verdict: str, status: int) -> bool:
         """Return whether the options allow a verdict and a status."""
         return self.has_clock or verdict not in GOOD and (status != 0 or self.is_allowed)
 
 
 class Clocks(Feeds):
-    def test_accepts_nothing_without_a_clock(self) -> None:
+    def test_never_accepts_a_pair_without_a_clock(self) -> None:
         for seed in range(SEEDS):
-            self.try_seed(seed)
+            self.check_seed(seed)
 
-    def try_seed(self, seed: int) -> None:
+    def check_seed(self, seed: int) -> None:
         """Run qc in two random modes on the random pairs of a seed."""
         chance = random.Random(seed)
         given = self.make_pairs(chance)
@@ -72,13 +72,13 @@ class Clocks(Feeds):
         for name in "abc"[:chance.choice((1, 2, 3))]:
             stl, recording, origins[name] = chance.choice(PAIRS)
             ending = recording.rpartition(".")[2]
-            shutil.copyfile(example(f"{stl}.stl"), self.path(f"in/{name}.stl"))
-            shutil.copyfile(example(recording), self.path(f"in/{name}.{ending}"))
+            shutil.copyfile(get_example_path(f"{stl}.stl"), self.path(f"in/{name}.stl"))
+            shutil.copyfile(get_example_path(recording), self.path(f"in/{name}.{ending}"))
         return origins
 
-    def options(self, chance: random.Random, origin: int | None) -> tuple[list[str], Given]:
+    def options(self, chance: random.Random, origin: int | None) -> tuple[list[str], GivenClock]:
         """Return random options, some of them in a profile, and the verdicts that they allow."""
-        given = Given(origin is not None and chance.random() < .3, chance.random() < .3)
+        given = GivenClock(origin is not None and chance.random() < .3, chance.random() < .3)
         clock = ["--origin", f"{origin}"] * given.has_clock
         allowed = ["--relative"] * given.is_allowed
         words = chance.choice(OTHERS).split()
@@ -86,42 +86,43 @@ class Clocks(Feeds):
         if profile and chance.random() < .5:
             self.write("profile", f"{' '.join(profile)}\n".encode())
             words += ["--profile", self.path("profile")]
-            clock, allowed = ([] if one is profile else one for one in (clock, allowed))
+            clock, allowed = ([] if item is profile else item for item in (clock, allowed))
         return [word.replace("severity", self.path("severity")) if word == "severity" else word
                 for word in [*words, *clock, *allowed]], given
 
     def paths(self, name: str) -> list[str]:
         """Return the paths of a pair's files, the subtitle file first."""
-        return [self.path(f"in/{one}") for one in sorted(os.listdir(self.path("in")), key=lambda
-                one: not one.endswith(".stl")) if one.startswith(f"{name}.")]
+        return [self.path(f"in/{item}") for item in sorted(os.listdir(self.path("in")), key=lambda
+                item: not item.endswith(".stl")) if item.startswith(f"{name}.")]
 
-    def qc(self, *words: str) -> tuple[int, list[str]]:
-        status, out, _ = in_process(lambda line: qc("", "tools/qc", line), [
-            "tools/qc", *words, "-p", self.bench.program])
+    def qc(self, *args: str) -> tuple[int, list[str]]:
+        status, out, _ = call_in_same_process(lambda line: qc("", "tools/qc", line), [
+            "tools/qc", *args, "-p", self.bench.program])
         return status, out.splitlines()
 
-    def check_results(self, name: str, given: dict[str, Given], folder: str = "out") -> None:
+    def check_results(self, name: str, given: dict[str, GivenClock], folder: str = "out") -> None:
         """Check the JSON results of pairs, and the status and CSV rows printed by --collect."""
-        found = dict[str, tuple[str, int]]()
-        for one in given:
-            known = self.object(f"{folder}/{one}.json")
-            found[one] = known["verdict"], known["status"]
-        self.check(f"{name}: results", [one for one, seen in found.items()
-                                        if not given[one].may_be(*seen)], [])
+        result = dict[str, tuple[str, int]]()
+        for item in given:
+            known = self.object(f"{folder}/{item}.json")
+            result[item] = known["verdict"], known["status"]
+        self.check(f"{name}: results", [item for item, seen in result.items()
+                                        if not given[item].is_possible_verdict(*seen)], [])
         words = ["--collect", self.path(folder), "--csv", self.path("all.csv")]
-        status, _, _ = in_process(lambda line: qc("", "tools/qc", line), ["tools/qc", *words])
+        status, _, _ = call_in_same_process(lambda line: qc("", "tools/qc", line),
+                                            ["tools/qc", *words])
         self.check_status(f"{name}: collected", status, given)
         self.check_lines(f"{name}: rows", self.read("all.csv").decode().splitlines(), given)
 
-    def check_status(self, name: str, status: int, given: dict[str, Given]) -> None:
+    def check_status(self, name: str, status: int, given: dict[str, GivenClock]) -> None:
         """Check that the status is 0 only if each pair has a clock or --relative."""
-        is_zero_allowed = all(one.has_clock or one.is_allowed for one in given.values())
+        is_zero_allowed = all(item.has_clock or item.is_allowed for item in given.values())
         self.must(f"{name}: status", status != 0 or is_zero_allowed, given)
 
-    def check_lines(self, name: str, lines: list[str], given: dict[str, Given]) -> None:
+    def check_lines(self, name: str, lines: list[str], given: dict[str, GivenClock]) -> None:
         """Check that no line calls a pair without a clock `accepted` or `waived`."""
-        self.check(name, [line for line in lines for one, some in given.items()
-                          if re.search(rf"\b{one}(  |,|\.(stl|pes|ts),)", line)
+        self.check(name, [line for line in lines for item, some in given.items()
+                          if re.search(rf"\b{item}(  |,|\.(stl|pes|ts),)", line)
                           and re.search(r"\b(accepted|(?<!relative, )waived)\b", line)
                           and not some.has_clock], [])
 
@@ -130,13 +131,13 @@ class Clocks(Feeds):
         return known
 
     def single(self, name: str, chance: random.Random, origins: dict[str, int]) -> None:
-        one = chance.choice([*origins])
-        words, given = self.options(chance, origins[one])
-        status, lines = self.qc(*self.paths(one), *words, "-o", self.path("out"))
+        item = chance.choice([*origins])
+        words, given = self.options(chance, origins[item])
+        status, lines = self.qc(*self.paths(item), *words, "-o", self.path("out"))
         is_good = {lines[-1].split(" ")[0].strip(":"), lines[-2].split(" ")[0].lower().strip(":,")}
         self.must(f"{name}: last lines", given.has_clock or not GOOD & is_good, lines[-2:])
-        self.must(f"{name}: status", given.may_be("", status), (status, words))
-        self.check_results(name, {one: given})
+        self.must(f"{name}: status", given.is_possible_verdict("", status), (status, words))
+        self.check_results(name, {item: given})
 
     def folder_call(self, name: str, chance: random.Random, origins: dict[str, int]) -> None:
         """Judge a folder with the same options for all pairs, and check the results."""
@@ -149,12 +150,12 @@ class Clocks(Feeds):
 
     def list_call(self, name: str, chance: random.Random, origins: dict[str, int]) -> None:
         """Judge a list with different options for each pair, and check the results."""
-        lines, given = list[str](), dict[str, Given]()
+        lines, given = list[str](), dict[str, GivenClock]()
         common = ["--relative"] * (chance.random() < .2)
-        for one, origin in origins.items():
+        for item, origin in origins.items():
             clock = chance.random() < .5
-            given[one] = Given(clock, bool(common))
-            lines.append(" ".join([*self.paths(one), *[f"--origin {origin}"] * clock]))
+            given[item] = GivenClock(clock, bool(common))
+            lines.append(" ".join([*self.paths(item), *[f"--origin {origin}"] * clock]))
         self.write("list", "".join(f"{line}\n" for line in lines).encode())
         status, printed = self.qc("--batch", self.path("list"), "-o", self.path("out"), *common)
         self.check_status(name, status, given)
@@ -184,26 +185,27 @@ class Clocks(Feeds):
         frames = self.feed()
         self.delete_all("segments", "out")
         self.put_segment(0, ALL, b"".join(frames))
-        origin = (BEGIN + SECOND * LEAD - TICKS * 1_000_000) % CLOCK
+        origin = (BEGIN + SECOND * LEAD_SECONDS - TICKS * 1_000_000) % CLOCK
         words, given = self.options(chance, origin)
         self.write_schedule(" ".join(["2026-12-01T08:00:00Z one.stl", *words]))
-        one, = read_schedule(self.path("schedule"), self.args()).programmes
-        stretch, = stretches_in(segments_between(self.path("segments"), DAY, DAY + 60), 5)
+        item, = read_schedule(self.path("schedule"), self.args()).programmes
+        stretch, = find_unbroken_runs(find_segments(self.path("segments"), DAY, DAY + 60), 5)
         out = self.path("out")
         checker = Checker(self.bench.program, "qc", out, out, 60)
-        found = checker.check(one.request, one.name, DAY, stretch).result
+        air_result = checker.check(item.request, item.name, DAY, stretch).result
         checker.clear()
-        assert found
-        self.must(f"{name}: result", given.may_be(found["verdict"], found["status"]), found)
+        assert air_result
+        self.must(f"{name}: result", given.is_possible_verdict(air_result["verdict"],
+                                                               air_result["status"]), air_result)
 
 
 def main(program: str, first: int, last: int) -> None:
     """Test pairs and options with the seeds `first` to `last - 1`."""
     BENCH.chosen = program
-    case = Clocks("test_accepts_nothing_without_a_clock")
+    case = Clocks("test_never_accepts_a_pair_without_a_clock")
     case.setUp()
     for seed in range(first, last):
-        case.try_seed(seed)
+        case.check_seed(seed)
     print(f"{last - first} seeds")
 
 

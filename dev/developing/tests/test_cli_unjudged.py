@@ -15,18 +15,18 @@ from typing import Any, ContextManager
 from unittest import mock
 
 from subtitles.cli import batch, collection, single
-from subtitles.cli.batch import LEAST_SECONDS, PairRunner, judge_next
+from subtitles.cli.batch import MIN_SECONDS, PairRunner, judge_next_items
 from subtitles.cli.single import (
-    Output, OutputFiles, PairOptions, SIGNALS, claim_folder, claim_pair, handle_signals,
-    ignore_signals)
+    Output, OutputFiles, PairOptions, SIGNALS, handle_signals, ignore_signals, lock_folder,
+    lock_pair)
 from subtitles.common.command_line import Stop, run_main
 from subtitles.common.files import Inputs
 from subtitles.request.commands import CommandPaths, OutputNames, Printer
 from subtitles.request.lines import BatchItem
 from subtitles.request.request import keep_stl
 from subtitles.results.files import write_result_file
-from .bench import Case, SECONDS, example, example_bytes
-from .parts import request_for, run_qc
+from .bench import Case, SECONDS, get_example_path, read_example_file
+from .parts import make_example_request, run_qc
 from .results import make_result
 from .transmissions import write_pipe
 from .test_cli_failures import ACCEPTED, CallCase, HELLO
@@ -40,11 +40,11 @@ class UnjudgedPairs(Case):
         for name in ("one.stl", "one.ts"):
             self.write(name, b"1")
 
-    def runner(self) -> PairRunner:
+    def make_runner(self) -> PairRunner:
         return PairRunner(CommandPaths("tools/qc", self.bench.program), self.path("temporary"),
                      self.path("out"), False)
 
-    def test_all_outputs_name_the_reason(self) -> None:
+    def test_writes_the_reason_to_all_outputs(self) -> None:
         rows: list[tuple[str, str, str, str]] = [
             ("in use", "", "", "another run of qc is writing the files of pair one"),
             ("an input", "", "--severity out/one.html", "is also an input: give another name"),
@@ -59,7 +59,7 @@ class UnjudgedPairs(Case):
             if name in ("an input", "no result"):
                 self.write("out/one.html", b"67 warning\n")
             self.write("list", f"one.stl {recording or 'one.ts'} {words}\n".encode())
-            decoded: ContextManager[object] = claim_pair("out", "one") if name == "in use" else \
+            decoded: ContextManager[object] = lock_pair("out", "one") if name == "in use" else \
                 contextlib.nullcontext()
             with decoded, contextlib.redirect_stdout(io.StringIO()) as out, \
                     contextlib.redirect_stderr(io.StringIO()):
@@ -77,57 +77,60 @@ class UnjudgedPairs(Case):
                 os.unlink("out/one.html")
 
     def test_locks_the_files_of_a_pair_until_its_call_ends(self) -> None:
-        item, calls = BatchItem("one", request_for(self.path("one.stl"), self.path("one.ts")),
+        item, calls = BatchItem("one",
+                                make_example_request(self.path("one.stl"), self.path("one.ts")),
                                 None), \
-            self.runner()
+            self.make_runner()
         for does in (signal.pause, time.tzset):  # wait for a signal, or return
             with mock.patch.object(batch, "judge_forked_pair", lambda *_: does() or 2):
                 self.must("begun", calls.start(item) is None)
-            other = self.runner()
+            other = self.make_runner()
             row = other.start(item)
-            self.must("another call", row and not row.is_judged and other.in_use == {"one"} and
-                      "another run of qc" in other.unwritten_results["one"]["reason"]
-                      and not other.running, row)
+            self.must("another call", row and not row.is_judged
+                      and other.names_in_use == {"one"}
+                      and "another run of qc" in other.unwritten_results["one"]["reason"]
+                      and not other.running_pairs, row)
             if does == signal.pause:
                 calls.stop()
             else:
-                self.must("its row", len([*calls.finished_rows(SECONDS)]) == 1)
-            with claim_pair(self.path("out"), "one"):
-                self.must("free again", not calls.running)
+                self.must("its row", len([*calls.collect_rows(SECONDS)]) == 1)
+            with lock_pair(self.path("out"), "one"):
+                self.must("free again", not calls.running_pairs)
             self.must("no lock is left", ".one.lock" not in os.listdir(self.path("out")))
-        with claim_pair(self.path("out"), "one"):
-            self.must("in use", calls.start(item) and calls.in_use == {"one"})
+        with lock_pair(self.path("out"), "one"):
+            self.must("in use", calls.start(item) and calls.names_in_use == {"one"})
         self.write("out/one.html", b"theirs")
         row = calls.start(item)
-        self.must("no result", row and "was not written by" in row.line and not calls.in_use, row)
+        self.must("no result", row and "was not written by" in row.line
+                  and not calls.names_in_use, row)
 
     def test_runs_at_most_as_many_pairs_as_requested(self) -> None:
         for jobs, count in itertools.product((1, 2, 3), range(4)):
-            calls, waiting = self.runner(), deque(BatchItem(f"{at}", None, None) for at in
-                                                  range(count))
-            running: Any = calls.running
+            calls, waiting = self.make_runner(), deque(BatchItem(f"{at}", None, None) for at in
+                                                       range(count))
+            running: Any = calls.running_pairs
             with mock.patch.object(calls, "start", lambda item: running.update({item: item})), \
-                    mock.patch.object(calls, "finished_rows", return_value=[]):
-                left = [*judge_next(calls, waiting, jobs)]
+                    mock.patch.object(calls, "collect_rows", return_value=[]):
+                left = [*judge_next_items(calls, waiting, jobs)]
             self.must(f"{jobs} of {count}", (len(running), len(waiting), left) == (
                 min(jobs, count), max(count - jobs, 0), []))
 
     def test_gives_each_pair_its_time_limit(self) -> None:
-        request = request_for(self.path("one.stl"), self.path("one.ts"))
-        for limit, wanted in ((None, LEAST_SECONDS), (5, 5)):
-            calls = self.runner()
+        request = make_example_request(self.path("one.stl"), self.path("one.ts"))
+        for limit, expected in ((None, MIN_SECONDS), (5, 5)):
+            calls = self.make_runner()
             calls.limit = limit
             with mock.patch.object(batch, "ForkedProcess"):
                 calls.start(BatchItem("one", request, None))
-            [begun] = calls.running.values()
-            begun.claim.close()
-            self.check(f"{limit}", begun.limit, wanted)
+            [begun] = calls.running_pairs.values()
+            begun.pair_lock.close()
+            self.check(f"{limit}", begun.limit, expected)
 
     def test_lists_the_folder_once_for_all_pairs(self) -> None:
         for name in ("one.7.txt", "two.1.txt"):
             self.write(f"out/{name}", b"theirs")
         with mock.patch("os.listdir", side_effect=os.listdir) as listed:
-            calls = self.runner()
+            calls = self.make_runner()
             rows = [calls.start(BatchItem(f"{at}", None, "no pair")) for at in range(20)]
             self.write("out/three.1.html", b"theirs")
             rows += [calls.start(BatchItem(name, None, "no pair")) for name in
@@ -141,7 +144,8 @@ class UnjudgedPairs(Case):
                            "one.7.txt", "two.1.txt", "three.1.html")])
 
     def test_does_not_list_a_claimed_folder_again(self) -> None:
-        request = request_for(example("hello.stl"), example("hello.pes"), "--origin", "0")
+        request = make_example_request(get_example_path("hello.stl"), get_example_path("hello.pes"),
+                                       "--origin", "0")
         call = PairOptions(self.bench.program, self.path("out"), name="one", is_claimed=True)
         with mock.patch("subtitles.request.commands.PartFiles", side_effect=ZeroDivisionError), \
                 mock.patch.object(single, "ignore_signals"), \
@@ -153,39 +157,41 @@ class UnjudgedPairs(Case):
     def test_refuses_a_pipe_that_replaces_a_file(self) -> None:
         os.mkfifo(self.path("pipe"))
         for pair in (("pipe", "one.ts"), ("one.stl", "pipe")):
-            request = request_for(*map(self.path, pair))
+            request = make_example_request(*map(self.path, pair))
             with mock.patch.object(batch, "judge_and_report", return_value=mock.Mock(status=0)), \
                     contextlib.redirect_stderr(io.StringIO()) as errors:
                 status = batch.judge_forked_pair(request, PairOptions(None))
             self.check(f"{pair}", (status, f"{self.path('pipe')} is a pipe" in errors.getvalue()),
                        (2, True))
 
-    def test_takes_a_verdict_only_with_its_own_status(self) -> None:
-        request = request_for(self.path("one.stl"), self.path("one.ts"))
+    def test_rejects_a_verdict_with_another_status(self) -> None:
+        request = make_example_request(self.path("one.stl"), self.path("one.ts"))
         rows: list[tuple[str, int, bool]] = [
             ("accepted", 0, True), ("refused", 1, True), ("accepted", 1, False),
             ("refused", 0, False), *((verdict, -number, False) for verdict in (
                 "accepted", "refused") for number in (1, 2, 9))]
         for (verdict, status, counts), is_over in itertools.product(rows, (False, True)):
-            calls, call = self.runner(), mock.Mock(**{"wait.return_value": (status, ["qc: why"])})
-            calls.running[call] = batch.RunningPair(
+            calls, call = self.make_runner(), mock.Mock(**{"wait.return_value": (status,
+                                                                                 ["qc: why"])})
+            calls.running_pairs[call] = batch.RunningPair(
                 BatchItem("one", request, None), 7, contextlib.ExitStack())
-            calls.over_limit |= {call} if is_over else {mock.Mock()}
+            calls.overdue_processes |= {call} if is_over else {mock.Mock()}
             write_result_file(self.path("out/one.json"), make_result(verdict))
             row = calls.finish(call)
             self.must(f"{verdict} {status} {is_over}", row.verdict == (
-                verdict if counts else "not judged") and call not in calls.over_limit and (
+                verdict if counts else "not judged") and call not in calls.overdue_processes and (
                     "it used more than 7 seconds" in row.line) == (is_over and not counts) and
                 json.loads(self.read("out/one.json"))["verdict"] == row.verdict, row)
 
-    def test_takes_the_last_message_as_the_reason(self) -> None:
-        calls = self.runner()
-        calls.over_limit.add(mock.Mock())
+    def test_uses_the_last_message_as_the_reason(self) -> None:
+        calls = self.make_runner()
+        calls.overdue_processes.add(mock.Mock())
         with mock.patch.object(batch, "judge_forked_pair", lambda *_: 2 * bool(os.write(
                 2, b"qc: first\nqc: caf\xe9: \x1b\n"))):
-            calls.start(BatchItem("one", request_for(self.path("one.stl"), self.path("one.ts")),
+            calls.start(BatchItem("one",
+                                  make_example_request(self.path("one.stl"), self.path("one.ts")),
                                   None))
-        [row] = calls.finished_rows(SECONDS)
+        [row] = calls.collect_rows(SECONDS)
         self.must("its line", (row.verdict, row.line) == ("not judged", "caf\ufffd: \x1b"), row)
 
     def test_a_forked_call_inherits_no_files(self) -> None:
@@ -193,22 +199,22 @@ class UnjudgedPairs(Case):
         before = os.dup(0)
         os.dup2(files[0], 0)
         call = batch.ForkedProcess(lambda: len(os.read(0, 9)) + 2 * any(os.path.exists(
-            f"/proc/self/fd/{one}") and os.path.samefile(f"/proc/self/fd/{one}", files[0])
-            for one in files))
+            f"/proc/self/fd/{item}") and os.path.samefile(f"/proc/self/fd/{item}", files[0])
+            for item in files))
         os.dup2(before, 0)
         self.must("nothing to read", call.wait() == (0, []))
-        for one in (before, *files):
-            os.close(one)
+        for item in (before, *files):
+            os.close(item)
 
-    def test_takes_the_national_option_of_the_judged_file(self) -> None:
-        path = self.write("one.stl", example_bytes("story.stl"))
-        request = request_for(path, example("story.pes"), "--option", "auto")
-        typed = request_for(path, example("story.pes"), "--option", "english")
-        data = example_bytes("story.stl")
+    def test_uses_the_national_option_of_the_judged_file(self) -> None:
+        path = self.write("one.stl", read_example_file("story.stl"))
+        request = make_example_request(path, get_example_path("story.pes"), "--option", "auto")
+        typed = make_example_request(path, get_example_path("story.pes"), "--option", "english")
+        data = read_example_file("story.stl")
         self.write("one.stl", data[:14] + b"08" + data[16:])
-        for one, option in ((request, "german"), (typed, "english")):
-            keep_stl(one, self.folder)
-            self.check("option", one.option, option)
+        for item, option in ((request, "german"), (typed, "english")):
+            keep_stl(item, self.folder)
+            self.check("option", item.option, option)
 
     def test_judges_one_line_while_a_batch_runs(self) -> None:
         names = ("two.stl", "two.ts", "levels")
@@ -224,7 +230,7 @@ class UnjudgedPairs(Case):
         self.addCleanup(os.chdir, os.getcwd())
         os.chdir(self.folder)
         words = ["--batch", "list", "--line", "1", "-o", "out", "-p", self.bench.program]
-        with mock.patch.object(batch, "judge_forked_pair", judge), claim_folder("out"), \
+        with mock.patch.object(batch, "judge_forked_pair", judge), lock_folder("out"), \
                 contextlib.redirect_stdout(io.StringIO()), \
                 contextlib.redirect_stderr(io.StringIO()) as errors:
             self.must("judged", run_qc(words) == 0 and
@@ -262,13 +268,13 @@ class OutputsAndSignals(CallCase):
         begins = {"--json": "{", "--csv": "stl,recording,", "--junit": "<?xml"}
         for option, name in (*itertools.product(begins, "-"), *itertools.product(
                 ["--json"], ("/dev/stdout", "/dev/fd/1", "/proc/self/fd/1"))):
-            for done in (self.judge(program, option, name),
-                         self.qc("--collect", self.path("results"), option, name)):
-                reported = "\n".join(done.told)
-                self.must(f"{option} {name}", done.status == 0 and "accepted" in reported and
-                          done.printed[0].startswith(begins[option]) and not any(
+            for process in (self.judge(program, option, name),
+                            self.qc("--collect", self.path("results"), option, name)):
+                reported = "\n".join(process.told)
+                self.must(f"{option} {name}", process.status == 0 and "accepted" in reported and
+                          process.printed[0].startswith(begins[option]) and not any(
                               line.startswith(("accepted", "pair ", "+ ", "1 pair"))
-                              for line in done.printed), done)
+                              for line in process.printed), process)
 
     def test_reports_an_output_that_fails_at_the_end(self) -> None:
         class Full(io.StringIO):
@@ -292,27 +298,28 @@ class OutputsAndSignals(CallCase):
         for count in (1, 2) if os.path.exists("/dev/full") else ():
             os.symlink("/dev/full", self.path(f"full{count}"))
             several = [f"full{at}" for at in range(1, count + 1)]
-            done = self.judge(self.fake_program(ACCEPTED), "--json", "one.json", *(
+            process = self.judge(self.fake_program(ACCEPTED), "--json", "one.json", *(
                 word for words in zip(("--csv", "--junit"), several) for word in words))
-            self.must(f"{count} of them", done.status == 2 and all(
-                name in self.object()["reason"] for name in several), done)
+            self.must(f"{count} of them", process.status == 2 and all(
+                name in self.object()["reason"] for name in several), process)
 
     def test_requires_an_output_folder(self) -> None:
         self.write("list", " ".join(HELLO).encode())
         for words in ([*HELLO, "--keep"], ["--batch", "list", "--keep"],
                       ["--batch", "list", "--resume"], ["--watch", self.folder]):
-            done = self.qc(*words)
-            self.must(f"{words}", done.status == 2 and not done.printed and
-                      " needs -o" in done.told[0], done)
+            process = self.qc(*words)
+            self.must(f"{words}", process.status == 2 and not process.printed and
+                      " needs -o" in process.told[0], process)
 
     def test_prints_profile_options_first_and_each_hint_once(self) -> None:
         program, words = self.fake_program(ACCEPTED), ("-o", "out", "--json", "one.json")
         self.write("house", b"--every 99\n")
-        done = self.judge(program, *words, "--profile", "house")
-        self.must("profile", done.printed[0].endswith("house: --every 99"), done)
+        process = self.judge(program, *words, "--profile", "house")
+        self.must("profile", process.printed[0].endswith("house: --every 99"), process)
         for is_kept in (False, True):
-            request = request_for(HELLO[0], write_pipe(self, example_bytes("hello.pes")),
-                                  "--origin", "0")
+            request = make_example_request(HELLO[0],
+                                           write_pipe(self, read_example_file("hello.pes")),
+                                           "--origin", "0")
             with mock.patch("subtitles.cli.single.list_hints", return_value=["a", "b", "a"]), \
                     mock.patch.object(single, "ignore_signals"), \
                     contextlib.redirect_stdout(io.StringIO()), \
@@ -322,7 +329,7 @@ class OutputsAndSignals(CallCase):
             [part] = self.object("out/own.json")["parts"]
             kept = part["judged_file"]["name"]
             self.must(f"{is_kept}", verdict.hints == ["a", "b"] and bool(kept) == is_kept == any(
-                one.startswith("own.recording") for one in os.listdir(self.path("out"))), part)
+                item.startswith("own.recording") for item in os.listdir(self.path("out"))), part)
 
     def test_stores_the_recording_only_if_requested(self) -> None:
         names, verdict = OutputNames("one", self.folder, self.folder), mock.Mock(parts=[])
@@ -332,12 +339,13 @@ class OutputsAndSignals(CallCase):
                 PairOptions(None, self.folder, is_kept), verdict, mock.Mock(), names)
             outputs = files.list_raw_outputs(mock.Mock(
                 **{"packets.count": count, "kept_ending": ending}))
-            self.must(f"{is_kept} {count} {ending}", [one.path for one in outputs] == [
+            self.must(f"{is_kept} {count} {ending}", [output.path for output in outputs] == [
                 self.path("one.recording.pes")] * bool(is_kept and count and ending), outputs)
             self.must("none", files.list_raw_outputs(None) == [])
         files = OutputFiles(PairOptions(None, self.folder), verdict, CommandPaths(
             "tools/qc", self.bench.program), names)
-        self.must("the object is last", [os.path.basename(one.path) for one in files.list_outputs(
+        self.must("the object is last",
+                  [os.path.basename(output.path) for output in files.list_outputs(
             None)] == ["one.html", "one.json"])
         os.symlink(self.write("theirs", b""), self.path("link"))
         for is_result in (False, True):
@@ -348,23 +356,23 @@ class OutputsAndSignals(CallCase):
             self.write("theirs", b"")
 
     def test_handles_each_signal_until_the_last_line(self) -> None:
-        for one in SIGNALS:
-            self.addCleanup(signal.signal, one, signal.getsignal(one))
+        for item in SIGNALS:
+            self.addCleanup(signal.signal, item, signal.getsignal(item))
         for some in itertools.product((False, True), repeat=len(SIGNALS)):
-            for one, is_ignored in zip(SIGNALS, some):
-                signal.signal(one, signal.SIG_IGN if is_ignored else signal.SIG_DFL)
+            for item, is_ignored in zip(SIGNALS, some):
+                signal.signal(item, signal.SIG_IGN if is_ignored else signal.SIG_DFL)
             handle_signals()
-            self.must(f"{some}: heeded", [signal.getsignal(one) for one in SIGNALS] == [
-                signal.SIG_IGN if one else signal.default_int_handler for one in some])
+            self.must(f"{some}: heeded", [signal.getsignal(item) for item in SIGNALS] == [
+                signal.SIG_IGN if item else signal.default_int_handler for item in some])
             ignore_signals()
-            self.must(f"{some}: ignored", {signal.getsignal(one) for one in SIGNALS} == {
+            self.must(f"{some}: ignored", {signal.getsignal(item) for item in SIGNALS} == {
                 signal.SIG_IGN})
         seen: list[tuple[str, bool]] = []
-        for one in SIGNALS:
-            signal.signal(one, signal.default_int_handler)
+        for item in SIGNALS:
+            signal.signal(item, signal.default_int_handler)
 
         def put(line: str, _: object) -> None:
-            seen.append((line, all(signal.getsignal(one) == signal.SIG_IGN for one in SIGNALS)))
+            seen.append((line, all(signal.getsignal(item) == signal.SIG_IGN for item in SIGNALS)))
 
         with mock.patch.object(Printer, "write_line", staticmethod(put)):
             self.judge(self.fake_program(ACCEPTED))

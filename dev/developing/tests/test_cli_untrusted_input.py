@@ -18,7 +18,7 @@ from developing.looks import find_browser
 from subtitles.cli.collection import make_index_page
 from subtitles.common.markup import POLICY
 from subtitles.results.files import Row
-from .bench import Case, Done, example, example_bytes, tool_path
+from .bench import Case, CompletedCall, get_example_path, get_tool_path, read_example_file
 from .transmissions import write_pipe
 
 TAGS = {"html", "head", "meta", "title", "style", "body", "h1", "p", "small", "table", "thead",
@@ -27,7 +27,7 @@ TAGS = {"html", "head", "meta", "title", "style", "body", "h1", "p", "small", "t
 ATTRIBUTES = {"lang", "charset", "http-equiv", "content", "name", "class", "href", "scope", "type",
               "value", "checked"}
 # An HTML page that loads other pages in frames, and then lists their contents.
-AROUND = """<!DOCTYPE html><html><body><script>
+HTML_AROUND = """<!DOCTYPE html><html><body><script>
 addEventListener("load", () => setTimeout(() => {{
   document.getElementById("told").textContent = JSON.stringify(
     [...document.querySelectorAll("iframe")].map(
@@ -45,34 +45,36 @@ class Inputs(Case):
     def test_never_overwrites_the_input_of_another_pair(self) -> None:
         os.mkdir(self.path("out"))
         for name in ("a.stl", "b.stl", "c.stl", "b.pes", "out/b.json"):
-            self.write(name, example_bytes("hello.stl" if name.endswith("stl") else "hello.pes"))
+            self.write(name,
+                       read_example_file("hello.stl" if name.endswith("stl") else "hello.pes"))
         self.write("list", b"a.stl out/b.json\nb.stl b.pes\na.stl b.pes --severity out/c.txt\n"
                    b"c.stl b.pes\n")
         self.write("out/c.txt", b"67 warning\n")
         before = {name: self.read(f"out/{name}") for name in os.listdir(self.path("out"))}
-        done = self.call([tool_path("qc"), "--batch", "list", "-o", "out", "-p",
-                          self.bench.program])
-        table = done.out.decode()
-        self.must("told", done.status == 2 and "4 pairs: 2 relative, 2 not judged" in table and all(
+        process = self.call([get_tool_path("qc"), "--batch", "list", "-o", "out", "-p",
+                             self.bench.program])
+        table = process.out.decode()
+        self.must("told", process.status == 2 and "4 pairs: 2 relative, 2 not judged" in table
+                  and all(
             f" not judged          out/{name} is also an input: give another name" in table
-            for name in ("b.json", "c.txt")), (done, table))
+            for name in ("b.json", "c.txt")), (process, table))
         self.must("as they were", all(self.read(f"out/{name}") == data
                                       for name, data in before.items()))
         self.must("of the others", sorted(os.listdir(self.path("out"))) == sorted([
-            *before, "index.html", *(f"{name}.{one}" for name in ("a", "a~2")
-                                     for one in ("html", "json", "txt"))]))
+            *before, "index.html", *(f"{name}.{item}" for name in ("a", "a~2")
+                                     for item in ("html", "json", "txt"))]))
 
 
 class ListLines(Case):
-    def judge(self, list_name: str) -> Done:
-        return self.call([tool_path("qc"), "--batch", list_name, "-p", self.bench.program],
+    def judge(self, list_name: str) -> CompletedCall:
+        return self.call([get_tool_path("qc"), "--batch", list_name, "-p", self.bench.program],
                          b"--page 888\n")
 
     def test_an_invalid_line_affects_no_other_line(self) -> None:
         self.write("secret", b"root:*:20228:0:99999:7:::\n")
         self.write("marked", b"\xef\xbb\xbf--page 888\n")
         self.write("long", b"#" * 65_537)
-        pair = f"{example('hello.stl')} {example('hello.pes')} --origin 0"
+        pair = f"{get_example_path('hello.stl')} {get_example_path('hello.pes')} --origin 0"
         pipe = write_pipe(self, b"--page 888\n")
         rows = {
             f"--profile {pipe}": f"{pipe} is a pipe: give a file",
@@ -87,28 +89,28 @@ class ListLines(Case):
             f"{'--within 2 ' * 127}": "it has more than 256 words"}
         for words, reason in rows.items():
             self.write("list", f"{pair} {words}\n{pair}\n".encode())
-            done = self.judge("list")
-            table = done.out.decode().splitlines()
-            self.check(f"{words[:40]}: status", done.status, 2)
+            process = self.judge("list")
+            table = process.out.decode().splitlines()
+            self.check(f"{words[:40]}: status", process.status, 2)
             self.must(f"{words[:40]}: the line", reason in table[1] and "root" not in table[1],
                       table)
             self.must(f"{words[:40]}: the next", "accepted" in table[2], table)
 
     def test_refuses_a_list_with_a_byte_order_mark(self) -> None:
-        pair = f"{example('hello.stl')} {example('hello.pes')}\n"
+        pair = f"{get_example_path('hello.stl')} {get_example_path('hello.pes')}\n"
         for name in ("utf-8-sig", "utf-16-le", "utf-16-be"):
             self.write("list", "\ufeff".encode(name.removesuffix("-sig")) + pair.encode())
             self.check(name, self.judge("list"), (2, b"", [
                 "qc: list begins with a byte order mark (BOM): save it as UTF-8 without one"]))
 
     def test_refuses_a_device_without_waiting(self) -> None:
-        stl = example("hello.stl")
+        stl = get_example_path("hello.stl")
         for words, device in (
                 ([stl, "/dev/zero"], "/dev/zero"), ([stl, "-"], "-"),
                 (["--measure", stl, "/dev/zero"], "/dev/zero")):
-            done = self.call(["sh", "-c", 'exec "$0" "$@" </dev/zero', tool_path("qc"),
-                              *words, "-p", self.bench.program])
-            self.check(f"{words}", done, (2, b"", [
+            process = self.call(["sh", "-c", 'exec "$0" "$@" </dev/zero', get_tool_path("qc"),
+                                 *words, "-p", self.bench.program])
+            self.check(f"{words}", process, (2, b"", [
                 f"qc: {device} is a device: give a file or a pipe"]))
         self.write("list", f"{stl} /dev/zero\n".encode())
         self.must("in a list", b"/dev/zero is a device" in self.judge("list").out)
@@ -116,43 +118,47 @@ class ListLines(Case):
 
 class MissingResources(Case):
     def test_status_does_not_depend_on_standard_error(self) -> None:
-        pair = [example("story.stl"), example("story.pes")]
-        wrong = [pair[0], example("five-faults.pes")]
+        pair = [get_example_path("story.stl"), get_example_path("story.pes")]
+        wrong = [pair[0], get_example_path("five-faults.pes")]
         rows = {"a pair": ([*pair, "--origin", "0"], 0), "one without a clock": (pair, 3),
                 "one with results": ([*pair, "--origin", "0", "-o", "out"], 0),
                 "a subtitle file": (pair[:1], 0), "one that is refused": (wrong, 1),
                 "no file": (["none.stl"], 2), "a pair that is not": ([*pair, "--page", "150"], 2)}
         for (name, (words, status)), ending in itertools.product(
                 rows.items(), ["2>&-", *["2>/dev/full"] * os.path.exists("/dev/full")]):
-            known = self.call(["sh", "-c", 'exec "$0" "$@"', tool_path("qc"), *words, "-p",
+            known = self.call(["sh", "-c", 'exec "$0" "$@"', get_tool_path("qc"), *words, "-p",
                                self.bench.program])
-            done = self.call(["sh", "-c", f'exec "$0" "$@" {ending}', tool_path("qc"), *words,
-                              "-p", self.bench.program])
-            self.check(f"{name} {ending}", done, known._replace(status=status, told=[]))
+            process = self.call(["sh", "-c", f'exec "$0" "$@" {ending}',
+                                 get_tool_path("qc"), *words, "-p", self.bench.program])
+            self.check(f"{name} {ending}", process, known._replace(status=status, told=[]))
 
     def test_accepts_or_reports_too_little_memory(self) -> None:
-        pair = [example("story.stl"), example("story.pes"), "--origin", "0", "-o", "out"]
+        pair = [get_example_path("story.stl"), get_example_path("story.pes"), "--origin", "0",
+                "-o", "out"]
         for size in range(20_000, 64_000, 4_000):
-            done = self.call(["sh", "-c", f'ulimit -v {size}; exec "$0" "$@"', sys.executable,
-                              tool_path("qc"), *pair, "-p", self.bench.program])
-            lines = done.out.splitlines()
+            process = self.call(["sh", "-c", f'ulimit -v {size}; exec "$0" "$@"', sys.executable,
+                                 get_tool_path("qc"), *pair, "-p", self.bench.program])
+            lines = process.out.splitlines()
             is_accepted = bool(lines) and lines[-1].startswith(b"accepted")
-            self.check(f"{size} kB: status", done.status, 0 if is_accepted else 2)
-            self.must(f"{size} kB: a message", is_accepted or done.told and not any(
-                "internal error:" in line or "Traceback" in line for line in done.told), done)
+            self.check(f"{size} kB: status", process.status, 0 if is_accepted else 2)
+            self.must(f"{size} kB: a message", is_accepted or process.told and not any(
+                "internal error:" in line or "Traceback" in line for line in process.told), process)
 
 
 class UntrustedResults(Case):
-    PIECES = ["<script>document.title='run'</script>", "<img src='http://127.0.0.1:9/x' onerror="
-              "'document.title=1'>", '"><svg onload="document.title=1">', "</title>", "&lt;", "a b",
-              "javascript:1", "{}", "\x1b[31m", "\u202e", "</style><b>", "<!--", "]]>", "'", "\n"]
+    HTML_FRAGMENTS = ["<script>document.title='run'</script>",
+                      "<img src='http://127.0.0.1:9/x' onerror='document.title=1'>",
+                      '"><svg onload="document.title=1">', "</title>", "&lt;", "a b",
+                      "javascript:1", "{}", "\x1b[31m", "\u202e", "</style><b>", "<!--", "]]>",
+                      "'", "\n"]
 
     def page(self, number: int) -> str:
         """Write an index page with random texts. Return its path."""
         chance = random.Random(number)
 
         def text() -> str:
-            return "".join(chance.choice(self.PIECES) for _ in range(chance.randrange(1, 5)))
+            return "".join(chance.choice(self.HTML_FRAGMENTS)
+                           for _ in range(chance.randrange(1, 5)))
 
         rows = [Row(text(), text(), chance.choice(["accepted", "refused", "not judged", text()]),
                     chance.randrange(3), text(), chance.randrange(9), {text(): 1, text(): 2},
@@ -163,9 +169,9 @@ class UntrustedResults(Case):
         for number in range(200):
             with open(self.page(number), encoding="utf-8") as file:
                 root = tree.fromstring(re.sub("&(times|hellip);", "", file.read()))
-            for one in root.iter():
-                self.assertIn(one.tag.rpartition("}")[2], TAGS, one)
-                self.assertLessEqual(one.attrib.keys(), ATTRIBUTES, one)
+            for item in root.iter():
+                self.assertIn(item.tag.rpartition("}")[2], TAGS, item)
+                self.assertLessEqual(item.attrib.keys(), ATTRIBUTES, item)
         self.assertIn(POLICY, self.read("0.html").decode().replace("&#x27;", "'"))
 
     def test_loads_and_runs_nothing_in_a_browser(self) -> None:
@@ -175,20 +181,20 @@ class UntrustedResults(Case):
         self.write("wrong.html", b"<title>a</title><table></table><script>document.title = 'run';"
                    b" console.log('run')</script>")
         names = [*(os.path.basename(self.page(number)) for number in range(30)), "wrong.html"]
-        all_of_them = self.write("all.html", AROUND.format(frames="".join(
+        all_of_them = self.write("all.html", HTML_AROUND.format(frames="".join(
             f'<iframe src="{name}"></iframe>' for name in names)).encode())
         profile = self.path("profile")
-        done = self.call([command, "--headless", "--no-sandbox", "--disable-gpu",
-                          "--allow-file-access-from-files", f"--user-data-dir={profile}",
-                          "--enable-logging=stderr", "--virtual-time-budget=10000", "--dump-dom",
-                          f"file://{all_of_them}"])
-        reported = re.search('<pre id="told">(.*)</pre>', done.out.decode(), re.S)
+        process = self.call([command, "--headless", "--no-sandbox", "--disable-gpu",
+                             "--allow-file-access-from-files", f"--user-data-dir={profile}",
+                             "--enable-logging=stderr", "--virtual-time-budget=10000", "--dump-dom",
+                             f"file://{all_of_them}"])
+        reported = re.search('<pre id="told">(.*)</pre>', process.out.decode(), re.S)
         texts = json.loads(html.unescape(reported[1])) if reported else []
-        self.must("each", len(texts) == len(names), done)
+        self.must("each", len(texts) == len(names), process)
         for name, text in zip(names, texts):
             is_wrong = name == "wrong.html"
-            logged = any("CONSOLE" in line and f"/{name} " in line for line in done.told)
-            self.must(name, "<table" in text and logged == is_wrong, done.told)
+            logged = any("CONSOLE" in line and f"/{name} " in line for line in process.told)
+            self.must(name, "<table" in text and logged == is_wrong, process.told)
             self.must(f"{name}: as it was written", ("<title>run" in text) == is_wrong)
 
 
@@ -197,9 +203,10 @@ class EarlySignals(Case):
         for number, starts in STARTS.items():
             for after in ALL_STARTS if self.bench.is_timed else starts:
                 with subprocess.Popen(
-                        [tool_path("qc"), example("story.stl"), example("story.pes"), "--origin",
-                         "0", "-p", self.bench.program], stdin=subprocess.DEVNULL,
-                        stdout=subprocess.PIPE, stderr=subprocess.PIPE) as process:
+                        [get_tool_path("qc"), get_example_path("story.stl"),
+                         get_example_path("story.pes"), "--origin", "0", "-p", self.bench.program],
+                        stdin=subprocess.DEVNULL, stdout=subprocess.PIPE,
+                        stderr=subprocess.PIPE) as process:
                     time.sleep(after / 1000)
                     process.send_signal(number)
                     out, errors = process.communicate()

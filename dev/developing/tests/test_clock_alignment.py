@@ -6,16 +6,16 @@ import random
 import unittest
 from typing import Callable, Sequence
 
-from developing.multiplex import Multiplex, TENTH
+from developing.multiplex import Multiplex, TENTH_TICKS
 from subtitles.clock.alignment import (
-    Drift, EarlyCues, ExpectedCue, ExpectedSubtitle, FEW_TEXTS, MAX_ERASED, MatchedChange, RARE,
-    TimeBase, UNSEEN_SHARE, choose_clock, find_drift, find_expected_cues, find_repeat,
+    Drift, EarlyCues, ExpectedCue, ExpectedSubtitle, MAX_ERASED_FRAMES, MIN_TEXTS, MatchedChange,
+    RARE_SHARE, TimeBase, UNSEEN_SHARE, choose_clock, find_drift, find_expected_cues, find_repeat,
     find_time_bases, find_usual_delay)
 from subtitles.clock.origin import OriginEstimate
 from subtitles.clock.start import Clock, RECORDING, TimedPart
 from subtitles.clock.stretches import have_equal_steps, is_repeated_airing
 from subtitles.common.command_line import Lateness, parse_lateness
-from subtitles.common.times import CLOCK, FRAMES_OF_A_DAY, Span, TICKS, time_in
+from subtitles.common.times import CLOCK, FRAMES_OF_A_DAY, Span, TICKS, compute_time
 from subtitles.judging.part import belongs_to_part, find_lost_spans, find_recorded_span
 
 from subtitles.stream.gaps import LossPlace
@@ -23,22 +23,24 @@ from subtitles.stream.packets import PageChange
 from .bench import Case
 from .judged import JudgedPair, judge_files
 from .parts import make_part
-from .transmissions import pes_file, delayed, write_programme, schedule_pages
-from .test_clock_delays import FIRST, evenly_spaced
-from .test_clock_properties import find_origin, packets_of, page_changes, random_programme
+from .transmissions import join_pes_packets, make_delay, write_programme, schedule_pages
+from .test_clock_delays import FIRST_TCI, make_even_times
+from .test_clock_properties import (
+    find_origin, make_page_changes, make_random_cues, make_sent_packets)
 
-TEXT, OTHER = ((20, b"text"),), ((20, b"other"),)
+TEXT, OTHER_TEXT = ((20, b"text"),), ((20, b"other"),)
 
 
 class Edges(Case):
-    def test_finds_a_cue_where_the_look_changes(self) -> None:
-        one = ExpectedSubtitle(10, 20, (20, 2, b"one"), b"one")
+    def test_finds_a_cue_where_the_page_changes(self) -> None:
+        expected_subtitle = ExpectedSubtitle(10, 20, (20, 2, b"one"), b"one")
         for name, other, frames in (
-                ("a pause", one._replace(begin=25, end=30), [10, 20, 25, 30]),
-                ("the same once more", one._replace(begin=20, end=30), [10, 30]),
+                ("a pause", expected_subtitle._replace(begin=25, end=30), [10, 20, 25, 30]),
+                ("the same once more", expected_subtitle._replace(begin=20, end=30), [10, 30]),
                 ("on another row", ExpectedSubtitle(20, 30, (22, 2, b"one"), b"one"), [10, 20, 30]),
                 ("other letters", ExpectedSubtitle(20, 30, (20, 2, b"two"), b"two"), [10, 20, 30])):
-            self.must(name, [cue.frame for cue in find_expected_cues([one, other])] == frames)
+            self.must(name, [cue.frame
+                             for cue in find_expected_cues([expected_subtitle, other])] == frames)
 
 
 class BeginsAndEnds(Case):
@@ -47,13 +49,13 @@ class BeginsAndEnds(Case):
         cues = find_expected_cues(several)
         for is_begin in (True, False):
             for others, is_told in ((0, True), (1, True), (2, False)):
-                late = [one for one in cues if one.is_begin == is_begin][others:]
+                late = [item for item in cues if item.is_begin == is_begin][others:]
                 changes = [PageChange(TICKS * (cue.frame + 7 * (cue in late)), cue.letters, at,
                                       ((20, cue.letters),)) for at, cue in enumerate(cues)]
                 base = TimeBase(cues, changes, 0, 1000 * TICKS, (0, 19), 0)
-                found = base.find_cue_offset(base.compare(0))
-                self.must(f"{is_begin} {others}", (found and found[:3]) == (
-                    (is_begin, 7, 10 - others) if is_told else None), found)
+                cue_offset = base.find_cue_offset(base.compare(0))
+                self.must(f"{is_begin} {others}", (cue_offset and cue_offset[:3]) == (
+                    (is_begin, 7, 10 - others) if is_told else None), cue_offset)
 
 
 class RepeatedPages(Case):
@@ -62,12 +64,12 @@ class RepeatedPages(Case):
             def change(frame: int, letters: bytes, number: int) -> PageChange:
                 pts = (origin + frame * TICKS) % CLOCK
                 return PageChange(pts, letters, number, () if not letters else
-                                  TEXT if letters == b"text" else OTHER)
+                                  TEXT if letters == b"text" else OTHER_TEXT)
 
-            for frame, most, wanted in ((3, 1, 2), (3, 2, 2), (4, 1, None), (4, 2, 2), (52, 50, 2),
-                                        (53, 50, None)):
+            for frame, most, expected in ((3, 1, 2), (3, 2, 2), (4, 1, None), (4, 2, 2),
+                                          (52, 50, 2), (53, 50, None)):
                 changes = [change(0, b"text", 0), change(2, b"", 1), change(frame, b"text", 2)]
-                self.must(f"{origin} {frame} {most}", find_repeat(changes, 0, most) == wanted,
+                self.must(f"{origin} {frame} {most}", find_repeat(changes, 0, most) == expected,
                           find_repeat(changes, 0, most))
             changes = [change(0, b"text", 0), change(2, b"", 1), change(3, b"other", 2),
                        change(4, b"text", 3)]
@@ -83,7 +85,7 @@ class RepeatedPages(Case):
                                               () if at % 2
                                               else TEXT) for at, frame in enumerate(frames)],
                             0, 1000 * TICKS, (0, 5), 0)
-            if away <= min(MAX_ERASED, due - 1):
+            if away <= min(MAX_ERASED_FRAMES, due - 1):
                 del frames[1:3]
             self.must(f"{due} {away}", [*base.changes] == frames, base.changes)
             self.must("some", [*base.copy_between(cues, 100, 160).changes] == frames[1:-1])
@@ -103,7 +105,7 @@ INSERTERS: dict[str, tuple[int, Inserter]] = {
     "never on time": (2, lambda chance, is_begin: chance.randrange(1, 3) if is_begin else 1)}
 
 
-def measured_delays(inserter: Inserter) -> Lateness:
+def measure_inserter_delays(inserter: Inserter) -> Lateness:
     """Return delays of an inserter, as if they had been measured with a known clock."""
     chance = random.Random(99)
     kinds = [[inserter(chance, is_begin) for _ in range(400)] for is_begin in (True, False)]
@@ -116,84 +118,87 @@ def do_all_agree(origin: OriginEstimate) -> bool:
 
 
 class EstimatedClocks(unittest.TestCase):
-    def test_takes_the_earliest_delay_of_half_as_many_cues_as_the_commonest(self) -> None:
+    def test_uses_the_earliest_common_delay(self) -> None:
         rows: list[tuple[dict[int, int], dict[int, int], int]] = [
             ({}, {}, 0), ({0: 1}, {}, 0), ({0: 1, 2: 1}, {}, 0), ({3: 9}, {}, 3),
             ({0: 5, 2: 10}, {}, 0), ({0: 4, 2: 10}, {}, 2), ({0: 2, 2: 4}, {}, 2),
             ({0: 3, 2: 6}, {}, 0), ({0: 1, 2: 2}, {}, 2), ({0: 2, 2: 2}, {}, 0),
             ({1: 20}, {0: 20}, 0), ({1: 20}, {0: 2, 1: 18}, 1), ({1: 90}, {0: 9}, 1),
             ({1: 90}, {0: 10}, 0), ({0: 1, 1: 19}, {1: 20}, 1)]
-        for begins, ends, wanted in rows:
-            self.assertEqual(find_usual_delay(begins, ends), wanted, (begins, ends))
+        for begins, ends, expected in rows:
+            self.assertEqual(find_usual_delay(begins, ends), expected, (begins, ends))
 
-    def clock_delay(self, delays: Sequence[int], within: int, shares: Lateness | None = None
+    def estimate_clock_delay(self, delays: Sequence[int], within: int,
+                             shares: Lateness | None = None
               ) -> tuple[int, EarlyCues | None]:
         """Return by how many frames the clock is later than the first cue, and the early cues."""
         frames = [100 * at + at * at for at in range(1, len(delays) + 1)]
         cues = [ExpectedCue(frame, b"%d" % at, True) for at, frame in enumerate(frames)]
-        base = find_time_bases([], packets_of([(TICKS * (frame + by), cue.letters) for frame, by,
-                                               cue in
-                                               zip(frames, delays, cues)]), within)[0]
+        base = find_time_bases([],
+                               make_sent_packets([(TICKS * (frame + by), cue.letters) for frame, by,
+                                                  cue in
+                                                  zip(frames, delays, cues)]), within)[0]
         base = base.copy_between(cues, -1, 1 << 40)
         fit = base.fit(base.fits[0].start)
         best, early = choose_clock(base, fit, shares)
         return fit.start - best.start, early
 
     def test_counts_cues_before_the_usual_clock(self) -> None:
-        for delays, within, wanted in (
+        for delays, within, expected in (
                 ([0] * 9, 2, (0, None)), ([2] * 9, 2, (0, None)), ([0, 1, 2] * 4, 2, (0, None)),
                 ([0, *[2] * 8], 2, (2, EarlyCues(1, 9, 2))),
             ([0, *[1] * 19], 1, (1, EarlyCues(1, 20, 1))),
                 ([0, *[1] * 20], 1, (1, EarlyCues(1, 21, 1))),
                 ([0, 1, *[2] * 50], 2, (2, EarlyCues(2, 52, 2)))):
-            self.assertEqual(self.clock_delay(delays, within), wanted, delays)
+            self.assertEqual(self.estimate_clock_delay(delays, within), expected, delays)
         self.assertEqual([EarlyCues(count, of, 1).is_common_delay for count, of in (
-            (1, RARE), (1, RARE + 1), (2, 2 * RARE), (2, 2 * RARE + 1))], [True, False] * 2)
+            (1, RARE_SHARE), (1, RARE_SHARE + 1), (2, 2 * RARE_SHARE), (2, 2 * RARE_SHARE + 1))],
+                         [True, False] * 2)
 
-    def test_takes_the_likeliest_clock_for_known_delays(self) -> None:
-        for delays, text, wanted in (
+    def test_finds_the_likeliest_clock_for_known_delays(self) -> None:
+        for delays, text, expected in (
                 ([0] * 9, "0:1/0:1", 0), ([0] * 9, "1:1/0:1", -1), ([0] * 9, "2:1/0:1", -2),
                 ([0] * 9, "0:1,2:9/0:1", -2), ([0] * 9, "0:1,1:1,2:1/0:1", 0),
                 ([0, 1, 2] * 4, "0:1,1:1,2:1/0:1", 0), ([0, *[2] * 8], "0:1/0:1", 2),
                 ([0, *[2] * 8], "0:1,2:8/0:1", 0), ([0, *[2] * 8], "1:1,2:8/0:1", 0),
                 ([0, *[1] * 19], "0:95,1:5/0:1", 1), ([0, *[1] * 19], "0:5,1:95/0:1", 0),
                 ([0, 0, 1, 2], "0:1,1:2,2:1/0:1", -0)):
-            by, early = self.clock_delay(delays, 2, parse_lateness(text))
-            self.assertEqual((by, early), (wanted, None), (delays, text))
+            by, early = self.estimate_clock_delay(delays, 2, parse_lateness(text))
+            self.assertEqual((by, early), (expected, None), (delays, text))
         self.assertLess(UNSEEN_SHARE, 1 / 400)
 
     def test_accepts_correct_inserters_or_reports_rare_cues_as_early(self) -> None:
         for name, (within, inserter) in INSERTERS.items():
-            shares = measured_delays(inserter)
+            shares = measure_inserter_delays(inserter)
             for seed in range(6):
                 chance = random.Random(seed)
-                shown = [one._replace(letters=b"text %d" % at, begin=one.begin + 30 * at,
-                                      end=one.end + 30 * at)
-                         for at, one in enumerate(random_programme(chance, (12, 40)[seed % 2]))]
+                shown = [item._replace(letters=b"text %d" % at, begin=item.begin + 30 * at,
+                                       end=item.end + 30 * at)
+                         for at, item in enumerate(make_random_cues(chance, (12, 40)[seed % 2]))]
                 cues = find_expected_cues(shown)
                 times = [(pts + TICKS * inserter(chance, cue.is_begin), text)
-                         for (pts, text), cue in zip(page_changes(cues, 0), cues)]
+                         for (pts, text), cue in zip(make_page_changes(cues, 0), cues)]
                 with self.subTest(name, seed=seed):
-                    one = find_origin(shown, packets_of(times), within, late=shares)
-                    self.assertTrue(one.status == 0 and do_all_agree(one), one.lines)
-                    one = find_origin(shown, packets_of(times), within)
-                    before = [line for line in one.lines if " early compared with" in line]
-                    self.assertTrue(one.status == 0 and do_all_agree(one) or before, one.lines)
+                    item = find_origin(shown, make_sent_packets(times), within, late=shares)
+                    self.assertTrue(item.status == 0 and do_all_agree(item), item.lines)
+                    item = find_origin(shown, make_sent_packets(times), within)
+                    before = [line for line in item.lines if " early compared with" in line]
+                    self.assertTrue(item.status == 0 and do_all_agree(item) or before, item.lines)
 
     def test_reports_an_early_cue_of_a_known_inserter(self) -> None:
         for name, (within, inserter) in INSERTERS.items():
             if name in ("any of six", "seldom late"):
                 continue  # early in-cues are usual for these inserters
             chance = random.Random(5)
-            shown = [one._replace(letters=b"text %d" % at)
-                     for at, one in enumerate(random_programme(chance, 30))]
-            cues, shares = find_expected_cues(shown), measured_delays(inserter)
+            shown = [item._replace(letters=b"text %d" % at)
+                     for at, item in enumerate(make_random_cues(chance, 30))]
+            cues, shares = find_expected_cues(shown), measure_inserter_delays(inserter)
             begins = [at for at, cue in enumerate(cues) if cue.is_begin]
             times = [(pts + TICKS * (-1 if at == begins[20] else inserter(chance, cue.is_begin)),
                       text) for at,
-                     ((pts, text), cue) in enumerate(zip(page_changes(cues, 0), cues))]
-            one = find_origin(shown, packets_of(sorted(times)), within, late=shares)
-            self.assertFalse(do_all_agree(one), (name, one.lines))
+                     ((pts, text), cue) in enumerate(zip(make_page_changes(cues, 0), cues))]
+            item = find_origin(shown, make_sent_packets(sorted(times)), within, late=shares)
+            self.assertFalse(do_all_agree(item), (name, item.lines))
 
 
 class Drifts(unittest.TestCase):
@@ -205,7 +210,7 @@ class Drifts(unittest.TestCase):
 
     def test_finds_only_a_steady_drift(self) -> None:
         steady = [at // 3 for at in range(12)]
-        for delays, wanted in (
+        for delays, expected in (
                 (steady, Drift(0, 1100, 3)), ([-by for by in steady], Drift(0, 1100, -3)),
                 ([0, 0, 0, 0, 1, 1, 1, 1, 2, 2, 2, 2], Drift(0, 1100, 2)),
                 ([*range(0, 48, 4)], Drift(0, 1100, 44)), *(
@@ -214,10 +219,10 @@ class Drifts(unittest.TestCase):
                 ([0] * 6 + [1] * 6, None), ([0] * 6 + [2] * 6, None), ([0] * 6 + [3] * 6, None),
                 ([0] * 9 + [3] * 3, None), ([0, 1, 2] * 4, None), ([0, 2] * 6, None),
                 ([0, 0, 2, 2, 0, 0, 2, 2, 0, 0, 2, 2], None),
-                ([2 * at for at in range(FEW_TEXTS)], Drift(0, 500, 10)),
-                ([2 * at for at in range(FEW_TEXTS - 1)], None), ([], None),
+                ([2 * at for at in range(MIN_TEXTS)], Drift(0, 500, 10)),
+                ([2 * at for at in range(MIN_TEXTS - 1)], None), ([], None),
                 ([0] * 4 + [130] * 4 + [260] * 4, None)):
-            self.assertEqual(self.drift(delays), wanted, delays)
+            self.assertEqual(self.drift(delays), expected, delays)
 
     def test_measures_a_drift_by_texts_that_are_sent_once(self) -> None:
         steady = [at // 2 for at in range(12)]
@@ -243,15 +248,15 @@ class RepeatedProgrammes(unittest.TestCase):
         rows: list[tuple[list[int], bool]] = [
             ([0, 10, 20, 30], True), ([0, 1, 10, 11, 20, 21], True), ([0, 3, 9, 27, 81], False),
             ([at * at for at in range(40)], False), ([5], False), ([], True)]
-        for frames, wanted in rows:
-            self.assertEqual(have_equal_steps(frames), wanted, frames)
+        for frames, expected in rows:
+            self.assertEqual(have_equal_steps(frames), expected, frames)
 
-    def test_takes_half_of_the_cues_for_a_repeat(self) -> None:
-        base = find_time_bases([], packets_of([(0, b"a")]), 0)[0]
+    def test_half_of_the_cues_make_a_repeat(self) -> None:
+        base = find_time_bases([], make_sent_packets([(0, b"a")]), 0)[0]
         base = base.copy_between([ExpectedCue(at, b"%d" % at if at % 2 == 0 else b"", at % 2 == 0)
                                   for at in range(40)], -1, 1)
         first = {at: (0, at) for at in range(40)}
-        for some, known, wanted in (
+        for some, known, expected in (
                 (range(20), first, True), (range(19), first, False), (range(0, 40, 2), first, True),
                 (range(1, 40, 2), first, False), (range(0, 20, 4), first, False),
                 ((0, 4, 8, 16, 20), first, True), ((0, 4, 8, 16, 18), first, False),
@@ -259,58 +264,60 @@ class RepeatedProgrammes(unittest.TestCase):
                 ((0, 4, 8, 16, 20), {0: (0, 0), 4: (0, 4), 20: (0, 20)}, True), ((), first, False),
                 (range(0, 24, 4), {at: (0, at) for at in (0, 4, 20)}, True)):
             self.assertEqual(is_repeated_airing([base], known, {at: (0, 100 + at) for at in some}),
-                             wanted, some)
+                             expected, some)
 
 
 class JudgedPairs(Case):
     def test_refuses_or_reports_as_unclear_an_early_subtitle(self) -> None:
         for count, word in ((6, "not judged"), (40, "refused")):
-            stl = write_programme(self, evenly_spaced(count), name=f"{count}.stl")
+            stl = write_programme(self, make_even_times(count), name=f"{count}.stl")
             sends = schedule_pages(self, stl)
-            at = evenly_spaced(count)[3][0] * TICKS
-            path = self.write("one.pes", pes_file(sorted(delayed(-2, at, at)(sends))))
+            at = make_even_times(count)[3][0] * TICKS
+            path = self.write("one.pes", join_pes_packets(sorted(make_delay(-2, at, at)(sends))))
             words = [stl, path, "--every", "25", "--no-complete", "--within", "3"]
             rows: list[tuple[list[str], str]] = [
                 ([], word), (["--origin", "0"], "refused"), (["--late", "0:1/0:1"], "refused")]
-            for more, wanted in rows:
-                one = judge_files(self, *words, *more)
-                self.must(f"{count} {more}", one.word == wanted, one.said)
-                self.must(f"{count} {more}: named", wanted != "refused" or "subtitle 4" in
-                          one.verdict.sentence and "2 frames early" in one.verdict.sentence,
-                          one.verdict.sentence)
+            for more, expected in rows:
+                item = judge_files(self, *words, *more)
+                self.must(f"{count} {more}", item.word == expected, item.said)
+                self.must(f"{count} {more}: named", expected != "refused" or "subtitle 4" in
+                          item.verdict.sentence and "2 frames early" in item.verdict.sentence,
+                          item.verdict.sentence)
                 self.must(f"{count} {more}: not all", not any(
-                    line.startswith("all subtitles are") for line in one.told), one.told)
-            one = judge_files(self, stl, self.write("two.pes", pes_file(delayed(2, at, at)(sends))),
+                    line.startswith("all subtitles are") for line in item.told), item.told)
+            item = judge_files(self, stl,
+                               self.write("two.pes",
+                                          join_pes_packets(make_delay(2, at, at)(sends))),
                          *words[2:])
-            self.must(f"{count}: late", one.word == "accepted", one.said)
+            self.must(f"{count}: late", item.word == "accepted", item.said)
 
     def judge_drift(self, frames: int) -> JudgedPair:
         """Judge twenty subtitles whose delay grows steadily to `frames` frames."""
-        stl = write_programme(self, evenly_spaced(20))
-        begin, end = evenly_spaced(20)[0][0], evenly_spaced(20)[-1][1]
-        path = self.write("one.pes", pes_file([
-            (pts + TICKS * ((pts // TICKS - begin) * frames // (end - begin)), some)
-            for pts, some in schedule_pages(self, stl)]))
+        stl = write_programme(self, make_even_times(20))
+        begin, end = make_even_times(20)[0][0], make_even_times(20)[-1][1]
+        path = self.write("one.pes", join_pes_packets([
+            (pts + TICKS * ((pts // TICKS - begin) * frames // (end - begin)), packets)
+            for pts, packets in schedule_pages(self, stl)]))
         return judge_files(self, stl, path, "--every", "30", "--no-complete", "--within", str(
             frames if frames < 5 else 0), "--pace", "none")
 
     def test_reports_a_drift_in_its_own_sentence(self) -> None:
         for frames, words in ((3, ("accepted",)), (4, ("accepted",)),
                               (8, ("refused", "not judged")), (60, ("refused", "not judged"))):
-            one = self.judge_drift(frames)
-            lines = [line for line in one.told if line.startswith(
+            item = self.judge_drift(frames)
+            lines = [line for line in item.told if line.startswith(
                 "from 10:00:00:00 to 10:01:35:00, subtitles come later and later")]
-            self.must(f"{frames}", one.word in words and len(lines) == 1 and
-                      "another frame rate?" in lines[0], one.said)
+            self.must(f"{frames}", item.word in words and len(lines) == 1 and
+                      "another frame rate?" in lines[0], item.said)
 
     def test_judges_no_run_if_one_has_wrong_texts(self) -> None:
-        times = [(FIRST + at * at * 7 + 90 * at, FIRST + at * at * 7 + 90 * at + 60 + at)
+        times = [(FIRST_TCI + at * at * 7 + 90 * at, FIRST_TCI + at * at * 7 + 90 * at + 60 + at)
                  for at in range(20)]
         stl, hour = write_programme(self, times), 3600 * 25 * TICKS
         right = schedule_pages(self, stl)
         other = schedule_pages(self, write_programme(self, times, text=b"Other words %d",
                                                      name="other.stl"))
-        few = [one for at in (0, 8, 16) for one in schedule_pages(self, write_programme(
+        few = [item for at in (0, 8, 16) for item in schedule_pages(self, write_programme(
             self, times[at:at + 3], first=at + 1, name="few.stl"))]
         rows: list[tuple[str, list[tuple[int, list[bytes]]], list[str], str]] = [
             ("wrong texts", other, [], "not judged"),
@@ -318,12 +325,13 @@ class JudgedPairs(Case):
             ("few", few, [], "not judged"),
             ("few, a clock", few, ["--origin", "0"], "not judged"), ("none", [], [], "accepted")]
         for name, second, words, word in rows:
-            both = [*right, *((pts + hour, some) for pts, some in second)]
-            one = judge_files(self, stl, self.write("one.pes", pes_file(both)), "--every", "25",
+            both = [*right, *((pts + hour, packets) for pts, packets in second)]
+            item = judge_files(self, stl, self.write("one.pes", join_pes_packets(both)),
+                               "--every", "25",
                          "--no-complete", *words)
-            self.must(name, one.word == word and (word == "accepted" or one.told[0] ==
-                                                  "the recording contains the programme "
-                                                  "twice"), one.said)
+            self.must(name, item.word == word and (word == "accepted" or item.told[0] ==
+                                                   "the recording contains the programme "
+                                                   "twice"), item.said)
 
 
 # Ticks added to all PTS: none, or numbers after which PTS wrap.
@@ -340,7 +348,7 @@ class PtsAndFrames(unittest.TestCase):
             for ticks, time in ((0, "00:00:00:00"), (25 * TICKS, "00:00:01:00"), (-TICKS, None),
                                 (TICKS * FRAMES_OF_A_DAY, None)):
                 with self.subTest(shift=shift, ticks=ticks):
-                    self.assertEqual(time_in(shift_pts(ticks, shift), shift), time)
+                    self.assertEqual(compute_time(shift_pts(ticks, shift), shift), time)
 
 
 class LossesInParts(unittest.TestCase):
@@ -354,8 +362,8 @@ class LossesInParts(unittest.TestCase):
 
     def test_finds_the_losses_that_affect_a_part(self) -> None:
         for shift, (before, after, more, wanted) in itertools.product(SHIFTS, self.PLACES):
-            pts = [None if one is None else shift_pts(TICKS * one + more, shift)
-                   for one in (before, after)]
+            pts = [None if item is None else shift_pts(TICKS * item + more, shift)
+                   for item in (before, after)]
             place = LossPlace(pts[0], pts[1], lost=1)
             with self.subTest(shift=shift, before=before, after=after):
                 self.assertEqual(belongs_to_part(place, make_part(100, 200, shift)), wanted)
@@ -364,27 +372,27 @@ class LossesInParts(unittest.TestCase):
         hour = 90_000
         for hours, shift in itertools.product((1, 12, 14, 20, 23, 24), SHIFTS):
             part = make_part(0, hours * hour, shift)
-            for at, wanted in ((-hour // 2, False), (1, True), (hours * hour // 2, True),
-                               (hours * hour - hour // 2, True), (hours * hour - 2, True),
-                               (hours * hour + hour // 2, False)):
+            for at, expected in ((-hour // 2, False), (1, True), (hours * hour // 2, True),
+                                 (hours * hour - hour // 2, True), (hours * hour - 2, True),
+                                 (hours * hour + hour // 2, False)):
                 before, after = (shift_pts(TICKS * (at + more), shift) for more in (-1, 1))
                 for place in (LossPlace(before, after), LossPlace(before, after, missing=90_000)):
-                    self.assertEqual(belongs_to_part(place, part), wanted, (hours, at))
-            found, ends = part.alignment, (-hour // 2, hours * hour + hour // 2)
-            assert found
+                    self.assertEqual(belongs_to_part(place, part), expected, (hours, at))
+            result, ends = part.alignment, (-hour // 2, hours * hour + hour // 2)
+            assert result
             seen = find_recorded_span((shift_pts(TICKS * ends[0], shift),
                                        shift_pts(TICKS * ends[1], shift)),
-                                      found)
+                                      result)
             self.assertEqual(seen, Span(*ends), hours)
 
     def test_assigns_a_gap_marker_by_its_pes_packet(self) -> None:
         part = make_part(100, 200, 0, pes=(7, 19))
-        for mark, wanted in ((0, False), (6, False), (7, True), (12, True), (19, True),
-                             (20, False)):
+        for mark, expected in ((0, False), (6, False), (7, True), (12, True), (19, True),
+                               (20, False)):
             for place in (LossPlace(None, None, gap_marker=mark),
                           LossPlace(TICKS * 150, TICKS * 151, gap_marker=mark),
                           LossPlace(TICKS * 300, None, gap_marker=mark)):
-                self.assertEqual(belongs_to_part(place, part), wanted, mark)
+                self.assertEqual(belongs_to_part(place, part), expected, mark)
 
     def test_returns_the_frames_that_a_loss_hides(self) -> None:
         day = FRAMES_OF_A_DAY
@@ -401,29 +409,32 @@ class LossesInParts(unittest.TestCase):
                     Span(0, 5), Span(7, 9), Span(20, day), Span(0, 1), Span(0, day),
                     Span(day - 1, day), Span(0, 9)])
 
-    def test_takes_the_frames_of_a_recording_from_its_pcr(self) -> None:
+    def test_computes_frames_of_a_recording_by_its_pcr(self) -> None:
         for shift, (ticks, wanted) in itertools.product(SHIFTS, (
                 ((0, 50 * TICKS), Span(0, 50)), ((1, 50 * TICKS - 1), Span(1, 49)),
                 ((-TICKS, 60 * TICKS), Span(-1, 60)), ((-1, 9 * TICKS), Span(0, 9)))):
-            first, last = (shift_pts(one, shift) for one in ticks)
-            found = TimedPart(20, 40, Clock(shift, RECORDING))
+            first, last = (shift_pts(tick, shift) for tick in ticks)
+            timed_part = TimedPart(20, 40, Clock(shift, RECORDING))
             with self.subTest(shift=shift, ticks=ticks):
-                self.assertEqual(find_recorded_span((first, last), found), wanted)
-                self.assertIsNone(find_recorded_span(None, found))
-                self.assertIsNone(find_recorded_span((first, last), found._replace(packets=(0, 1))))
+                self.assertEqual(find_recorded_span((first, last), timed_part), wanted)
+                self.assertIsNone(find_recorded_span(None, timed_part))
+                self.assertIsNone(find_recorded_span((first, last),
+                                                     timed_part._replace(packets=(0, 1))))
 
 
 class PrintedClocks(unittest.TestCase):
     def test_writes_a_pcr_every_tenth_of_a_second(self) -> None:
         for shift in SHIFTS:
             multiplex, pcr = Multiplex(0x101, b"eng", (0, 0x88)), list[int]()
-            for pts in (0, 5 * TENTH, 5 * TENTH + 7, 5 * TENTH + 130 * 10 * TENTH):
+            for pts in (0, 5 * TENTH_TICKS, 5 * TENTH_TICKS + 7,
+                        5 * TENTH_TICKS + 130 * 10 * TENTH_TICKS):
                 multiplex.add_pes_packet(b"", shift_pts(pts, shift))
             data = multiplex.take_packets()
             for at in range(0, len(data), 188):
                 if data[at + 3] & 0x20:
                     pcr.append(int.from_bytes(data[at + 6:at + 12], "big") >> 15)
-            wanted = [-TENTH, 0, TENTH, 2 * TENTH, 3 * TENTH, 4 * TENTH, 4 * TENTH + 7,
-                      5 * TENTH + 130 * 10 * TENTH - TENTH]
+            expected = [-TENTH_TICKS, 0, TENTH_TICKS, 2 * TENTH_TICKS, 3 * TENTH_TICKS,
+                        4 * TENTH_TICKS, 4 * TENTH_TICKS + 7,
+                        5 * TENTH_TICKS + 130 * 10 * TENTH_TICKS - TENTH_TICKS]
             with self.subTest(shift=shift):
-                self.assertEqual(pcr, [shift_pts(one, shift) for one in wanted])
+                self.assertEqual(pcr, [shift_pts(item, shift) for item in expected])

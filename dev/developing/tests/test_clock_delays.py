@@ -4,98 +4,103 @@ from __future__ import annotations
 import shutil
 import subprocess
 
-from developing.stl import box_line
-from subtitles.common.times import CLOCK, TICKS, time_of
-from .bench import Case, example, example_bytes
+from developing.stl import make_box_line
+from subtitles.common.times import CLOCK, TICKS, format_frame
+from .bench import Case, get_example_path, read_example_file
 from .judged import JudgedPair, ProgrammeCase, judge_files
-from .streams import H_264, HEVC, MPEG_2, SLICES, mpeg_2_picture, with_pictures
+from .streams import H_264, HEVC, MPEG_2, SLICES, make_mpeg_2_picture, add_pictures
 from .transmissions import (
-    Sent, write_pipe, make_two_parts, pes_file, delayed, with_new_pts, write_programme,
+    SentPes, write_pipe, make_two_parts, join_pes_packets, make_delay, replace_pts, write_programme,
     schedule_pages)
-from .test_cli_pairs import TS, lines_of, qc
+from .test_cli_pairs import TS, qc, split_output_lines
 
 # First TCI, interval between TCIs, and subtitle duration, in frames.
-FIRST, EACH, LASTS = 900_000, 125, 60
+FIRST_TCI, DISTANCE, DURATION = 900_000, 125, 60
 WORDS = ["--every", "25", "--no-complete"]
-STORY, BEGIN = example("story.stl"), 1_822_500  # first TCI: 20:15:00:00
-EARLIER = 25  # frames between the start of a recording and the first TCI
-FIRST_PTS, STARTED = (BEGIN - EARLIER) * TICKS, time_of(BEGIN - EARLIER)
+STORY, BEGIN = get_example_path("story.stl"), 1_822_500  # first TCI: 20:15:00:00
+START_OFFSET = 25  # frames between the start of a recording and the first TCI
+FIRST_PTS, START_TIME = (BEGIN - START_OFFSET) * TICKS, format_frame(BEGIN - START_OFFSET)
 
 
-def evenly_spaced(count: int) -> list[tuple[int, int]]:
+def make_even_times(count: int) -> list[tuple[int, int]]:
     """Return the start and end frames of `count` subtitles that begin every five seconds."""
-    return [(FIRST + EACH * at, FIRST + EACH * at + LASTS) for at in range(count)]
+    return [(FIRST_TCI + DISTANCE * at, FIRST_TCI + DISTANCE * at + DURATION)
+            for at in range(count)]
 
 
 class Delays(ProgrammeCase):
-    due, words = evenly_spaced(20), WORDS
+    due, words = make_even_times(20), WORDS
 
-    def test_is_relative_without_a_clock_and_refused_with_one(self) -> None:
+    def test_a_delay_is_refused_only_with_a_clock(self) -> None:
         clock = "clock", "delay_frames"
         for by, words in ((250, "250 frames late"), (2, "2 frames late"), (-1, "1 frame early"),
                           (0, "")):
-            sent = delayed(by)(self.sent)
-            found = self.judge(sent)
-            self.must(f"{by}", (found.verdict.word, found.verdict.status) == ("relative", 3) and
-                      found.parts("origin", "clock") == [(by * TICKS % CLOCK, {
+            sent = make_delay(by)(self.sent)
+            judged_pair = self.judge(sent)
+            self.must(f"{by}",
+                      (judged_pair.verdict.word, judged_pair.verdict.status) == ("relative", 3)
+                      and judged_pair.parts("origin", "clock") == [(by * TICKS % CLOCK, {
                           "origin": by * TICKS % CLOCK, "source": "recording",
-                          "delay_frames": None})], found.said)
-            found = self.judge(sent, "--origin", "0")
-            reported = [line for line in found.told if line.startswith("all subtitles")]
+                          "delay_frames": None})], judged_pair.said)
+            judged_pair = self.judge(sent, "--origin", "0")
+            reported = [line for line in judged_pair.told if line.startswith("all subtitles")]
             if by:
-                self.must(f"{by}: the sentence", found.verdict.sentence.startswith(
-                    f"Refused: all 20 subtitles appeared {words}"), found.verdict.sentence)
-            self.must(f"{by}: given", (found.word == "refused") == bool(by) and
+                self.must(f"{by}: the sentence", judged_pair.verdict.sentence.startswith(
+                    f"Refused: all 20 subtitles appeared {words}"), judged_pair.verdict.sentence)
+            self.must(f"{by}: given", (judged_pair.word == "refused") == bool(by) and
                       reported == [f"all subtitles are {words}"][:bool(by)] and
-                      found.result["parts"][0][clock[0]][clock[1]] == by, found.said)
+                      judged_pair.result["parts"][0][clock[0]][clock[1]] == by, judged_pair.said)
 
     def test_does_not_report_a_delay_if_all_received_cues_agree(self) -> None:
         every = self.write("all.pes", b"")
-        done = self.call([self.bench.program, "schedule", STORY, every, "--every", "25"])
-        self.must("made", done.status == 0, done)
-        found = judge_files(self, STORY, self.write("cut.pes", self.read("all.pes")[1288:2024]),
+        process = self.call([self.bench.program, "schedule", STORY, every, "--every", "25"])
+        self.must("made", process.status == 0, process)
+        judged_pair = judge_files(self, STORY,
+                                  self.write("cut.pes", self.read("all.pes")[1288:2024]),
                        "--origin", "0")
-        self.must("not late", "clock: the subtitles match --origin 0" in found.said and not any(
-            "late" in line for line in found.said if not line.startswith("refused 74 Late")) and
-            found.result["parts"][0]["clock"]["delay_frames"] in (0, None), found.said)
+        self.must("not late", "clock: the subtitles match --origin 0" in judged_pair.said
+                  and not any(
+            "late" in line for line in judged_pair.said if not line.startswith("refused 74 Late"))
+                  and
+            judged_pair.result["parts"][0]["clock"]["delay_frames"] in (0, None), judged_pair.said)
 
     def test_reports_from_which_time_subtitles_are_late(self) -> None:
-        line = f"from {time_of(self.due[10][0])} on, subtitles are "
+        line = f"from {format_frame(self.due[10][0])} on, subtitles are "
         at = self.due[10][0] * TICKS
         for by, words in ((250, "10.00 s (250 frames) late"), (130, "5.20 s (130 frames) late"),
                           (100, "4.00 s (100 frames) late"), (1, "0.04 s (1 frame) late")):
             for origin in (0, 5000)[by < 250:]:
-                sent = [(pts + origin, some) for pts, some in delayed(by, at)(self.sent)]
+                sent = [(pts + origin, packets) for pts, packets in make_delay(by, at)(self.sent)]
                 given = ["--origin", "5000"] * (origin > 0)
-                found = self.judge(sent, *given)
-                self.must(f"{by} {origin}", found.word == "refused" and
-                          found.told[0].startswith(line + words), found.said)
-                found = self.judge(sent, *given, "--breaks", "1")
+                result = self.judge(sent, *given)
+                self.must(f"{by} {origin}", result.word == "refused" and
+                          result.told[0].startswith(line + words), result.said)
+                result = self.judge(sent, *given, "--breaks", "1")
                 self.must(f"{by} {origin}: a break", (
-                    found.word == "accepted" and found.said[-1].endswith(" in 2 parts")
-                    if by >= 125 else found.word == "not judged" and found.told[0] ==
-                    "no break found, but --breaks is 1"), found.said)
-        feed = write_pipe(self, pes_file(delayed(1, at)(self.sent)))
-        found = judge_files(self, self.stl, feed, *WORDS, "--origin", "0")
-        self.must("a feed", found.word == "refused" and
-                  found.told[0].startswith(f"{line}0.04 s (1 frame) late"), found.said)
-        both = delayed(50, at, self.due[15][0] * TICKS - 1)(self.sent)
+                    result.word == "accepted" and result.said[-1].endswith(" in 2 parts")
+                    if by >= 125 else result.word == "not judged" and result.told[0] ==
+                    "no break found, but --breaks is 1"), result.said)
+        feed = write_pipe(self, join_pes_packets(make_delay(1, at)(self.sent)))
+        result = judge_files(self, self.stl, feed, *WORDS, "--origin", "0")
+        self.must("a feed", result.word == "refused" and
+                  result.told[0].startswith(f"{line}0.04 s (1 frame) late"), result.said)
+        both = make_delay(50, at, self.due[15][0] * TICKS - 1)(self.sent)
         self.must("on time again", self.judge(both).told == [
             line + "2.00 s (50 frames) late",
-            f"from {time_of(self.due[15][0])} on, subtitles are on time"])
-        found = judge_files(self, self.stl, write_pipe(self, pes_file(self.sent)), *WORDS,
-                            "--origin", "7200")
-        self.must("a feed that is early", found.told[0] == "all subtitles are 2 frames early")
+            f"from {format_frame(self.due[15][0])} on, subtitles are on time"])
+        result = judge_files(self, self.stl, write_pipe(self, join_pes_packets(self.sent)), *WORDS,
+                             "--origin", "7200")
+        self.must("a feed that is early", result.told[0] == "all subtitles are 2 frames early")
 
     def test_judges_short_breaks_by_two_calls(self) -> None:
-        middle = time_of(self.due[10][0])
+        middle = format_frame(self.due[10][0])
         for by in (124, 25):
-            sent = delayed(by, self.due[10][0] * TICKS)(self.sent)
+            sent = make_delay(by, self.due[10][0] * TICKS)(self.sent)
             for words in (["--to", middle], ["--from", middle], ["--to", middle, "--origin", "0"]):
-                found = self.judge(sent, *words)
-                self.must(f"{by} {words}", found.word == "accepted" and
-                          found.verdict.subtitle_count == 10, found.said)
-            wrong = delayed(1, self.due[15][0] * TICKS)(sent)
+                result = self.judge(sent, *words)
+                self.must(f"{by} {words}", result.word == "accepted" and
+                          result.verdict.subtitle_count == 10, result.said)
+            wrong = make_delay(1, self.due[15][0] * TICKS)(sent)
             words = [self.judge(wrong, *way, middle).word for way in (["--to"], ["--from"])]
             self.must(f"{by}: late", words == ["accepted", "refused"], words)
 
@@ -103,32 +108,37 @@ class Delays(ProgrammeCase):
         frames = [*self.due[:9], (self.due[9][0], self.due[10][0]), *self.due[10:]]
         stl = write_programme(self, frames)
         for first, second in ((0, 4500 * TICKS), (3_000_000_000, 77_000)):
-            sent = [(pts + origin, some) for some_frames, number, origin in (
-                (frames[:10], 1, first), (frames[10:], 11, second)) for pts, some in schedule_pages(
-                    self, write_programme(self, some_frames, first=number, name="sent.stl"))]
-            path = self.write("one.pes", pes_file(sent))
+            sent = [(pts + origin, packets) for some_frames, number, origin in (
+                (frames[:10], 1, first), (frames[10:], 11, second))
+                    for pts,
+                    packets in schedule_pages( self,
+                                              write_programme(self, some_frames, first=number,
+                                                              name="sent.stl"))]
+            path = self.write("one.pes", join_pes_packets(sent))
             for given in (False, True):
                 words = ["--origin", str(first)] * given
                 sources = ["given" if given else "recording", "recording"]
-                found = judge_files(self, stl, path, *WORDS, "--breaks", "1", *words)
-                self.must(f"{second} {words}", found.parts("from", "to", "origin", "verdict") == [
-                    (time_of(frames[0][0]), time_of(frames[9][1]), first, "accepted"),
-                    (time_of(frames[10][0]), time_of(frames[19][1]), second, "accepted")],
-                    found.said)
+                judged_pair = judge_files(self, stl, path, *WORDS, "--breaks", "1", *words)
+                self.must(f"{second} {words}",
+                          judged_pair.parts("from", "to", "origin", "verdict") == [
+                    (format_frame(frames[0][0]), format_frame(frames[9][1]), first, "accepted"),
+                    (format_frame(frames[10][0]), format_frame(frames[19][1]), second, "accepted")],
+                    judged_pair.said)
                 self.must(f"{second} {words}: clocks", [part["clock"]["source"] for part in
-                                                        found.result["parts"]] == sources)
-            found = judge_files(self, stl, path, *WORDS)
-            self.must(f"{second}: none is said", found.word == "refused" and
-                      ("where the PTS go back" in found.told[0]) == (second < first), found.told)
+                                                        judged_pair.result["parts"]] == sources)
+            judged_pair = judge_files(self, stl, path, *WORDS)
+            self.must(f"{second}: none is said", judged_pair.word == "refused" and
+                      ("where the PTS go back" in judged_pair.told[0]) == (second < first),
+                      judged_pair.told)
 
     def test_each_printed_command_prints_the_same_answer(self) -> None:
-        sent = [(pts + 3_000_000_000 * (pts < self.due[10][0] * TICKS), some)
-                for pts, some in self.sent]
-        done = qc(self, self.stl, self.write("sent.pes", pes_file(sent)), *WORDS, "--breaks", "1",
-                  "-o", "out")
-        lines = lines_of(done)
+        sent = [(pts + 3_000_000_000 * (pts < self.due[10][0] * TICKS), packets)
+                for pts, packets in self.sent]
+        process = qc(self, self.stl, self.write("sent.pes", join_pes_packets(sent)), *WORDS,
+                     "--breaks", "1", "-o", "out")
+        lines = split_output_lines(process)
         calls = [line[2:] for line in lines if line.startswith("+ ") and " check " in line]
-        self.must("two parts", done.status == 3 and len(calls) == 2, done)
+        self.must("two parts", process.status == 3 and len(calls) == 2, process)
         for line in calls:
             again = self.call(["sh", "-c", line])
             printed = again.out.decode().splitlines()
@@ -137,21 +147,21 @@ class Delays(ProgrammeCase):
 
     def test_judges_a_repeated_programme_only_if_one_run_is_named(self) -> None:
         hour = 3600 * 25 * TICKS
-        wrong = delayed(10, self.due[15][0] * TICKS)(self.sent)
+        wrong = make_delay(10, self.due[15][0] * TICKS)(self.sent)
         for name, origin, second in (("later", hour, self.sent), ("the same PTS", 0, self.sent),
                                      ("wrong", hour, wrong)):
-            both = [*self.sent, *((pts + origin, some) for pts, some in second)]
-            found = self.judge(both)
-            self.must(name, found.word == "not judged" and found.told[0] ==
+            both = [*self.sent, *((pts + origin, packets) for pts, packets in second)]
+            result = self.judge(both)
+            self.must(name, result.word == "not judged" and result.told[0] ==
                       "the recording contains the programme twice" and
-                      found.told[-1].endswith(" --pes I-J"), found.told)
+                      result.told[-1].endswith(" --pes I-J"), result.told)
             count = len(self.sent)
             for pes, word in ((f"0-{count - 1}", "accepted"), (
                     f"{count}-{2 * count - 1}", "refused" if name == "wrong" else "accepted")):
-                found = self.judge(both, "--pes", pes)
-                self.must(f"{name} {pes}", found.word == word, found.said)
-            found = self.judge(both, "--pes", "99999-100000")
-            self.must(f"{name}: none", found.word == "not judged", found.said)
+                result = self.judge(both, "--pes", pes)
+                self.must(f"{name} {pes}", result.word == word, result.said)
+            result = self.judge(both, "--pes", "99999-100000")
+            self.must(f"{name}: none", result.word == "not judged", result.said)
 
     def test_reports_errors_of_the_first_and_last_cue(self) -> None:
         begin, end = (self.due[at][at] for at in (0, -1))
@@ -160,49 +170,50 @@ class Delays(ProgrammeCase):
                            name="sent.stl")
         data = schedule_pages(self, around)
 
-        def at(frame: int, by: int) -> Sent:
-            return sorted(delayed(by, frame * TICKS, frame * TICKS)(data), key=lambda one: one[0])
+        def at(frame: int, by: int) -> SentPes:
+            return sorted(make_delay(by, frame * TICKS, frame * TICKS)(data),
+                          key=lambda item: item[0])
 
-        def of(low: int, high: int) -> Sent:
-            return [one for one in data if low <= one[0] // TICKS <= high]
+        def of(low: int, high: int) -> SentPes:
+            return [item for item in data if low <= item[0] // TICKS <= high]
 
-        for name, sent, wanted in (
+        for name, sent, expected in (
                 ("all", data, "accepted"),
-                ("late", at(begin, 8), f"refused 72 Content frame {time_of(begin)} "),
-                ("early", at(begin, -8), f"refused 72 Content frame {time_of(begin - 8)} "),
-                ("not erased", at(end, 9), f"refused 72 Content frame {time_of(end)} "),
+                ("late", at(begin, 8), f"refused 72 Content frame {format_frame(begin)} "),
+                ("early", at(begin, -8), f"refused 72 Content frame {format_frame(begin - 8)} "),
+                ("not erased", at(end, 9), f"refused 72 Content frame {format_frame(end)} "),
                 ("begins late", of(begin + 1, end + 500), "refused 63 Early "),
                 ("begins there", of(begin, end + 500), "accepted "),
                 ("ends there", of(begin - 500, end), "accepted "),
                 ("ends early", of(begin - 500, end - 1), "refused 74 Late ")):
-            found = self.judge(sent, "--origin", "0")
-            self.must(name, found.said[-1].startswith(wanted), (wanted, found.said))
+            result = self.judge(sent, "--origin", "0")
+            self.must(name, result.said[-1].startswith(expected), (expected, result.said))
 
 
 class FirstPictures(Case):
-    def judge(self, data: bytes, *words: str, stl: str = STORY) -> JudgedPair:
-        return judge_files(self, stl, self.write("one.ts", data), *words)
+    def judge(self, data: bytes, *args: str, stl: str = STORY) -> JudgedPair:
+        return judge_files(self, stl, self.write("one.ts", data), *args)
 
-    def test_takes_the_clock_of_the_first_picture(self) -> None:
+    def test_uses_the_clock_of_the_first_picture(self) -> None:
         for kind in (MPEG_2, H_264, HEVC):
             for shift in (0, CLOCK - (BEGIN - 40) * TICKS):
-                pes = with_new_pts(example_bytes("story.pes"), lambda _, pts: pts + shift)
+                pes = replace_pts(read_example_file("story.pes"), lambda _, pts: pts + shift)
                 first = (FIRST_PTS + shift) % CLOCK
-                data = with_pictures(pes, first, kind, leading=0 if kind == H_264 else 2).data
-                found = self.judge(data, "--start", STARTED)
-                self.must(f"{kind} {shift}", found.word == "accepted" and any(
+                data = add_pictures(pes, first, kind, leading=0 if kind == H_264 else 2).data
+                judged_pair = self.judge(data, "--start", START_TIME)
+                self.must(f"{kind} {shift}", judged_pair.word == "accepted" and any(
                     line.startswith("the first picture (") and f"has PTS {first}; 3 earlier PES "
-                    "packets of video were skipped" in line for line in found.said),
-                    found.said)
-                found = self.judge(data, "--start", time_of(BEGIN - EARLIER - 2))
-                clock = found.result["parts"][0]["clock"]
-                self.must(f"{kind} {shift}: late", found.word == "refused" and clock == {
+                    "packets of video were skipped" in line for line in judged_pair.said),
+                    judged_pair.said)
+                judged_pair = self.judge(data, "--start", format_frame(BEGIN - START_OFFSET - 2))
+                clock = judged_pair.result["parts"][0]["clock"]
+                self.must(f"{kind} {shift}: late", judged_pair.word == "refused" and clock == {
                     "origin": (shift + 2 * TICKS) % CLOCK, "source": "start", "delay_frames": -2},
                     clock)
 
     def test_reports_a_start_that_is_off_by_hours(self) -> None:
-        data = with_pictures(example_bytes("story.pes"), FIRST_PTS).data
-        ends = f"the beginning of the recording by its subtitles, {STARTED}. TIME is on the " \
+        data = add_pictures(read_example_file("story.pes"), FIRST_PTS).data
+        ends = f"the beginning of the recording by its subtitles, {START_TIME}. TIME is on the " \
             "subtitle file's own clock, not the time of day"
         for words, reported in (
                 (("--start", "10:00:00:00"), "--start 10:00:00:00 is 10 h 14 min 59 s earlier than "
@@ -213,70 +224,72 @@ class FirstPictures(Case):
                  f"{ends}"),
                 (("--origin", f"{90_000 * 3600}"), "with --origin 324000000, all subtitles would "
                  "be 1 h early, so the recording contains no subtitle at its expected time")):
-            found = self.judge(data, *words)
-            self.must(f"{words}", found.word == "not judged" and found.told == [reported],
-                      found.told)
+            result = self.judge(data, *words)
+            self.must(f"{words}", result.word == "not judged" and result.told == [reported],
+                      result.told)
 
-    def test_takes_the_first_picture_of_a_pipe(self) -> None:
-        data = with_pictures(example_bytes("story.pes"), FIRST_PTS).data
-        found = judge_files(self, STORY, write_pipe(self, data), "--start", STARTED)
-        self.must("a feed", found.word == "accepted", found.said)
+    def test_uses_the_first_picture_of_a_pipe(self) -> None:
+        data = add_pictures(read_example_file("story.pes"), FIRST_PTS).data
+        judged_pair = judge_files(self, STORY, write_pipe(self, data), "--start", START_TIME)
+        self.must("a feed", judged_pair.word == "accepted", judged_pair.said)
         stl, pes = make_two_parts(self)
-        data = with_pictures(pes, 1000 + (900_000 - EARLIER) * TICKS).data
-        found = self.judge(data, "--start", time_of(900_000 - EARLIER), "--breaks", "1", stl=stl)
-        self.must("a break", found.word == "accepted" and [
-            (part["clock"]["source"], part["clock"]["origin"]) for part in found.result["parts"]] ==
-                  [("start", 1000), ("recording", 1000 + 4500 * TICKS)], found.said)
+        data = add_pictures(pes, 1000 + (900_000 - START_OFFSET) * TICKS).data
+        judged_pair = self.judge(data, "--start", format_frame(900_000 - START_OFFSET), "--breaks",
+                                 "1", stl=stl)
+        self.must("a break", judged_pair.word == "accepted" and [
+            (part["clock"]["source"], part["clock"]["origin"])
+            for part in judged_pair.result["parts"]] ==
+                  [("start", 1000), ("recording", 1000 + 4500 * TICKS)], judged_pair.said)
 
     def test_is_not_judged_without_usable_pictures(self) -> None:
-        pes = example_bytes("story.pes")
-        half = with_pictures(with_new_pts(pes, lambda _, pts: pts + 1800), FIRST_PTS).data
+        pes = read_example_file("story.pes")
+        half = add_pictures(replace_pts(pes, lambda _, pts: pts + 1800), FIRST_PTS).data
         for path, words, is_typed in (
                 (self.write("half.ts", half), "half a frame", False),
-                (example("story.pes"), "has no pictures", True)):
-            found = judge_files(self, STORY, path, "--start", STARTED)
-            self.must(words, found.word == "not judged" and words in found.told[0] and
-                      ("--origin T" in found.told[-1]) == is_typed and
-                      "--start" not in found.told[-1], found.told)
+                (get_example_path("story.pes"), "has no pictures", True)):
+            result = judge_files(self, STORY, path, "--start", START_TIME)
+            self.must(words, result.word == "not judged" and words in result.told[0] and
+                      ("--origin T" in result.told[-1]) == is_typed and
+                      "--start" not in result.told[-1], result.told)
         for ticks, way in ((12, "forward"), (-12, "back"), (1799, "forward"), (-1799, "back")):
-            data = with_pictures(with_new_pts(pes, lambda _, pts: pts + ticks), FIRST_PTS).data
-            found = self.judge(data, "--start", STARTED)
-            self.must(f"{ticks}", found.word == "accepted" and any(line.endswith(
+            data = add_pictures(replace_pts(pes, lambda _, pts: pts + ticks), FIRST_PTS).data
+            result = self.judge(data, "--start", START_TIME)
+            self.must(f"{ticks}", result.word == "accepted" and any(line.endswith(
                 f"shifted {way} by {abs(ticks)} ticks to agree with the Teletext PTS")
-                for line in found.said), found.said)
+                for line in result.said), result.said)
 
     def test_is_not_judged_if_first_pictures_are_lost(self) -> None:
-        made = with_pictures(example_bytes("story.pes"), FIRST_PTS,
-                             picture=mpeg_2_picture() + SLICES).packets
+        ts_packets = add_pictures(read_example_file("story.pes"), FIRST_PTS,
+                                  picture=make_mpeg_2_picture() + SLICES).packets
         # After two tables, each picture takes two TS packets; a group of 14 pictures follows three
         # skipped pictures.
         for at, words in ((2 + 2 * 2 + 1, ""), (2 + 2 * 3 + 1, "lost"), (2 + 2 * 10 + 1, "lost"),
                           (2 + 2 * 16 + 1, "lost"), (2 + 2 * 18 + 1, "")):
-            lost = b"".join(made[:at] + made[at + 1:])
-            scrambled = bytes([*made[at][:3], made[at][3] | 0x80, *made[at][4:]])
+            lost = b"".join(ts_packets[:at] + ts_packets[at + 1:])
+            scrambled = bytes([*ts_packets[at][:3], ts_packets[at][3] | 0x80, *ts_packets[at][4:]])
             for name, data, line in (
                     ("lost", lost, "MPEG-2 of PID 0x200 lost 1 TS packet among its first pictures"),
-                    ("scrambled", b"".join([*made[:at], scrambled, *made[at + 1:]]),
+                    ("scrambled", b"".join([*ts_packets[:at], scrambled, *ts_packets[at + 1:]]),
                      "MPEG-2 of PID 0x200 is scrambled")):
-                found = self.judge(data, "--start", STARTED)
-                self.must(f"{at} {name}", found.word == ("not judged" if words else "accepted") and
-                          (line in "".join(found.said)) == bool(words), found.said)
+                result = self.judge(data, "--start", START_TIME)
+                self.must(f"{at} {name}", result.word == ("not judged" if words else "accepted") and
+                          (line in "".join(result.said)) == bool(words), result.said)
 
-    def test_takes_the_tcp_of_the_gsi_block(self) -> None:
-        data = with_pictures(example_bytes("story.pes"), FIRST_PTS).data
-        stl = bytearray(example_bytes("story.stl"))
+    def test_reads_the_tcp_of_the_gsi_block(self) -> None:
+        data = add_pictures(read_example_file("story.pes"), FIRST_PTS).data
+        stl = bytearray(read_example_file("story.stl"))
         for code, words in (
-                (STARTED.replace(":", ""), ""),
+                (START_TIME.replace(":", ""), ""),
                 ("20150100", "begins at 20:15:00:00, before its TCP 20:15:01:00"),
                 ("20000000", "ends at 20:15:09:00, but by the TCP the recording ends at"),
                 *((code, "is not a time: ") for code in ("        ", "2015000a", "25000000",
                                                             "20150025"))):
             stl[256:264] = code.encode()
-            found = self.judge(data, "--start", "tcp", stl=self.write("two.stl", stl))
-            self.must(code, found.word == ("not judged" if words else "accepted") and
-                      words in "".join(found.told[:1]), found.said)
+            judged_pair = self.judge(data, "--start", "tcp", stl=self.write("two.stl", stl))
+            self.must(code, judged_pair.word == ("not judged" if words else "accepted") and
+                      words in "".join(judged_pair.told[:1]), judged_pair.said)
             self.must(f"{code}: clock", words or
-                      found.result["parts"][0]["clock"]["source"] == "tcp")
+                      judged_pair.result["parts"][0]["clock"]["source"] == "tcp")
 
 
 SECONDS = 8  # duration of the streams made by ffmpeg
@@ -298,31 +311,32 @@ def compare_with_ffprobe(case: Case, name: str, stl: str, data: bytes, is_closed
     is closed or unknown.
     """
     path = case.write("cut.ts", data)
-    done = qc(case, stl, path, "--start", "00:00:00:00")
+    process = qc(case, stl, path, "--start", "00:00:00:00")
     survey = case.call([case.bench.program, "survey", "--page", "888", "--", path])
     has_least = is_closed or b"\ngroup " not in survey.out
-    packets_of = ffprobe_rows(case, path, "packet=pts,flags")
+    packets_of = read_ffprobe_rows(case, path, "packet=pts,flags")
     keys = [number for number, row in enumerate(packets_of) if "K" in row[1]]
     if not case.must(f"{name}: groups", len(keys) > 1, packets_of):
         return
     group = [int(row[0]) for row in packets_of[keys[0]:keys[1]]]
     first = min(group) if has_least else group[0]
-    line = next((line for line in lines_of(done) if line.startswith("the first picture")), "")
+    line = next((line for line in split_output_lines(process)
+                 if line.startswith("the first picture")), "")
     case.must(f"{name}: its PTS", f" has PTS {first}" in line,
-              (line, group, done.told))
+              (line, group, process.told))
     skipped = f"; {keys[0]} earlier PES packet" if keys[0] else ""
     case.must(f"{name}: skipped", skipped in line, (line, keys))
     if is_closed:
-        shown = [int(row[1]) for row in ffprobe_rows(case, path, "frame=key_frame,pts")
+        shown = [int(row[1]) for row in read_ffprobe_rows(case, path, "frame=key_frame,pts")
                  if row[0] == "1"]
         case.must(f"{name}: the first that is shown", shown[:1] == [first], (shown, line))
 
 
-def ffprobe_rows(case: Case, path: str, entries: str) -> list[list[str]]:
+def read_ffprobe_rows(case: Case, path: str, entries: str) -> list[list[str]]:
     """Run ffprobe on the video, and return the values of these entries in rows."""
-    done = subprocess.run(["ffprobe", "-v", "quiet", "-select_streams", "v", "-show_entries",
-                           entries, "-of", "csv=p=0", path], stdout=subprocess.PIPE, check=False)
-    rows = [line.split(",") for line in done.stdout.decode().split("\n")]
+    process = subprocess.run(["ffprobe", "-v", "quiet", "-select_streams", "v", "-show_entries",
+                              entries, "-of", "csv=p=0", path], stdout=subprocess.PIPE, check=False)
+    rows = [line.split(",") for line in process.stdout.decode().split("\n")]
     return [row for row in rows if len(row) > 1 and row[0] not in ("", "N/A")
             and row[1] not in ("", "N/A")]
 
@@ -332,7 +346,7 @@ class FfmpegStreams(Case):
         if not (shutil.which("ffmpeg") and shutil.which("ffprobe")):
             self.skipTest("streams of MPEG-2, H.264 and HEVC, since there is no ffmpeg")
         stl = write_programme(self, [(begin, begin + 30) for begin in range(60, 161, 50)],
-                        text=box_line(b"Number %d"), name="own.stl")
+                        text=make_box_line(b"Number %d"), name="own.stl")
         self.schedule(stl, "own.pes", "--every", "25")
         self.write("own.ts", self.tool("pes2ts", self.path("own.pes"), "0x101").out)
         known = self.call(["ffmpeg", "-v", "quiet", "-encoders"]).out.decode()
@@ -342,11 +356,11 @@ class FfmpegStreams(Case):
                 self.bench.over.append(f"streams of {codec}, which ffmpeg lacks")
                 continue
             path = self.path(name.replace(" ", "-") + ".ts")
-            done = self.call(["ffmpeg", "-v", "error", "-f", "lavfi", "-i", "testsrc=size=176x144:"
-                              f"rate=25:duration={SECONDS}", "-i", "own.ts", "-map", "0:v", "-map",
-                              "1:s", "-c:s", "copy", "-c:v", codec, "-pix_fmt", "yuv420p", *words,
-                              path])
-            self.must(f"{name}: made", done.status == 0, done)
+            process = self.call(["ffmpeg", "-v", "error", "-f", "lavfi", "-i",
+                                 f"testsrc=size=176x144:rate=25:duration={SECONDS}", "-i",
+                                 "own.ts", "-map", "0:v", "-map", "1:s", "-c:s", "copy", "-c:v",
+                                 codec, "-pix_fmt", "yuv420p", *words, path])
+            self.must(f"{name}: made", process.status == 0, process)
             with open(path, "rb") as file:
                 data = file.read()
             for part in PARTS:

@@ -9,26 +9,26 @@ from typing import Any, Sequence
 from developing.pes import make_packet
 from subtitles.clock.alignment import EarlyCues
 from subtitles.clock.origin import (
-    OriginEstimate, OriginSearch, format_breaks, compare_with_known, format_part, report_sent_pages,
-    shift_lines, store_parts)
+    OriginEstimate, OriginSearch, format_breaks, compare_with_known_origin, format_part,
+    report_sent_pages, shift_lines, store_parts)
 from subtitles.clock.start import (
     Clock, ESTIMATED_NOTE, FirstPicture, GIVEN, NoFirstPicture, RECORDING, START, TCP,
-    compute_start_clock, count_skipped, find_first_picture, largest_offset_text)
+    compute_start_clock, count_skipped, describe_largest_offset, find_first_picture)
 from subtitles.clock.stretches import Stretch
 from subtitles.common.times import CLOCK, TICKS
 from subtitles.request.request import ORIGIN_CHOICE, Selection, Unclear
 from subtitles.stream.packets import GapMarker, PacketRun, Packets, PageChange
-from subtitles.stream.receiver import national_option
+from subtitles.stream.receiver import read_national_option
 from subtitles.stream.survey import Survey
 from .judged import ProgrammeCase
 from .streams import HEVC, H_264, MPEG_2
-from .parts import request_for
-from .transmissions import Sent, delayed, write_programme, schedule_pages
+from .parts import make_example_request
+from .transmissions import SentPes, make_delay, write_programme, schedule_pages
 
 ORIGIN = CLOCK - 5 * TICKS
 
 
-def part_at(frames: int, begin: int = 0, base: int = 0) -> Any:
+def make_part_at(frames: int, begin: int = 0, base: int = 0) -> Any:
     """Return a part with this first frame and time base, and an origin `frames` after `ORIGIN`."""
     return SimpleNamespace(origin=(ORIGIN + TICKS * frames) % CLOCK, begin=begin, base=base)
 
@@ -114,38 +114,43 @@ class OriginLines(unittest.TestCase):
     def test_needs_one_part_more_than_breaks(self) -> None:
         for count, printed in itertools.product(range(5), (1, 2, 3)):
             parts = [self.part(20, 20, 20) for _ in range(count)]
-            for one in parts:
-                one.begin, one.end, one.base, one.overlapping, one.origin = 0, 50, 0, [], 9
-            found, breaks = OriginEstimate(), max(count - 1, 0)
-            store_parts(found, OriginSearch("a", "b", breaks=printed), [], parts)
+            for item in parts:
+                item.begin, item.end, item.base, item.overlapping, item.origin = 0, 50, 0, [], 9
+            origin_estimate, breaks = OriginEstimate(), max(count - 1, 0)
+            store_parts(origin_estimate, OriginSearch("a", "b", breaks=printed), [], parts)
             words = {0: "no break", 1: "1 break"}.get(breaks, f"{breaks} breaks")
             if count == printed + 1:
-                self.assertEqual((found.status, len(found.parts), found.breaks), (0, count, None),
+                self.assertEqual((origin_estimate.status, len(origin_estimate.parts),
+                                  origin_estimate.breaks), (0, count, None),
                                  (count, printed))
             else:
-                self.assertEqual((found.status, found.parts, found.breaks), (1, [], breaks),
+                self.assertEqual((origin_estimate.status, origin_estimate.parts,
+                                  origin_estimate.breaks), (1, [], breaks),
                                  (count, printed))
-                self.assertEqual(found.lines, [f"{words} found, but --breaks is {printed}",
-                                               *format_breaks(parts)], (count, printed))
+                self.assertEqual(origin_estimate.lines,
+                                 [f"{words} found, but --breaks is {printed}",
+                                  *format_breaks(parts)], (count, printed))
 
     def test_describes_each_part(self) -> None:
         overlapping = [SimpleNamespace(begin=25 * at, end=25 * at + 50) for at in range(3)]
         for origin, count in itertools.product((None, 9), (1, 2)):
             parts = [self.part(cues - 1, cues, cues - 1, cues) for cues in (20, 12, 6)]
-            for number, one in enumerate(parts):
-                one.begin, one.end, one.origin = 1000 * number, 1000 * number + 500, 9 + number
-                one.base, one.time_base.packets = 0, (number, 7)
-                one.overlapping = overlapping[2 * number:][:2]
-            found, bases = OriginEstimate(), [one.time_base for one in parts][:count]
-            store_parts(found, OriginSearch("a", "b", origin=origin, breaks=2), bases, parts)
+            for number, item in enumerate(parts):
+                item.begin, item.end, item.origin = 1000 * number, 1000 * number + 500, 9 + number
+                item.base, item.time_base.packets = 0, (number, 7)
+                item.overlapping = overlapping[2 * number:][:2]
+            origin_estimate, bases = OriginEstimate(), [item.time_base for item in parts][:count]
+            store_parts(origin_estimate, OriginSearch("a", "b", origin=origin, breaks=2),
+                        bases, parts)
             pes = [f"--pes {at}-7 " * (count > 1) for at in range(3)]
-            self.assertEqual((found.status, found.ticks_late, found.printed), (
+            self.assertEqual((origin_estimate.status, origin_estimate.ticks_late,
+                              origin_estimate.printed), (
                 0, None if origin is None else 0, [
                     f"--from 00:00:00:00 --to 00:00:20:00 {pes[0]}--origin 9",
                     f"--from 00:00:40:00 --to 00:01:00:00 {pes[1]}--origin 10",
                     f"--from 00:01:20:00 --to 00:01:40:00 {pes[2]}--origin 11"]), (origin, count))
-            self.assertEqual([(one.origin, one.packets, one.frames, one.matches, one.total)
-                              for one in found.parts], [
+            self.assertEqual([(item.origin, item.packets, item.frames, item.matches, item.total)
+                              for item in origin_estimate.parts], [
                 (9 + at, (at, 7) if count > 1 else None, (1000 * at, 1000 * at + 500), cues - 1,
                  cues) for at, cues in enumerate((20, 12, 6))], (origin, count))
             for line, is_there in (("3 parts: 35 of 38 cues match", True),
@@ -156,20 +161,22 @@ class OriginLines(unittest.TestCase):
                                    *((f"the subtitle from 00:00:0{at}:00 to 00:00:0{at + 2}:00 "
                                       "reaches into the next part, so it is in no part", True)
                                      for at in range(3))):
-                self.assertEqual(found.lines.count(line), int(is_there), found.lines)
+                self.assertEqual(origin_estimate.lines.count(line), int(is_there),
+                                 origin_estimate.lines)
 
     def test_is_unclear_if_many_cues_of_a_part_are_early(self) -> None:
         many, few = EarlyCues(9, 20, 1), EarlyCues(1, 30, 1)
         for early, origin, status in (((None, None), None, 0), ((many, None), None, 1),
                                       ((many, None), 9, 0), ((None, many), None, 1),
                                       ((None, many), 9, 1), ((many, few), 9, 0)):
-            parts = [self.part(20, 20, 20, early=one) for one in early]
-            for one in parts:
-                one.begin, one.end, one.base, one.overlapping, one.origin = 0, 50, 0, [], 9
-            found = OriginEstimate()
-            store_parts(found, OriginSearch("a", "b", origin=origin, breaks=1),
+            parts = [self.part(20, 20, 20, early=item) for item in early]
+            for item in parts:
+                item.begin, item.end, item.base, item.overlapping, item.origin = 0, 50, 0, [], 9
+            origin_estimate = OriginEstimate()
+            store_parts(origin_estimate, OriginSearch("a", "b", origin=origin, breaks=1),
                         [parts[0].time_base], parts)
-            self.assertEqual((found.status, len(found.parts)), (status, 2 - 2 * status), early)
+            self.assertEqual((origin_estimate.status, len(origin_estimate.parts)),
+                             (status, 2 - 2 * status), early)
 
     def test_compares_an_origin_with_a_given_one(self) -> None:
         rows: list[tuple[int | None, int, str]] = [
@@ -180,14 +187,14 @@ class OriginLines(unittest.TestCase):
             (0, 251 * TICKS, "compared with --origin 0, the subtitles are 251 frames late"),
             (9, 9, "the subtitles match --origin 9")]
         for known, origin, words in rows:
-            found, part = OriginEstimate(), self.part(20, 20, 20)
+            origin_estimate, part = OriginEstimate(), self.part(20, 20, 20)
             part.origin = origin
-            compare_with_known(found, known, part)
-            self.assertEqual(found.lines, [words] * bool(words), (known, origin))
-            self.assertEqual(found.ticks_late, None if known is None else origin - known,
+            compare_with_known_origin(origin_estimate, known, part)
+            self.assertEqual(origin_estimate.lines, [words] * bool(words), (known, origin))
+            self.assertEqual(origin_estimate.ticks_late, None if known is None else origin - known,
                              (known, origin))
 
-    def test_what_is_there(self) -> None:
+    def test_lists_the_contents_of_a_recording(self) -> None:
         runs = [PacketRun(0, 2, 0, TICKS, "h", ""), PacketRun(2, 1, None, 0, "m", ""),
                 PacketRun(3, 1, None, 0, "", "")]
         marks, change = [GapMarker(2, None, 0, 0)], PageChange(0, b"", 0)
@@ -212,7 +219,8 @@ class OriginLines(unittest.TestCase):
                              (bool(changes), printed), (several, some, damage))
 
     def test_reports_the_length_of_each_break(self) -> None:
-        parts = [part_at(0), part_at(25, 100), part_at(-50, 200), part_at(0, 300, 1)]
+        parts = [make_part_at(0), make_part_at(25, 100), make_part_at(-50, 200),
+                 make_part_at(0, 300, 1)]
         parts.append(SimpleNamespace(origin=ORIGIN + 7, begin=400, base=1))
         self.assertEqual(list(format_breaks(parts)), [
             "part 2 begins at 00:00:04:00, after a break of 00:00:01:00",
@@ -223,11 +231,12 @@ class OriginLines(unittest.TestCase):
 
     def shift_texts(self, *frames: int, bases: tuple[int, ...] = ()) -> list[str]:
         """Return the lines printed about programme parts of a minute that have these delays."""
-        parts = [part_at(one, 1500 * at, (*bases, *[0] * 99)[at]) for at, one in enumerate(frames)]
+        parts = [make_part_at(item, 1500 * at, (*bases, *[0] * 99)[at])
+                 for at, item in enumerate(frames)]
         cues = [SimpleNamespace(frame=1500 * at) for at in range(len(parts))]
-        tracks: list[Any] = [SimpleNamespace(cues=cues, start=one, base=part.base)
-                             for one, part in zip(frames, parts)]
-        return shift_lines([Stretch(one, at, at + 1) for at, one in enumerate(tracks)], parts,
+        tracks: list[Any] = [SimpleNamespace(cues=cues, start=item, base=part.base)
+                             for item, part in zip(frames, parts)]
+        return shift_lines([Stretch(item, at, at + 1) for at, item in enumerate(tracks)], parts,
                            ORIGIN)
 
     def test_reports_from_which_time_subtitles_are_late(self) -> None:
@@ -246,10 +255,10 @@ class OriginLines(unittest.TestCase):
             "from 00:01:00:00 on, where the PTS go back, subtitles are 0.20 s (5 frames) late",
             f"from 00:02:00:00 {printed} 0.04 s (1 frame) late"])
         for count, left in ((20, 0), (21, 1), (25, 5)):
-            found = self.shift_texts(*((at * 7) % 5 * 30 for at in range(count + 1)))
+            result = self.shift_texts(*((at * 7) % 5 * 30 for at in range(count + 1)))
             words = f"and {left} more change{'s' * (left != 1)}"
-            self.assertEqual((len(found), words in found), (20 + (left > 0), left > 0), found)
-            self.assertTrue(found[-1].startswith(f"from 00:{count:02}:00:00"), found)
+            self.assertEqual((len(result), words in result), (20 + (left > 0), left > 0), result)
+            self.assertTrue(result[-1].startswith(f"from 00:{count:02}:00:00"), result)
 
 
 TELETEXT, VIDEO = 0x101, 0x200
@@ -257,13 +266,13 @@ TELETEXT, VIDEO = 0x101, 0x200
 GROUP = [2, 0, 1, 5, 3, 4, 8, 6, 7]
 
 
-def programme_with(*streams: tuple[int, int]) -> list[str]:
+def list_programme_lines(*streams: tuple[int, int]) -> list[str]:
     """Return the lines of `survey` for a PMT with Teletext and these streams."""
     return [f"programme 1 {VIDEO}", f"stream {TELETEXT} 6",
             *(f"stream {pid} {kind}" for pid, kind in streams)]
 
 
-def surveyed(lines: Sequence[str], is_whole: bool = True) -> Survey:
+def survey_lines(lines: Sequence[str], is_whole: bool = True) -> Survey:
     survey = Survey()
     for line in lines:
         survey.read_line(line)
@@ -271,72 +280,73 @@ def surveyed(lines: Sequence[str], is_whole: bool = True) -> Survey:
     return survey
 
 
-def picture_lines(frames: Sequence[int | None], end: str = "0 0", passed: int = 3) -> list[str]:
+def make_picture_lines(frames: Sequence[int | None], end: str = "0 0",
+                       passed: int = 3) -> list[str]:
     """Return the lines of `survey` for pictures at these frames, whose PTS wrap.
 
     `passed` is the number of pictures before the first group.
     """
-    pts = ["-" if one is None else (CLOCK - 5 + TICKS * one) % CLOCK for one in frames]
-    return [*programme_with((VIDEO, MPEG_2)), f"video {VIDEO} {passed}",
-            *(f"picture {VIDEO} {one}" for one in pts), f"pictures {VIDEO} {end}"]
+    pts = ["-" if item is None else (CLOCK - 5 + TICKS * item) % CLOCK for item in frames]
+    return [*list_programme_lines((VIDEO, MPEG_2)), f"video {VIDEO} {passed}",
+            *(f"picture {VIDEO} {item}" for item in pts), f"pictures {VIDEO} {end}"]
 
 
 class FirstPictures(unittest.TestCase):
     def said(self, lines: Sequence[str], is_whole: bool = True) -> str | FirstPicture:
         try:
-            return find_first_picture(surveyed(lines, is_whole), TELETEXT)
+            return find_first_picture(survey_lines(lines, is_whole), TELETEXT)
         except NoFirstPicture as reason:
             return str(reason)
 
-    def test_takes_the_smallest_pts(self) -> None:
+    def test_uses_the_smallest_pts(self) -> None:
         for frames, least in ((GROUP, 0), ([0], 0), ([7, 5, 6], 5), ([0, 1, 2], 0)):
-            self.assertEqual(self.said(picture_lines(frames)), FirstPicture(
+            self.assertEqual(self.said(make_picture_lines(frames)), FirstPicture(
                 VIDEO, MPEG_2, (CLOCK - 5 + TICKS * least) % CLOCK, 3), frames)
         for kind in (0x01, H_264, HEVC):
-            lines = [*programme_with((VIDEO, kind)), f"video {VIDEO} 0", f"picture {VIDEO} 9"]
+            lines = [*list_programme_lines((VIDEO, kind)), f"video {VIDEO} 0", f"picture {VIDEO} 9"]
             self.assertEqual(self.said(lines), FirstPicture(VIDEO, kind, 9, 0), kind)
         self.assertIn("(HEVC, PID 0x200) has PTS 9; 1 earlier PES packet of video was skipped",
                       FirstPicture(VIDEO, HEVC, 9, 1).line())
 
     def test_takes_all_pmts_into_account(self) -> None:
         first = FirstPicture(VIDEO, MPEG_2, 0, 0)
-        begun, none = [f"video {VIDEO} 0", f"picture {VIDEO} 0"], programme_with()
-        own = programme_with((VIDEO, MPEG_2))
+        begun, none = [f"video {VIDEO} 0", f"picture {VIDEO} 0"], list_programme_lines()
+        own = list_programme_lines((VIDEO, MPEG_2))
         for tables in ([*none, *own], [*own, *none]):
             for is_whole in (True, False):
                 self.assertEqual(self.said([*tables, *begun], is_whole), first, is_whole)
-        lines = [*programme_with((VIDEO, MPEG_2)), *begun, f"picture {VIDEO} {3 * TICKS}"]
+        lines = [*list_programme_lines((VIDEO, MPEG_2)), *begun, f"picture {VIDEO} {3 * TICKS}"]
         self.assertIn("skip 2 frames", str(self.said(lines)))
         self.assertEqual(self.said([*lines, f"pictures {VIDEO} 0 0 0 0"]), first)
 
-    def test_takes_the_clock_of_the_first_picture(self) -> None:
+    def test_uses_the_clock_of_the_first_picture(self) -> None:
         rows: list[tuple[list[int], int, int | None, str]] = [
             ([0], 0, 0, "agrees"), ([1], 0, 1, "shifted forward by 1 tick "),
             ([1799], 0, 1799, "forward"), ([1800], 0, None, ""), ([1801], 0, -1799, "back"),
             ([3599], 0, -1, "shifted back by 1 tick "), ([1800, 1800, 5], 0, None, ""),
             ([1800, 1800, 5], 1, 5, "shifted forward by 5 ticks")]
         for shift, (several, within, moved, words) in itertools.product((0, CLOCK - 3), rows):
-            lines = [*programme_with((VIDEO, MPEG_2)), f"video {VIDEO} 0",
+            lines = [*list_programme_lines((VIDEO, MPEG_2)), f"video {VIDEO} 0",
                      f"picture {VIDEO} {shift}"]
             packets = Packets(TELETEXT, [PacketRun(at, 1, (shift + TICKS * (7 + at) + after) %
                                                    CLOCK, 0,
                                                    "h", "") for at, after in enumerate(several)])
-            request = request_for("a.stl", "a.ts", "--start", "00:00:00:02", "--within",
-                                  str(within))
+            request = make_example_request("a.stl", "a.ts", "--start", "00:00:00:02", "--within",
+                                           str(within))
             if moved is None:
                 with self.assertRaises(Unclear):
-                    compute_start_clock(request, surveyed(lines), packets)
+                    compute_start_clock(request, survey_lines(lines), packets)
                 continue
-            found = compute_start_clock(request, surveyed(lines), packets)
+            start_clock = compute_start_clock(request, survey_lines(lines), packets)
             origin = (shift - 2 * TICKS + moved) % CLOCK
-            self.assertEqual((found.clock, found.frame), (Clock(origin, START), 2),
+            self.assertEqual((start_clock.clock, start_clock.frame), (Clock(origin, START), 2),
                              (shift, several, within))
-            self.assertIn(words, found.lines[1], (shift, several, within))
-        lines = [*programme_with((VIDEO, MPEG_2)), f"video {VIDEO} 0", f"picture {VIDEO} {TICKS}",
-                 f"picture {VIDEO} 0", f"group {VIDEO} 0 0 open"]
-        self.assertEqual(compute_start_clock(request, surveyed(lines),
+            self.assertIn(words, start_clock.lines[1], (shift, several, within))
+        lines = [*list_programme_lines((VIDEO, MPEG_2)), f"video {VIDEO} 0",
+                 f"picture {VIDEO} {TICKS}", f"picture {VIDEO} 0", f"group {VIDEO} 0 0 open"]
+        self.assertEqual(compute_start_clock(request, survey_lines(lines),
                                              packets).clock.picture_offset, -1)
-        self.assertEqual(largest_offset_text(180),
+        self.assertEqual(describe_largest_offset(180),
                          "PTS differ from the times of their frames by up to 180 ticks (2.00 ms)")
         for source, evidence in itertools.product((RECORDING, GIVEN, START, TCP), (
                 None, Selection(ORIGIN_CHOICE, "8", "words"))):
@@ -348,7 +358,7 @@ class FirstPictures(unittest.TestCase):
             self.assertEqual(FirstPicture(VIDEO, MPEG_2, 3 * TICKS, 0, other).picture_offset, away,
                              (other, away))
 
-    def test_takes_the_first_picture_of_a_closed_or_open_group(self) -> None:
+    def test_finds_the_first_picture_of_each_kind_of_group(self) -> None:
         flagged, least = (CLOCK - 5 + TICKS * 2) % CLOCK, CLOCK - 5
         skipped = "; 3 earlier PES packets of video were skipped"
         for frames, form, first, other, away, more in (
@@ -359,15 +369,15 @@ class FirstPictures(unittest.TestCase):
                 (GROUP, "unknown", flagged, least, -2, "; earlier pictures of its group, from "
                  f"PTS {least} on (2 frames), can't be decoded"),
                 ([0, 1, 2], "open", least, None, 0, ""), ([0, 2, 1], "closed", least, None, 0, "")):
-            lines = picture_lines(frames)
-            found = self.said([*lines[:-1], f"group {VIDEO} {flagged} {least} {form}", lines[-1]])
-            self.assertEqual(found, FirstPicture(VIDEO, MPEG_2, first, 3, other), (frames, form))
-            assert isinstance(found, FirstPicture)
-            self.assertEqual((found.picture_offset, found.line()), (
+            lines = make_picture_lines(frames)
+            result = self.said([*lines[:-1], f"group {VIDEO} {flagged} {least} {form}", lines[-1]])
+            self.assertEqual(result, FirstPicture(VIDEO, MPEG_2, first, 3, other), (frames, form))
+            assert isinstance(result, FirstPicture)
+            self.assertEqual((result.picture_offset, result.line()), (
                 away, f"the first picture (MPEG-2, PID 0x200) has PTS {first}{skipped}{more}"),
                 (frames, form, first))
 
-    def test_asks_about_a_delay_as_long_as_to_another_picture(self) -> None:
+    def test_asks_about_a_delay_of_a_picture_distance(self) -> None:
         for away, delay, words in (
                 (-2, -2, "is the time code from the GOP header?"), (-2, 2, ""), (-2, -1, ""),
                 (-2, 0, ""), (-2, None, ""), (0, 0, ""), (0, None, ""), (2, -2, ""),
@@ -376,94 +386,98 @@ class FirstPictures(unittest.TestCase):
             self.assertTrue(printed.startswith(words) and bool(printed) == bool(words), printed)
 
     def test_reports_why_there_is_no_first_picture(self) -> None:
-        two = programme_with((VIDEO, MPEG_2), (0x201, H_264))
+        two = list_programme_lines((VIDEO, MPEG_2), (0x201, H_264))
         rows: list[tuple[list[str], bool, str]] = [
                 ([], True, "no PMT names PID 0x101"),
-                (programme_with(), True, "has no video: PID 0x101 stream_type 06"),
+                (list_programme_lines(), True, "has no video: PID 0x101 stream_type 06"),
                 (two, True, "has several video PIDs: PID 0x101 stream_type 06, PID 0x200 MPEG-2, "
                             "PID 0x201 H.264"),
-                (programme_with((VIDEO, 0x33)), True, "VVC video is not supported"),
-                (programme_with((VIDEO, MPEG_2)), True, "MPEG-2, has no PES packets of video"),
-                (programme_with((VIDEO, MPEG_2)), False, "no PES packet of MPEG-2 of PID 0x200 had "
-                 "the random_access_indicator so far"),
-                ([*programme_with((VIDEO, MPEG_2)), f"pictures {VIDEO} 0 0 7 0"], True,
+                (list_programme_lines((VIDEO, 0x33)), True, "VVC video is not supported"),
+                (list_programme_lines((VIDEO, MPEG_2)), True,
+                 "MPEG-2, has no PES packets of video"),
+                (list_programme_lines((VIDEO, MPEG_2)), False,
+                 "no PES packet of MPEG-2 of PID 0x200 had the random_access_indicator so far"),
+                ([*list_programme_lines((VIDEO, MPEG_2)), f"pictures {VIDEO} 0 0 7 0"], True,
                  "none of 7 PES packets of MPEG-2 of PID 0x200 has the random_access_indicator"),
-                (picture_lines([0, 1], "1 0"), True,
+                (make_picture_lines([0, 1], "1 0"), True,
                  "MPEG-2 of PID 0x200 lost 1 TS packet among"),
-                (picture_lines([0, 1], "1 1"), True, "is scrambled"),
-                (picture_lines([0, None]), True, "a picture of MPEG-2 of PID 0x200 has no PTS"),
-                (picture_lines([None]), True, "a picture of MPEG-2 of PID 0x200 has no PTS"),
+                (make_picture_lines([0, 1], "1 1"), True, "is scrambled"),
+                (make_picture_lines([0, None]), True,
+                 "a picture of MPEG-2 of PID 0x200 has no PTS"),
+                (make_picture_lines([None]), True, "a picture of MPEG-2 of PID 0x200 has no PTS"),
                 # With two pictures in each PES packet, the first displayed picture has no PTS.
-                (picture_lines(GROUP[::2] + [9]), True,
+                (make_picture_lines(GROUP[::2] + [9]), True,
                  "skip 3 frames: a PES packet has several")]
         for lines, is_whole, words in rows:
             self.assertIn(words, self.said(lines, is_whole), (lines, is_whole))
 
     def test_counts_frames_without_a_pts(self) -> None:
         frame, field = TICKS, TICKS // 2
-        long = [frame * one for one in range(260)]
+        long = [frame * item for item in range(260)]
         for pts, is_cut, count in (
-                ([0], False, 0), ([frame * one for one in GROUP], False, 0),
-                ([field * one for one in GROUP], False, 0), ([0, frame + field // 2], False, 0),
+                ([0], False, 0), ([frame * item for item in GROUP], False, 0),
+                ([field * item for item in GROUP], False, 0), ([0, frame + field // 2], False, 0),
                 ([0, frame + field // 2 + 1], False, 0), ([0, 2 * frame], False, 1),
                 ([0, 4 * frame, 6 * frame], False, 4), ([0, frame, 3 * frame], True, 0),
-                ([0, 2 * frame, *(frame * one for one in range(3, 18))], True, 0),
-                ([0, 2 * frame, *(frame * one for one in range(3, 19))], True, 1),
+                ([0, 2 * frame, *(frame * item for item in range(3, 18))], True, 0),
+                ([0, 2 * frame, *(frame * item for item in range(3, 19))], True, 1),
                 ([*long[:250], long[251]], False, 0), ([*long[:100], *long[101:]], False, 1),
                 ([*long[:245], *long[246:251]], False, 1),
-                ([(CLOCK - frame + one) % CLOCK for one in (0, frame, 3 * frame)], False, 1)):
+                ([(CLOCK - frame + item) % CLOCK for item in (0, frame, 3 * frame)], False, 1)):
             self.assertEqual(count_skipped(pts, is_cut), count, (pts[:5], is_cut))
 
 
 # First TCI, interval between TCIs and duration in frames; number of subtitles.
-BEGIN, EACH, LENGTH, COUNT = 900_000, 60, 40, 6
-OWN = [(BEGIN + EACH * at, BEGIN + EACH * at + LENGTH) for at in range(COUNT)]
-LAST = OWN[-1][1]  # last TCO of the programme
-OTHERS = [(LAST + EACH * at, LAST + EACH * at + LENGTH) for at in range(COUNT)]
-NEXT = "unknown: the page sent at the last TCO is the next programme's"
-OTHER = make_packet(0, 0, [9, 8, 0, 8, 0, 8, 1, 0], b" " * 32)  # header of page 889
+BEGIN, DISTANCE, LENGTH, COUNT = 900_000, 60, 40, 6
+OWN_TIMES = [(BEGIN + DISTANCE * at, BEGIN + DISTANCE * at + LENGTH) for at in range(COUNT)]
+LAST_TCO = OWN_TIMES[-1][1]  # last TCO of the programme
+OTHERS = [(LAST_TCO + DISTANCE * at, LAST_TCO + DISTANCE * at + LENGTH) for at in range(COUNT)]
+NEXT_PROGRAMME_LINE = "unknown: the page sent at the last TCO is the next programme's"
+OTHER_HEADER = make_packet(0, 0, [9, 8, 0, 8, 0, 8, 1, 0], b" " * 32)  # header of page 889
 
 
 class LastPages(ProgrammeCase):
-    due = OWN
+    due = OWN_TIMES
 
-    def planned(self, times: list[tuple[int, int]], first: int = 1) -> Sent:
+    def send_planned_pages(self, times: list[tuple[int, int]], first: int = 1) -> SentPes:
         return schedule_pages(self, write_programme(self, times, first=first, name="sent.stl"))
 
     def test_names_the_page_at_the_last_tco(self) -> None:
-        stays = [*OWN[:-1], (OWN[-1][0], LAST + 30)]
-        again = self.planned([(LAST, LAST + 30)], 1)
-        before = [one for one in self.sent if one[0] < LAST * TICKS]
-        following = self.planned(OTHERS, 50)
-        after = delayed(30)(following)
+        stays = [*OWN_TIMES[:-1], (OWN_TIMES[-1][0], LAST_TCO + 30)]
+        again = self.send_planned_pages([(LAST_TCO, LAST_TCO + 30)], 1)
+        before = [item for item in self.sent if item[0] < LAST_TCO * TICKS]
+        following = self.send_planned_pages(OTHERS, 50)
+        after = make_delay(30)(following)
         for name, sent, words in (
-                ("next", before + following, NEXT),
-                ("stays", self.planned(stays), "not erased at "),
+                ("next", before + following, NEXT_PROGRAMME_LINE),
+                ("stays", self.send_planned_pages(stays), "not erased at "),
                 ("stays up to the next", [
-                    one for one in self.planned(stays) if one[0] < after[0][0]] + after,
-                 "not erased at "),
+                    item for item in self.send_planned_pages(stays) if item[0] < after[0][0]]
+                 + after, "not erased at "),
                 ("an older one", before + again, "sent after its TCO, at ")):
             for within in ("0", "1"):
-                found = self.judge(sent, "--within", within)
-                causes = found.lines("cause: ")
-                self.must(f"{name} {within}", found.word == "refused" and len(causes) == 1 and
+                result = self.judge(sent, "--within", within)
+                causes = result.lines("cause: ")
+                self.must(f"{name} {within}", result.word == "refused" and len(causes) == 1 and
                           causes[0].startswith(f"subtitle {COUNT} at ") and words in causes[0],
-                          found.said)
+                          result.said)
 
-    def test_names_rows_of_a_closed_page(self) -> None:
+    def test_identifies_rows_of_a_closed_page(self) -> None:
         for count in (1, COUNT):
-            begins = [begin * TICKS for begin, _ in OWN[:count]]
-            sent = [(pts, [some[0], OTHER, *some[1:]] if len(some) > 2 and any(
-                begin <= pts < begin + LENGTH * TICKS for begin in begins) else some)
-                    for pts, some in self.sent]
+            begins = [begin * TICKS for begin, _ in OWN_TIMES[:count]]
+            sent = [(pts, [packets[0], OTHER_HEADER, *packets[1:]] if len(packets) > 2 and any(
+                begin <= pts < begin + LENGTH * TICKS for begin in begins) else packets)
+                    for pts, packets in self.sent]
             causes = self.judge(sent).lines("cause: ")
             self.must(f"{count}", len(causes) == count and all(line.endswith(
                 ": its rows came while page 888 was not open") for line in causes), causes)
 
     def test_names_a_subtitle_that_stays_until_the_next(self) -> None:
-        write_programme(self, OWN, text=b"The same")
+        write_programme(self, OWN_TIMES, text=b"The same")
         sent = schedule_pages(self,
-                              write_programme(self, [*OWN[:2], (OWN[2][0], OWN[3][1]), *OWN[4:]],
+                              write_programme(self,
+                                              [*OWN_TIMES[:2], (OWN_TIMES[2][0], OWN_TIMES[3][1]),
+                                               *OWN_TIMES[4:]],
                                         text=b"The same", name="sent.stl"))
         causes = self.judge(sent).lines("cause: ")
         self.must("its cause", len(causes) == 1 and causes[0].startswith("subtitle 3 at ") and
@@ -474,4 +488,4 @@ class LastPages(ProgrammeCase):
     def test_national_option_is_c12_to_c14(self) -> None:
         for header, option in (([8, 8, 0, 8, 0, 8, 1, 0], 0), ([8, 8, 0, 0, 0, 4, 8, 15], 7),
                                ([8, 8, 0, 0, 0, 0, 0, 8], 4), ([8, 8, 0, 0, 0, 0, 0, 1], 0)):
-            self.check(f"{header}", national_option(bytes(header)), option)
+            self.check(f"{header}", read_national_option(bytes(header)), option)

@@ -9,40 +9,41 @@ from typing import Sequence
 
 from developing.pes import (
     GAP_MARKER, decode_pts, get_data_field, get_teletext_packets, make_packet, make_pes_packet)
-from developing.stl import box_line
+from developing.stl import make_box_line
 from subtitles.clock.alignment import (
     ExpectedCue, ExpectedSubtitle as Due, TimeBase, count_delays, find_expected_cues,
     find_time_bases)
-from subtitles.clock.origin import OriginEstimate, OriginSearch, estimate_origin, subtitles_between
+from subtitles.clock.origin import (
+    OriginEstimate, OriginSearch, estimate_origin, read_subtitles_between)
 from subtitles.clock.stretches import Stretch, Track, find_best_stretches, find_stretches
 from subtitles.common.command_line import Stop
-from subtitles.common.times import ALL_DAY, Between, CLOCK, TICKS, time_of
+from subtitles.common.times import ALL_DAY, CLOCK, FrameRange, TICKS, format_frame
 from subtitles.stream.packets import PageChange
-from .bench import Case, example, example_bytes
-from .parts import request_for, survey_packets
+from .bench import Case, get_example_path, read_example_file
+from .parts import make_example_request, survey_packets
 from .transmissions import (
-    CLOSING, HEADER, Shown, with_new_pts, random_subtitles, row_packet, schedule_pes,
+    CLOSING, HEADER, ShownSubtitle, replace_pts, make_random_stl, make_numbered_row, schedule_pes,
     write_subtitle_file)
-from .test_clock_properties import packets_of
+from .test_clock_properties import make_sent_packets
 
-FIRST, COUNT = 1_000_000, 12  # first TCI in frames; number of subtitles
+FIRST_TCI, COUNT = 1_000_000, 12  # first TCI in frames; number of subtitles
 
 
-def evenly_spaced(count: int, step: int, lasts: int, text: bytes = b"Number %d", begin: int = 0
-         ) -> list[Shown]:
+def make_even_times(count: int, step: int, lasts: int, text: bytes = b"Number %d", begin: int = 0
+         ) -> list[ShownSubtitle]:
     return [(begin + step * at, begin + step * at + lasts, text % at if b"%" in text else text)
             for at in range(count)]
 
 
 class Origins(Case):
-    def stl(self, times: Sequence[Shown], name: str = "one.stl") -> str:
+    def stl(self, times: Sequence[ShownSubtitle], name: str = "one.stl") -> str:
         """Write a subtitle file with boxed texts. Return its path."""
-        return write_subtitle_file(self, [(begin, end, box_line(text)) for begin, end,
+        return write_subtitle_file(self, [(begin, end, make_box_line(text)) for begin, end,
                                           text in times],
                                    name, 0, 20)
 
-    def find(self, stl: str, pes: Sequence[bytes], *words: str) -> OriginEstimate:
-        request = request_for(stl, "one.pes", *words)
+    def find(self, stl: str, pes: Sequence[bytes], *args: str) -> OriginEstimate:
+        request = make_example_request(stl, "one.pes", *args)
         return estimate_origin(OriginSearch(stl, "one.pes", request.page, request.option,
                                             request.origin,
                                             request.within,
@@ -51,23 +52,27 @@ class Origins(Case):
 
     def test_selects_subtitles_by_time_and_number(self) -> None:
         stl = self.stl([(0, 50, b"a"), (60, 60, b"b"), (100, 150, b"c"), (200, 300, b"d")])
-        rows: list[tuple[Between, Sequence[int], list[int]]] = [
-            (ALL_DAY, (), [0, 100, 200]), (Between(0, 100), (), [0]), (ALL_DAY, (1,), [100, 200]),
-            (Between(100, 201), (), [100, 200]), (Between(1, 200), (), [100]),
+        rows: list[tuple[FrameRange, Sequence[int], list[int]]] = [
+            (ALL_DAY, (), [0, 100, 200]), (FrameRange(0, 100), (), [0]),
+            (ALL_DAY, (1,), [100, 200]),
+            (FrameRange(100, 201), (), [100, 200]), (FrameRange(1, 200), (), [100]),
             (ALL_DAY, (3, 4), [0])]
-        for between, missing, wanted in rows:
-            found = [one.begin for one in subtitles_between(stl, "english", between, missing)]
-            self.must(f"{between} {missing}", found == wanted, found)
-        looks = [one[2:] for row, justify, text in (
+        for between, missing, expected in rows:
+            result = [item.begin
+                      for item in read_subtitles_between(stl, "english", between, missing)]
+            self.must(f"{between} {missing}", result == expected, result)
+        looks = [item[2:] for row, justify, text in (
             (20, 2, b"a"), (22, 2, b"a"), (20, 1, b"a"), (20, 2, b"b"), (20, 2, b"a"))
-            for one in subtitles_between(write_subtitle_file(self, [(0, 9, box_line(text))],
-                                                             "look.stl", 0,
-                                                             row, justify), "english", ALL_DAY, ())]
+            for item in read_subtitles_between(write_subtitle_file(self, [
+                                                                   (0, 9, make_box_line(text))],
+                                                                   "look.stl", 0, row, justify),
+                                               "english", ALL_DAY, ())]
         self.must("looks", len({*looks}) == 4 and looks[0] == looks[4] and [
             letters for _, letters in looks] == [b"a", b"a", b"a", b"b", b"a"], looks)
         stl = self.stl([(0, 9, b"\xc8a")])
-        self.must("options", [subtitles_between(stl, option, ALL_DAY, ())[0].letters for option in (
-            "german", "swedish")] == [b"{"] * 2 and subtitles_between(
+        self.must("options",
+                  [read_subtitles_between(stl, option, ALL_DAY, ())[0].letters for option in (
+            "german", "swedish")] == [b"{"] * 2 and read_subtitles_between(
                 stl, "english", ALL_DAY, ())[0].letters != b"{")
 
     def test_reports_that_no_cue_agrees(self) -> None:
@@ -79,128 +84,130 @@ class Origins(Case):
              "are refused with fault 34"),
             ([], [], "none of 0 PES packets in one.pes has a PTS: they are refused with fault 34")]
         for some, words, line in rows:
-            found = self.find(self.own_stl(), some, *words)
-            self.must(line, (found.status, found.lines) == (1, [line]), found)
+            result = self.find(self.write_own_stl(), some, *words)
+            self.must(line, (result.status, result.lines) == (1, [line]), result)
         for data in (pes[0][:-1], b"\0\0\1\xbd"):
             with self.assertRaisesRegex(Stop, "^one.pes: PES packet 0 is incomplete$"):
-                self.find(self.own_stl(), [data])
+                self.find(self.write_own_stl(), [data])
         with self.assertRaisesRegex(Stop, "has no subtitle that begins and ends within a day$"):
-            subtitles_between(self.own_stl(), "english", ALL_DAY, range(COUNT + 1))
+            read_subtitles_between(self.write_own_stl(), "english", ALL_DAY, range(COUNT + 1))
 
     def test_finds_any_origin_of_the_examples(self) -> None:
         for name, *words in (["hello"], ["story"], ["german", "--option", "german"]):
             for given in (0, 2029060592, CLOCK - 1, 813_000_017):
-                data = with_new_pts(example_bytes(name + ".pes"), lambda _, pts: pts + given)
-                found = self.find(example(name + ".stl"), [data], *words)
-                self.must(f"{name} {given}", (found.status, found.printed) == (
-                    0, [f"--origin {given}"]), found)
+                data = replace_pts(read_example_file(name + ".pes"), lambda _, pts: pts + given)
+                result = self.find(get_example_path(name + ".stl"), [data], *words)
+                self.must(f"{name} {given}", (result.status, result.printed) == (
+                    0, [f"--origin {given}"]), result)
 
     def test_finds_the_origin_of_random_transmissions(self) -> None:
         for seed in range(8):
             chance = random.Random(seed)
-            data, cues = random_subtitles(seed)
+            data, cues = make_random_stl(seed)
             stl = self.write("random.stl", data)
             given = chance.choice([chance.randrange(CLOCK),
                                    -TICKS * cues[len(cues) // 2] % CLOCK])
             page = chance.choice(["888", "12A", "701"])
             pes = schedule_pes(self, stl, "--page", page, "--origin", str(given), "--every",
                                str(chance.randrange(5, 500)))
-            lost = [one for one in pes if chance.random() < 0.67]
-            shaken = [with_new_pts(one, lambda _, pts: pts + chance.randrange(-250, 251))
-                      for one in pes]
+            lost = [item for item in pes if chance.random() < 0.67]
+            shaken = [replace_pts(item, lambda _, pts: pts + chance.randrange(-250, 251))
+                      for item in pes]
             for name, some in (("all", pes), ("a third", pes[len(pes) // 3:2 * len(pes) // 3]),
                                ("lost", lost), ("shaken", shaken)):
-                found = self.find(stl, some, "--page", page)
-                away = abs(found.parts[0].origin - given) if found.parts else CLOCK
-                self.must(f"{seed} {name}", found.status == 0 and
-                          away <= 100 * (name == "shaken"), (found, given))
+                result = self.find(stl, some, "--page", page)
+                away = abs(result.parts[0].origin - given) if result.parts else CLOCK
+                self.must(f"{seed} {name}", result.status == 0 and
+                          away <= 100 * (name == "shaken"), (result, given))
 
-    def test_takes_the_origin_of_rows_that_follow_their_header(self) -> None:
+    def test_uses_the_origin_of_late_rows(self) -> None:
         for count in (1, 2, 3, 20):
-            stl = self.stl(evenly_spaced(count, 100, 60))
-            made = []
-            for one in schedule_pes(self, stl, "--every", "1500"):
-                header, *rest = get_teletext_packets(get_data_field(one))
-                made.append(make_pes_packet(decode_pts(one), [header]))
-                made += [make_pes_packet(decode_pts(one) + TICKS, rest)] * (len(rest) > 1)
-            for some, which in ((made, "all"), (made[:7] + made[8:], "19 of 20"))[:count // 10 + 1]:
-                found = self.find(stl, some)
-                self.must(f"{count} {which}", found.printed == [f"--origin {TICKS}"] and
+            stl = self.stl(make_even_times(count, 100, 60))
+            pes_packets = []
+            for item in schedule_pes(self, stl, "--every", "1500"):
+                header, *rest = get_teletext_packets(get_data_field(item))
+                pes_packets.append(make_pes_packet(decode_pts(item), [header]))
+                pes_packets += [make_pes_packet(decode_pts(item) + TICKS, rest)] * (len(rest) > 1)
+            for some, which in ((pes_packets, "all"),
+                                (pes_packets[:7] + pes_packets[8:], "19 of 20"))[:count // 10 + 1]:
+                result = self.find(stl, some)
+                self.must(f"{count} {which}", result.printed == [f"--origin {TICKS}"] and
                           f"{which} out-cues are 1 frame early compared with the in-cues"
-                          in found.lines, found)
+                          in result.lines, result)
 
     def test_reports_an_ambiguous_origin_of_few_cues(self) -> None:
-        one = self.stl([(100, 150, b"Own")])
+        item = self.stl([(100, 150, b"Own")])
         rows: list[tuple[list[bytes], int | None]] = [
             ([b"Other"], 0), ([b"Other", b"Another"], None), ([b"Own", b"Other"], 0),
             ([b"Other", b"Own"], 200 * TICKS), ([b"Own", b"Own"], None)]
-        for texts, wanted in rows:
+        for texts, expected in rows:
             pes = schedule_pes(self, self.stl([(200 * at + 100, 200 * at + 150, text)
                                          for at, text in enumerate(texts)], "sent.stl"))
-            found = self.find(one, pes)
-            is_told = any("ambiguous" in line for line in found.lines)
-            self.must(f"{texts}", ([part.origin for part in found.parts], is_told) == (
-                [wanted][:wanted is not None], wanted is None), found)
+            result = self.find(item, pes)
+            is_told = any("ambiguous" in line for line in result.lines)
+            self.must(f"{texts}", ([part.origin for part in result.parts], is_told) == (
+                [expected][:expected is not None], expected is None), result)
         pes = schedule_pes(self, self.stl([(100, 150, b"Other"), (300, 350, b"Own")], "sent.stl"))
         for some, printed in ((pes[2:3], [f"--origin {200 * TICKS}"]), (pes[1:2], [])):
-            found = self.find(one, some)
-            self.must("one sending", found.printed == printed, found)
+            result = self.find(item, some)
+            self.must("one sending", result.printed == printed, result)
         line = "one.pes has no header of page 100; other subtitle pages: 888"
-        found = self.find(one, pes, "--page", "100")
-        self.must(line, (found.status, found.lines, found.parts) == (1, [line], []), found)
-        alike = self.stl(evenly_spaced(30, 100, 50, b"Again"))
+        result = self.find(item, pes, "--page", "100")
+        self.must(line, (result.status, result.lines, result.parts) == (1, [line], []), result)
+        alike = self.stl(make_even_times(30, 100, 50, b"Again"))
         pes = schedule_pes(self, alike)
         for some, printed in ((pes, ["--origin 0"]), (pes[10:20], [])):
             self.must("alike", self.find(alike, some).printed == printed)
 
-    def test_takes_the_origin_of_the_earliest_of_equal_matches(self) -> None:
-        one, other = (100, 150, b"One"), (200, 260, b"Other")
+    def test_chooses_the_earliest_of_equal_origins(self) -> None:
+        item, other = (100, 150, b"One"), (200, 260, b"Other")
         own = [(100 * at, 100 * at + 20 + 5 * at, b"Text %c" % (65 + at)) for at in range(12)]
-        rows: list[tuple[list[Shown], int, list[Shown], int, list[str],
+        rows: list[tuple[list[ShownSubtitle], int, list[ShownSubtitle], int, list[str],
                          str]] = [
-            ([one], 0, [other], 100, [], "--origin 0 fits no better than --origin 360000"),
+            ([item], 0, [other], 100, [], "--origin 0 fits no better than --origin 360000"),
             (own[6:], 0, own[:6], 2000, [], "--origin 7200000 fits no better than --origin 0"),
             (own[6:], 1000, own[:6], 950, ["--pes 12-23 --origin 3420000"], "12 of 12 cues")]
         for some, by, later, by_too, printed, line in rows:
             pes = [pes for times, frames in ((some, by), (later, by_too)) for pes in schedule_pes(
                 self, self.stl(times, "sent.stl"), "--origin", str(TICKS * frames))]
-            found = self.find(self.stl(sorted([*some, *later])), pes)
-            self.must(line, found.printed == printed and line in "".join(found.lines), found)
+            result = self.find(self.stl(sorted([*some, *later])), pes)
+            self.must(line, result.printed == printed and line in "".join(result.lines), result)
 
     def test_finds_adjoining_parts(self) -> None:
         for count, frames in ((12, 4500), (3, 4500), (12, 250), (40, 300)):
-            times = [*evenly_spaced(2 * count, 100, 60, begin=FIRST)]
+            times = [*make_even_times(2 * count, 100, 60, begin=FIRST_TCI)]
             times[count - 1] = (*times[count - 1][:1], times[count][0], b"Last")
             stl, parts = self.stl(times), [times[:count], times[count:]]
-            pes = [one for at, part in enumerate(parts) for one in schedule_pes(self, 
+            pes = [item for at, part in enumerate(parts) for item in schedule_pes(self, 
                 self.stl(part, "sent.stl"), "--origin", str(77_000 + at * frames * TICKS))]
-            found = self.find(stl, pes, "--breaks", "1")
-            self.must(f"{count} {frames}", found.printed == [
-                f"--from {time_of(part[0][0])} --to {time_of(part[-1][1])} --origin {77_000 + late}"
-                for part, late in zip(parts, (0, frames * TICKS))] and
-                      not any("reaches into" in line for line in found.lines) and
-                      found.lines[0] == f"2 parts: {4 * count} of {4 * count} cues match", found)
-        times = [*evenly_spaced(20, 70, 40), (1500, 1520, b"One"), (1600, 1650, b"Two")]
+            result = self.find(stl, pes, "--breaks", "1")
+            self.must(f"{count} {frames}", result.printed == [
+                f"--from {format_frame(part[0][0])} --to {format_frame(part[-1][1])} --origin "
+                f"{77_000 + late}" for part, late in zip(parts, (0, frames * TICKS))] and
+                      not any("reaches into" in line for line in result.lines) and
+                      result.lines[0] == f"2 parts: {4 * count} of {4 * count} cues match", result)
+        times = [*make_even_times(20, 70, 40), (1500, 1520, b"One"), (1600, 1650, b"Two")]
         pes = schedule_pes(self, self.stl(times[:20], "sent.stl")) + schedule_pes(self, 
             self.stl(times[20:], "sent.stl"), "--origin", str(900 * TICKS))
-        found = self.find(self.stl(times), pes)
-        self.must("two", found.printed == ["--origin 0"] and not found.shift_texts, found)
+        result = self.find(self.stl(times), pes)
+        self.must("two", result.printed == ["--origin 0"] and not result.shift_texts, result)
 
     def transmission(self, begin: int, late: Sequence[int] = (0,) * COUNT) -> list[bytes]:
         """Return the PES packets of a programme whose subtitles have these delays in frames."""
         return [make_pes_packet((begin + TICKS * (70 * number + frame + by)) % CLOCK, [
-            HEADER, *[row_packet(20, b"Number %d" % number)] * (not frame), CLOSING])
+            HEADER, *[make_numbered_row(20, b"Number %d" % number)] * (not frame), CLOSING])
                 for number, by in enumerate(late) for frame in (0, 40)]
 
-    def own_stl(self) -> str:
-        return self.stl(evenly_spaced(COUNT, 70, 40, begin=FIRST))
+    def write_own_stl(self) -> str:
+        return self.stl(make_even_times(COUNT, 70, 40, begin=FIRST_TCI))
 
-    def test_prints_no_part_if_one_is_unclear(self) -> None:
+    def test_prints_no_parts_if_any_part_is_unclear(self) -> None:
         late, other = [0] * 5, [1600, 1600, 1600, 1631, 1667, 1613, 1689]
-        for row in ([*late, *other], [*(one - 1600 for one in other), *(1700 for _ in late)]):
-            found = self.find(self.own_stl(), self.transmission(9 * 3600, row), "--breaks", "1")
-            self.must(f"{row}", (found.status, found.printed, found.parts) == (1, [], []) and
-                      found.lines[0].startswith("2 parts: "), found)
+        for row in ([*late, *other], [*(item - 1600 for item in other), *(1700 for _ in late)]):
+            result = self.find(self.write_own_stl(), self.transmission(9 * 3600, row),
+                               "--breaks", "1")
+            self.must(f"{row}", (result.status, result.printed, result.parts) == (1, [], []) and
+                      result.lines[0].startswith("2 parts: "), result)
 
     def test_finds_each_run_with_its_pes_packets(self) -> None:
         gaps = TICKS * 70 * (COUNT + 20) - 3, -3 * 10 ** 9
@@ -210,30 +217,31 @@ class Origins(Case):
                 own = self.transmission(gap * number)
                 pes += [*own, make_pes_packet((decode_pts(own[-1]) + 9 * TICKS) % CLOCK,
                                               [HEADER, CLOSING])]
-            count, found = len(own) + 1, self.find(self.own_stl(), pes)
-            self.must(f"{gap} {runs}", (found.status, found.airings) == (int(runs > 1), [
+            count, result = len(own) + 1, self.find(self.write_own_stl(), pes)
+            self.must(f"{gap} {runs}", (result.status, result.airings) == (int(runs > 1), [
                 (count * at - (at > 0), count * (at + 1) - 1)
-                for at in range(runs)] * (runs > 1)), found)
-            for number, (first, last) in enumerate(found.airings):
-                one = self.find(self.own_stl(), pes, "--pes", f"{first}-{last}")
-                self.must(f"{gap} {number}", one.printed == [
-                    f"--origin {(gap * number - TICKS * FIRST) % CLOCK}"], one)
+                for at in range(runs)] * (runs > 1)), result)
+            for number, (first, last) in enumerate(result.airings):
+                item = self.find(self.write_own_stl(), pes, "--pes", f"{first}-{last}")
+                self.must(f"{gap} {number}", item.printed == [
+                    f"--origin {(gap * number - TICKS * FIRST_TCI) % CLOCK}"], item)
 
     def test_reports_from_which_cue_subtitles_are_late(self) -> None:
         late = [0] * 6 + [50] * 6
-        origin = (5000 - TICKS * FIRST) % CLOCK
+        origin = (5000 - TICKS * FIRST_TCI) % CLOCK
         for known, away in ((None, None), (origin, 0), ((origin - 7200) % CLOCK, 7200)):
-            found = self.find(self.own_stl(), self.transmission(5000, late),
-                              *([] if known is None else ["--origin", str(known)]))
+            result = self.find(self.write_own_stl(), self.transmission(5000, late),
+                               *([] if known is None else ["--origin", str(known)]))
             with self.subTest(known=known):
-                self.assertEqual((found.status, found.first_shift, found.ticks_late),
-                                 (0, FIRST + 70 * 6, away))
+                self.assertEqual((result.status, result.first_shift, result.ticks_late),
+                                 (0, FIRST_TCI + 70 * 6, away))
                 frames = 50 + (away or 0) // TICKS
-                self.assertIn(f"{frames / 25:.2f} s ({frames} frames) late", found.shift_texts[0])
-                self.assertEqual(found.parts[0].origin, origin)
-                self.assertEqual((found.parts[0].matches, found.parts[0].total, found.has_all_cues),
+                self.assertIn(f"{frames / 25:.2f} s ({frames} frames) late", result.shift_texts[0])
+                self.assertEqual(result.parts[0].origin, origin)
+                self.assertEqual((result.parts[0].matches, result.parts[0].total,
+                                  result.has_all_cues),
                                  (12, 12, True))
-        whole = self.find(self.own_stl(), self.transmission(5000))
+        whole = self.find(self.write_own_stl(), self.transmission(5000))
         self.assertTrue(whole.has_all_cues and not whole.shift_texts and whole.first_shift is None)
         self.assertIn("subtitles are expected from 11:06:40:00 to 11:07:12:10; the page was "
                       "received from 11:06:40:00 to 11:07:12:10", whole.lines)
@@ -242,35 +250,37 @@ class Origins(Case):
         for late, has_all_cues in (([3] * COUNT, True), ([3] * 6 + [9] * 6, False),
                                    ([3] * (COUNT - 1) + [9], False)):
             pes = [make_pes_packet(TICKS * (70 * number + frame), [
-                HEADER, *[row_packet(20, b"Number %d" % number)] * (not frame), CLOSING])
+                HEADER, *[make_numbered_row(20, b"Number %d" % number)] * (not frame), CLOSING])
                    for number, by in enumerate(late) for frame in (0, 40 + by)]
-            found = self.find(self.own_stl(), pes)
-            self.must(f"{late}", found.has_all_cues == has_all_cues, found)
+            result = self.find(self.write_own_stl(), pes)
+            self.must(f"{late}", result.has_all_cues == has_all_cues, result)
 
     def test_counts_cues_that_agree(self) -> None:
         pes, count = self.transmission(5000), 2 * COUNT
-        pes[6] = make_pes_packet(5000 + TICKS * 210, [HEADER, row_packet(20, b"Another"), CLOSING])
+        pes[6] = make_pes_packet(5000 + TICKS * 210,
+                                 [HEADER, make_numbered_row(20, b"Another"), CLOSING])
         for some, matches, total, letters in ((pes, count, count, count - 1),
                                               (pes[:-3], count - 3, count - 3, count - 4),
                                               (pes[:10] + pes[11:], count - 2, count, count - 3),
                                               (pes[:11] + pes[12:], count - 1, count, count - 2)):
-            found = self.find(self.own_stl(), some)
-            part, has_all_cues = found.parts[0], matches == total
-            self.must(f"{matches}", (part.matches, part.total, found.has_all_cues) == (
+            result = self.find(self.write_own_stl(), some)
+            part, has_all_cues = result.parts[0], matches == total
+            self.must(f"{matches}", (part.matches, part.total, result.has_all_cues) == (
                 matches, total, has_all_cues) and f" {letters} with the expected text" in part.line,
-                      found)
-            others = [line for line in found.lines if line.startswith("the first cue without")]
+                      result)
+            others = [line for line in result.lines if line.startswith("the first cue without")]
             self.must(f"{matches}: first", others == [
                 "the first cue without a match is at "
-                f"{time_of(FIRST + 350 + 40 * (matches == count - 1))}"] * (not has_all_cues),
-                      others)
+                f"{format_frame(FIRST_TCI + 350 + 40 * (matches == count - 1))}"]
+                      * (not has_all_cues), others)
 
     def test_reports_missing_pts_gap_markers_and_other_pages(self) -> None:
         good = self.transmission(0)[:3]
         bare = good[0][:7] + b"\0" + good[0][8:]
         other = [make_pes_packet(number, [make_packet(0, 0, [7, 8, 0, 8, 0, 8, 1, 0], b" " * 32),
                                           CLOSING,
-                                          *[row_packet(1, b"%d" % number)]]) for number in range(2)]
+                                          *[make_numbered_row(1, b"%d" % number)]])
+                 for number in range(2)]
         rows: list[tuple[str, list[bytes], bool, list[str]]] = [
                 ("good", good, True, []),
                 ("bare", [bare, bare], False, ["none of 2 PES packets in a.pes has a PTS: "]),
@@ -280,15 +290,16 @@ class Origins(Case):
                 ("another page", other, False, ["a.pes has no header of page 888; other subtitle "
                                                 "pages: 887"]),
                 ("other pages", [make_pes_packet(number, [make_packet(0, 0, [
-                    one, 8, 0, 8, 0, 8, 1, 0], b" " * 32), CLOSING, row_packet(1, b"%d" % number)])
-                    for number, one in enumerate((1, 2, 3, 3, 2, 2, 4, 5, 4, 6))], False, [
+                    item, 8, 0, 8, 0, 8, 1, 0], b" " * 32), CLOSING,
+                                                          make_numbered_row(1, b"%d" % number)])
+                    for number, item in enumerate((1, 2, 3, 3, 2, 2, 4, 5, 4, 6))], False, [
                         "a.pes has no header of page 888; other subtitle pages: 882, 883, 884, "
                         "881, 885"]),
                 ("no page", [make_pes_packet(0, [CLOSING])], False, [
                     "a.pes has no header of page 888; other subtitle pages: none"])]
         for name, pes, is_page, reported in rows:
-            found = self.find(self.own_stl(), pes)
-            lines = [line.replace("one.pes", "a.pes") for line in found.lines]
+            result = self.find(self.write_own_stl(), pes)
+            lines = [line.replace("one.pes", "a.pes") for line in result.lines]
             self.must(name, all(line.startswith(begin) for line, begin in zip(lines, reported)) and
                       len(lines) >= len(reported) and (len(lines) > len(reported)) == is_page,
                       lines)
@@ -312,10 +323,11 @@ class Tracks(unittest.TestCase):
             track = Track(0, 0, self.base(sent, within))
             self.assertEqual(track.points, points + [3, 2] * 3, (within, points, late))
             self.assertEqual(track.rank(), (-sum(track.points), late, 0), (within, points, late))
-            self.assertEqual(Stretch(track, 1, 6).matching_places(), places, (within, points, late))
+            self.assertEqual(Stretch(track, 1, 6).list_matching_places(), places,
+                             (within, points, late))
             self.assertEqual(max(track.row_lengths), 7 if not within else 8, (within, points, late))
 
-    def test_prefers_two_texts_to_many_times(self) -> None:
+    def test_two_equal_texts_outweigh_many_equal_times(self) -> None:
         cues = [ExpectedCue(1000 * at, b"%d" % at, True) for at in range(4)]
         others = {frame + cue.frame: b"other %d" % frame for frame in range(100, 250, 2)
                   for cue in cues}
@@ -328,12 +340,12 @@ class Tracks(unittest.TestCase):
 
     def test_a_track_may_follow_only_an_earlier_one(self) -> None:
         base = self.base({})
-        for one, before, frames, wanted in (
+        for item, before, frames, expected in (
                 ((0, 0), (0, 0), 1, True), ((0, 0), (0, 0), 0, False), ((0, 5), (0, 0), 5, False),
                 ((0, 5), (0, 0), 6, True), ((0, 0), (0, 5), 1, True), ((1, 9), (0, 0), 1, True),
                 ((0, 0), (1, 9), 99, False)):
-            found = Track(*one, base).may_follow(Track(*before, base), frames)
-            self.assertEqual(found, wanted, (one, before, frames))
+            result = Track(*item, base).may_follow(Track(*before, base), frames)
+            self.assertEqual(result, expected, (item, before, frames))
 
     def test_needs_five_cues_in_a_row_for_a_track(self) -> None:
         due = {cue.frame: cue.letters for cue in self.cues}
@@ -348,7 +360,7 @@ class Tracks(unittest.TestCase):
             self.assertEqual([(stretch.track.start, stretch.first, stretch.end)
                               for stretch in row], [(0, 0, 6), (-40, 6, 12)], some)
 
-    def test_takes_the_least_of_the_starts_that_fit_equally(self) -> None:
+    def test_chooses_the_earliest_of_equal_starts(self) -> None:
         # The result must not depend on the order in which a set of start frames is iterated.
         most = {cue.frame: cue.letters for cue in self.cues[:-1]}
         for later in (300, 301, 400, 500):
@@ -377,18 +389,19 @@ class Tracks(unittest.TestCase):
             ([self.base(half, 1), self.base(rest, 1)],
              [(0, 0, 0, 6), (1, 0, 6, 12)])]
         for number, (bases, wanted) in enumerate(rows):
-            self.assertEqual([(one.track.base, one.track.start, one.first, one.end)
-                              for one in find_stretches(bases)], wanted, number)
+            self.assertEqual([(stretch.track.base, stretch.track.start, stretch.first, stretch.end)
+                              for stretch in find_stretches(bases)], wanted, number)
 
-    def test_prefers_the_nearer_track(self) -> None:
+    def test_prefers_the_track_nearest_in_time(self) -> None:
         def row(*several: tuple[int, int, list[int]]) -> list[tuple[int, int]]:
             tracks = list[Track]()
             for number, start, points in several:
                 tracks.append(Track(number, start, self.base({})))
                 tracks[-1].points = points
-            found = find_best_stretches(self.cues, tracks)
-            self.assertEqual([one.first for one in found], [0, *(one.end for one in found[:-1])])
-            return [(one.track.start, one.end) for one in found]
+            best_stretches = find_best_stretches(self.cues, tracks)
+            self.assertEqual([item.first for item in best_stretches],
+                             [0, *(item.end for item in best_stretches[:-1])])
+            return [(item.track.start, item.end) for item in best_stretches]
 
         first, second = (0, 0, [3] * 6 + [0] * 6), [0] * 6 + [3] * 6
         for near, far in (((0, -40), (0, -500)), ((0, 40), (0, -41)), ((0, -4000), (1, 0))):
@@ -401,11 +414,11 @@ class Tracks(unittest.TestCase):
             self.assertEqual(row((0, 0, before), (0, -40, own)), [(0, end), (-40, 12)], own)
         # A change to another track must gain more than four points, and the next cue must be later.
         half, rest = [3] * 7 + [0] * 5, [0] * 7 + [3] * 5
-        for before, place, wanted in (
+        for before, place, expected in (
                 ([3] * 8 + [2] * 4, (0, -40), [(0, 12)]), ([3] * 7 + [2] * 5, (0, -40), [
                     (0, 7), (-40, 12)]), (half, (0, 50), [(0, 12)]),
                 (half, (0, 49), [(0, 7), (49, 12)]), (half, (0, 100), [(0, 12)])):
-            self.assertEqual(row((0, 0, before), (*place, rest)), wanted, (before, place))
+            self.assertEqual(row((0, 0, before), (*place, rest)), expected, (before, place))
         # Matching cues before the first five consecutive matches also count.
         self.assertEqual(row((0, 0, [3] * 4 + [0] + [3] * 5 + [0, 0]), (0, 5000, [0] * 6 + [
             3] * 6)), [(0, 12)])
@@ -414,24 +427,25 @@ class Tracks(unittest.TestCase):
 class Delays(unittest.TestCase):
     # Delays of in-cues and out-cues in frames; `None` if the page was not sent.
     LATE = [(0, 0), (1, 0), (2, 1), (2, 0), (None, None), (2, 2)]
-    EDGES = [ExpectedCue(100 * at + 40 * is_end + at * at, b"" if is_end else b"%d" % at,
-                         not is_end)
-             for at in range(len(LATE)) for is_end in (False, True)]
+    CUE_TIMES = [ExpectedCue(100 * at + 40 * is_end + at * at, b"" if is_end else b"%d" % at,
+                             not is_end)
+                 for at in range(len(LATE)) for is_end in (False, True)]
 
-    def base_of_delays(self) -> TimeBase:
+    def make_delayed_base(self) -> TimeBase:
         """Return a time base of page transmissions with the delays in `LATE`."""
         changes = [(TICKS * (cue.frame + by), cue.letters) for cue, by in zip(
-            self.EDGES, (by for pair in self.LATE for by in pair)) if by is not None]
-        return find_time_bases([], packets_of(changes), 3)[0].copy_between(self.EDGES, -1, 1 << 40)
+            self.CUE_TIMES, (by for pair in self.LATE for by in pair)) if by is not None]
+        return find_time_bases([], make_sent_packets(changes), 3)[0].copy_between(self.CUE_TIMES,
+                                                                                  -1, 1 << 40)
 
     def test_counts_delays_of_begins_and_ends(self) -> None:
-        base = self.base_of_delays()
+        base = self.make_delayed_base()
         self.assertEqual(count_delays(base, base.compare(0)), (
             Counter({2: 3, 0: 1, 1: 1}), Counter({0: 3, 1: 1, 2: 1})))
 
     def test_computes_a_part_without_cached_results_of_the_programme(self) -> None:
-        request, other = self.base_of_delays(), self.base_of_delays()
+        request, other = self.make_delayed_base(), self.make_delayed_base()
         whole = request.fits
-        found = request.copy_between(self.EDGES[4:8], 150, 400).fits
-        self.assertEqual(found, other.copy_between(self.EDGES[4:8], 150, 400).fits)
-        self.assertNotEqual(found, whole)
+        result = request.copy_between(self.CUE_TIMES[4:8], 150, 400).fits
+        self.assertEqual(result, other.copy_between(self.CUE_TIMES[4:8], 150, 400).fits)
+        self.assertNotEqual(result, whole)

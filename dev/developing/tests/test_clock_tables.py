@@ -8,16 +8,16 @@ from unittest import mock
 
 from subtitles.clock.alignment import (
     CueOffset, Drift, EarlyCues, ExpectedCue, ExpectedSubtitle, MAX_BASES, MAX_CUE_OFFSET,
-    MAX_ERASED, MatchedChange, REPEATED, TimeBase, choose_clock, find_drift, find_expected_cues,
-    find_likeliest_clock, find_repeat, find_single_texts, find_time_bases, select_time_bases,
-    skip_repeats)
+    MAX_ERASED_FRAMES, MAX_REPEATED_TEXTS, MatchedChange, TimeBase, choose_clock, find_drift,
+    find_expected_cues, find_likeliest_clock, find_repeat, find_single_texts, find_time_bases,
+    select_time_bases, skip_repeats)
 from subtitles.clock.stretches import (
     EstimatedPart, Stretch, Track, find_airings, find_border, find_changes_by_time, fit_parts,
     limit_bases)
 from subtitles.common.command_line import Lateness
 from subtitles.common.times import CLOCK, EARLY_TICKS, TICKS
 from subtitles.stream.packets import PacketRun, Packets, PageChange
-from .test_clock_properties import packets_of
+from .test_clock_properties import make_sent_packets
 
 EACH = 5000  # frames between the starts of two airings of the programme
 SHIFTS = (0, CLOCK - 2 * TICKS - 7)  # first PTS: without a wrap, and shortly before a wrap
@@ -29,8 +29,8 @@ def changes_at(several: Sequence[tuple[int, bytes]], shift: int = 0) -> list[Pag
             for at, (ticks, letters) in enumerate(several)]
 
 
-def base_with(cues: Sequence[ExpectedCue], several: Sequence[tuple[int, bytes]], length: int = 9999,
-              within: int = 0, shift: int = 0) -> TimeBase:
+def make_time_base(cues: Sequence[ExpectedCue], several: Sequence[tuple[int, bytes]],
+                   length: int = 9999, within: int = 0, shift: int = 0) -> TimeBase:
     """Return a time base of `length` frames with these page changes."""
     return TimeBase(cues, changes_at(several, shift), shift, (shift + TICKS * length) % CLOCK,
                     (0, 99), within)
@@ -58,9 +58,9 @@ class TimeBases(unittest.TestCase):
             (1, [(-EARLY_TICKS, b"a"), (2 * TICKS - EARLY_TICKS - 1, b"b"), (3 * TICKS, b"c")], 0,
              {0: (b"a", -EARLY_TICKS), 1: (b"b", TICKS - EARLY_TICKS - 1), 3: (b"c", 0)})]
         for shift, (within, several, first, wanted) in itertools.product(SHIFTS, rows):
-            base = base_with([], several, 7, within, shift)
+            base = make_time_base([], several, 7, within, shift)
             self.assertEqual((base.first - shift) % CLOCK, first % CLOCK, several)
-            self.assertEqual({frame: one[1:] for frame, one in base.changes.items()}, wanted,
+            self.assertEqual({frame: item[1:] for frame, item in base.changes.items()}, wanted,
                              several)
             self.assertEqual(base.length, 7, several)
 
@@ -74,10 +74,11 @@ class TimeBases(unittest.TestCase):
             ([(0, text), (2, ()), (7, text), (8, ()), (9, text)], [0]),
             ([(0, text), (2, ()), (8, text), (9, ()), (10, text)], [0, 1, 2]),
             ([(0, ()), (1, text), (2, ())], [0, 1, 2])]
-        for some, wanted in rows:
+        for some, expected in rows:
             changes = [PageChange(TICKS * frame, b"x" * bool(shown), at, shown)
                        for at, (frame, shown) in enumerate(some)]
-            self.assertEqual([one.number for one in skip_repeats(changes, MAX_ERASED)], wanted,
+            self.assertEqual([item.number
+                              for item in skip_repeats(changes, MAX_ERASED_FRAMES)], expected,
                              some)
         many = [PageChange(TICKS, b"x" * (at % 2), at, text if at == 25 else other * (at % 2))
                 for at in range(1, 40)]
@@ -86,7 +87,7 @@ class TimeBases(unittest.TestCase):
         due = [ExpectedSubtitle(100, 130, 1, b"x"), ExpectedSubtitle(133, 160, 1, b"x")]
         for second, frames in ((due[1], [0, 20, 23]), (due[1]._replace(letters=b"y"), [0]),
                                (due[1]._replace(begin=130), [0])):
-            base = base_with(find_expected_cues([due[0], second]), [
+            base = make_time_base(find_expected_cues([due[0], second]), [
                 (0, b"x"), (20 * TICKS, b""), (23 * TICKS, b"x")])
             self.assertEqual([*base.changes], frames, second)
 
@@ -104,28 +105,28 @@ class TimeBases(unittest.TestCase):
                 packets, inside)]
 
         whole = [(0, 4, 2), (4, 8, 4), (12, 16, 1), (16, 20, 3)]
-        for inside, wanted in (
+        for inside, expected in (
                 ((0, 19), whole), ((0, 99), whole), ((1, 19), [(1, 4, 1), *whole[1:]]),
                 ((2, 7), [(4, 8, 4)]), ((0, 6), [(0, 4, 2), (4, 7, 3)]), ((7, 7), [(7, 8, 1)]),
                 ((8, 11), []), ((8, 12), [(12, 13, 1)]), ((5, 17), [(5, 8, 3), (12, 16, 1),
                                                                    (16, 18, 2)])):
-            self.assertEqual(bases([2, 4, 0, 1, 3], inside), wanted, inside)
-        found = bases([1, *[2] * (MAX_BASES - 1), 3, 1], (0, 999))
-        self.assertEqual([begin for begin, _, _ in found],
+            self.assertEqual(bases([2, 4, 0, 1, 3], inside), expected, inside)
+        result = bases([1, *[2] * (MAX_BASES - 1), 3, 1], (0, 999))
+        self.assertEqual([begin for begin, _, _ in result],
                          [4 * at for at in range(1, MAX_BASES + 1)])
 
-    def test_reaches_from_the_first_header_to_the_last(self) -> None:
-        for kinds, wanted in (("hhh", (0, 2)), ("ohh", (1, 2)), ("hho", (0, 1)), ("oho", (1, 1)),
-                              ("ooo", None), ("mhh", (1, 2)), ("hhm", (0, 1))):
+    def test_a_time_base_spans_the_first_to_last_header(self) -> None:
+        for kinds, expected in (("hhh", (0, 2)), ("ohh", (1, 2)), ("hho", (0, 1)), ("oho", (1, 1)),
+                                ("ooo", None), ("mhh", (1, 2)), ("hhm", (0, 1))):
             packets = Packets(0, [PacketRun(at, 1, None if kind == "m" else TICKS * at, 0, kind, "")
                                   for at, kind in enumerate(kinds)])
             packets.changes = [PageChange(0, b"", 1)]
             self.assertEqual([base.pts_range for base in find_time_bases([], packets, 0)], [
-                (TICKS * wanted[0], TICKS * wanted[1])] if wanted else [], kinds)
+                (TICKS * expected[0], TICKS * expected[1])] if expected else [], kinds)
         long = Packets(0, [PacketRun(0, 9, 5, TICKS, "h", "")])
         long.changes = [PageChange(5, b"", 0)]
-        self.assertEqual([(one.pts_range, one.packets, one.length)
-                          for one in find_time_bases([], long, 0)],
+        self.assertEqual([(time_base.pts_range, time_base.packets, time_base.length)
+                          for time_base in find_time_bases([], long, 0)],
                          [((5, 5 + 8 * TICKS), (0, 8), 8)])
 
 
@@ -137,8 +138,9 @@ class Fits(unittest.TestCase):
     def fit(self, sent: Sequence[tuple[int, bytes]], offs: Sequence[int] = (0,) * 9,
                length: int = 50, within: int = 0, shift: int = 0, start: int = 10) -> Any:
         """Return the match of cues with page changes if the programme starts at frame `start`."""
-        return base_with(self.cues, [(TICKS * frame + off, letters) for (frame, letters), off in
-                                     zip(sent, offs)], length, within, shift).compare(start)
+        return make_time_base(self.cues,
+                              [(TICKS * frame + off, letters) for (frame, letters), off in
+                               zip(sent, offs)], length, within, shift).compare(start)
 
     def test_counts_cues_with_their_characters_and_texts(self) -> None:
         sent = self.SENT
@@ -173,73 +175,77 @@ class Fits(unittest.TestCase):
         fields = self.fit(late, [0, 1800, 9, -9, 0, 5], within=2)
         self.assertEqual(fields, fit)
         for frame, text, is_there in ((20, b"b", True), (20, b"x", False), (21, b"b", False)):
-            one = base_with(self.cues, [(TICKS * frame, text)])
-            self.assertEqual(one.has_text_at(self.cues[2], 10), is_there, (frame, text, is_there))
-        one = base_with(self.cues, [(TICKS * 20, b"b"), (TICKS * 21, b"x"), (TICKS * 22, b"b"),
-                                    (TICKS * 36, b"")], 60, 2)
+            item = make_time_base(self.cues, [(TICKS * frame, text)])
+            self.assertEqual(item.has_text_at(self.cues[2], 10), is_there, (frame, text, is_there))
+        item = make_time_base(self.cues,
+                              [(TICKS * 20, b"b"), (TICKS * 21, b"x"), (TICKS * 22, b"b"),
+                               (TICKS * 36, b"")], 60, 2)
         for at, start, by in ((2, 10, 0), (2, 9, 1), (2, 8, 0), (2, 7, None), (2, 11, 1),
                                 (3, 10, 1), (3, 9, 0), (3, 8, None), (3, 11, 2)):
-            found = one.find_match(self.cues[at], start)
-            self.assertEqual(found and found.delay, by, (at, start))
-        fit = base_with(self.cues, [(TICKS * 22, b"b")], 60, 2).fit(10)
+            match = item.find_match(self.cues[at], start)
+            self.assertEqual(match and match.delay, by, (at, start))
+        fit = make_time_base(self.cues, [(TICKS * 22, b"b")], 60, 2).fit(10)
         self.assertEqual((fit.start, fit.delays), (8, [0]))
-        base = base_with(self.cues, [(TICKS * (frame + 2), text) for frame, text in self.SENT],
-                         60, 2)
+        base = make_time_base(self.cues, [(TICKS * (frame + 2), text) for frame, text in self.SENT],
+                              60, 2)
         for start in (8, 9, 10):  # all cues have the same delay
             self.assertEqual((base.fit(start).start, base.fit(start).delays), (8, [0] * 6), start)
-        self.assertEqual([min(one.delays) for one in base.fits], [0] * len(base.fits))
-        self.assertEqual((base_with(self.cues, []).fits, base_with([], self.SENT).fits), ([], []))
+        self.assertEqual([min(item.delays) for item in base.fits], [0] * len(base.fits))
+        self.assertEqual((make_time_base(self.cues, []).fits, make_time_base([], self.SENT).fits),
+                         ([], []))
 
     def test_finds_the_smaller_delay_between_begins_and_ends(self) -> None:
         two = [(frame + by, text) for (frame, text), by in zip(self.SENT, (0, 2, 0, 2, 0, 2))]
-        one = [(0, b"x"), (10, b"")]
+        item = [(0, b"x"), (10, b"")]
         rows: list[tuple[list[tuple[int, bytes]], int, CueOffset | None]] = [
             (self.SENT, 0, None), (two, 0, CueOffset(False, 2, 3, 3)),
             (two, 1, CueOffset(False, 2, 3, 3)), (two, 2, None), ([*two[:5], (50, b"")], 0, None),
             ([*two[:1], (12, b""), *two[2:3], (37, b""), two[4], (56, b"")], 0, None),
-            ([*self.SENT[:1], (MAX_CUE_OFFSET + 10, b"")], 0, None), (one[1:], 0, None)]
-        for some, within, wanted in rows:
-            base = base_with(self.cues, [(TICKS * frame, text) for frame, text in some], 60,
-                             within)
-            self.assertEqual(base.find_cue_offset(base.compare(10)), wanted, (some, within))
+            ([*self.SENT[:1], (MAX_CUE_OFFSET + 10, b"")], 0, None), (item[1:], 0, None)]
+        for some, within, expected in rows:
+            base = make_time_base(self.cues, [(TICKS * frame, text) for frame, text in some], 60,
+                                  within)
+            self.assertEqual(base.find_cue_offset(base.compare(10)), expected, (some, within))
         half = [(0, b"a"), (10, b""), (12, b""), (20, b"b"), (37, b"")]  # out-cues on time and late
-        base = base_with(self.cues[:4], [(TICKS * frame, text) for frame, text in half])
+        base = make_time_base(self.cues[:4], [(TICKS * frame, text) for frame, text in half])
         self.assertIsNone(base.find_cue_offset(base.compare(10)))
-        base = base_with(self.cues, [(TICKS * frame, text) for frame, text in self.SENT], 49)
+        base = make_time_base(self.cues, [(TICKS * frame, text) for frame, text in self.SENT], 49)
         for is_begin, late, matches, of in (
                 (True, 0, 3, 3), (False, 0, 2, 2), (True, 10, 0, 2), (True, -1, 0, 2),
                 (False, -1, 0, 3), (True, 9, 0, 3), (False, -36, 0, 1), (True, 20, 0, 2)):
             self.assertEqual(base.count_delayed(base.compare(10), is_begin, late),
                              CueOffset(is_begin, late, matches, of), (is_begin, late, matches))
         for at, is_told in ((MAX_CUE_OFFSET, True), (MAX_CUE_OFFSET + 1, False)):
-            base = base_with(self.cues[:2], [(0, b"a"), (TICKS * (10 + at), b"")])
-            found = base.find_cue_offset(base.compare(10))
-            self.assertEqual(found, CueOffset(False, at, 1, 1) if is_told else None, (at, is_told))
-        base = base_with(self.cues[:2], [(TICKS * 13, b"")])
+            base = make_time_base(self.cues[:2], [(0, b"a"), (TICKS * (10 + at), b"")])
+            cue_offset = base.find_cue_offset(base.compare(10))
+            self.assertEqual(cue_offset, CueOffset(False, at, 1, 1) if is_told else None,
+                             (at, is_told))
+        base = make_time_base(self.cues[:2], [(TICKS * 13, b"")])
         self.assertIsNone(base.find_cue_offset(base.compare(10)))
         # If only out-cues are on time, the in-cues determine the origin.
         for by in (-3, 3):
             some = [(frame + 9 + by * bool(text), text) for frame, text in self.SENT]
-            base = base_with(self.cues, [(TICKS * frame, text) for frame, text in some], 70)
+            base = make_time_base(self.cues, [(TICKS * frame, text) for frame, text in some], 70)
             self.assertEqual(base.find_cue_offset(base.compare(1)), CueOffset(True, by, 3, 3), by)
-            self.assertEqual(base.align_in_cues(base.compare(1)).start, 1 - by, by)
-            self.assertEqual(base.align_in_cues(base.compare(1 - by)).start, 1 - by, by)
+            self.assertEqual(base.align_to_in_cues(base.compare(1)).start, 1 - by, by)
+            self.assertEqual(base.align_to_in_cues(base.compare(1 - by)).start, 1 - by, by)
 
     def test_samples_the_votes_of_many_changes(self) -> None:
         sent = [(TICKS * at, b"x") for at in range(0, 80, 2)] + [
             (TICKS * (cue.frame + 500), b"y") for cue in self.cues] + [(TICKS * 900, b"x")]
         for votes in (1 << 20, 100):
             with mock.patch("subtitles.clock.alignment.VOTES", votes):
-                starts = [fit.start for fit in base_with(self.cues, sent).fits]
+                starts = [fit.start for fit in make_time_base(self.cues, sent).fits]
             self.assertIn(-500, starts, votes)
         with mock.patch("subtitles.clock.alignment.VOTES", 60):
-            self.assertEqual(len(find_changes_by_time([base_with(self.cues * 2, sent)], 12)), 12)
-        for count, votes in ((REPEATED, True), (REPEATED + 1, False)):
+            self.assertEqual(len(find_changes_by_time([make_time_base(self.cues * 2, sent)], 12)),
+                             12)
+        for count, votes in ((MAX_REPEATED_TEXTS, True), (MAX_REPEATED_TEXTS + 1, False)):
             cues = [ExpectedCue(1000 * at * at, b"x", True) for at in range(count)] + [
                 ExpectedCue(5, b"", False), ExpectedCue(7, b"y", True)]
-            found = base_with(cues, [(TICKS, b"x"), (2 * TICKS, b""),
-                                     (3 * TICKS, b"y")]).count_equal_texts()
-            self.assertEqual(found, {4: 1, **{1000 * at * at - 1: 1 for at in range(
+            result = make_time_base(cues, [(TICKS, b"x"), (2 * TICKS, b""),
+                                           (3 * TICKS, b"y")]).count_equal_texts()
+            self.assertEqual(result, {4: 1, **{1000 * at * at - 1: 1 for at in range(
                 count * votes)}}, (count, votes))
 
     def test_returns_texts_that_are_sent_once(self) -> None:
@@ -264,7 +270,7 @@ class Parts(unittest.TestCase):
         second = [(TICKS * (cue.frame + later), cue.letters) for cue in cues[half:]]
         first += [(TICKS * frame, letters) for frame, letters in extra]
         several = [first, second] if is_anew else [sorted(first + second)]
-        bases = [base_with(cues, some, 6000) for some in several]
+        bases = [make_time_base(cues, some, 6000) for some in several]
         row = [Stretch(Track(0, 0, bases[0]), 0, half),
                Stretch(Track(len(bases) - 1, -later, bases[-1]), half, len(cues))]
         return fit_parts(shown, bases, row)
@@ -283,17 +289,17 @@ class Parts(unittest.TestCase):
             (into, [], [(100, 250, 4, 4, 1), (400, 650, 5, 6, 0)]),
             (two, [], [(100, 230, 4, 4, 1), (400, 650, 5, 6, 0)])]
         for (some, extra, wanted), is_anew in itertools.product(rows, (False, True)):
-            found = self.parts(some, 4000, is_anew, extra)
-            self.assertEqual([(*one[:2], one.best.matches, one.best.total, len(one.overlapping))
-                              for one in found], wanted, some)
-            self.assertEqual([(one.best.start, one.base, one.early) for one in found],
+            result = self.parts(some, 4000, is_anew, extra)
+            self.assertEqual([(*item[:2], item.best.matches, item.best.total, len(item.overlapping))
+                              for item in result], wanted, some)
+            self.assertEqual([(item.best.start, item.base, item.early) for item in result],
                              [(0, 0, None), (-4000, int(is_anew), None)], some)
-            first, second = ([*one.time_base.changes] for one in found)
+            first, second = ([*item.time_base.changes] for item in result)
             beside = sorted(frame for frame, _ in extra)
             last = some[2].begin if wanted[0][4] else min(some[2].end, 399)
             self.assertEqual((first[-1], second[0]), (
                 beside[-1] if beside else last, 4400 if is_anew else min(
-                    [one for one in beside if one > last] + [4400])), some)
+                    [item for item in beside if item > last] + [4400])), some)
 
     def test_each_part_has_its_own_delays(self) -> None:
         cues = find_expected_cues(self.shown)
@@ -302,24 +308,24 @@ class Parts(unittest.TestCase):
             sent = [(TICKS * (cue.frame + by + (cue.frame in (100, 400)) * -by + 4000 * part),
                      cue.letters) for part, by in enumerate(delays)
                     for cue in cues[6 * part:6 * part + 6]]
-            base = base_with(cues, sent, 6000, 1)
+            base = make_time_base(cues, sent, 6000, 1)
             row = [Stretch(Track(0, 0, base), 0, 6), Stretch(Track(0, -4000, base), 6, 12)]
             for shares in (None, late):
-                found = fit_parts(self.shown, [base], row, shares)
-                self.assertEqual([(one.best.start, one.early) for one in found], [
+                result = fit_parts(self.shown, [base], row, shares)
+                self.assertEqual([(item.best.start, item.early) for item in result], [
                     (start - by, None if shares or not by else EarlyCues(1, 6, 1))
                     for start, by in zip((0, -4000), delays)], (delays, shares))
 
-    def test_takes_the_time_base_with_the_most_agreeing_cues(self) -> None:
+    def test_chooses_the_time_base_with_most_matches(self) -> None:
         cues = find_expected_cues(self.shown)
         own = [(TICKS * cue.frame, cue.letters) for cue in cues]
-        none = base_with(cues, [(0, b"x")]).copy_between([], -1, 9)
-        strange = base_with(cues, [(TICKS * at * at, b"x") for at in range(30)])
-        for bases, number in (([base_with(cues, own[:2]), base_with(cues, own[:5])], 1),
-                              ([base_with(cues, own[:5]), base_with(cues, own[:4])], 0),
-                              ([none, base_with(cues, own[:3]), none], 1),
-                              ([base_with(cues, own[:5]), strange], 0),
-                              ([strange, base_with(cues, own[:5])], 1)):
+        none = make_time_base(cues, [(0, b"x")]).copy_between([], -1, 9)
+        strange = make_time_base(cues, [(TICKS * at * at, b"x") for at in range(30)])
+        for bases, number in (([make_time_base(cues, own[:2]), make_time_base(cues, own[:5])], 1),
+                              ([make_time_base(cues, own[:5]), make_time_base(cues, own[:4])], 0),
+                              ([none, make_time_base(cues, own[:3]), none], 1),
+                              ([make_time_base(cues, own[:5]), strange], 0),
+                              ([strange, make_time_base(cues, own[:5])], 1)):
             [part] = fit_parts(self.shown[::-1], bases, [])  # subtitles in reverse order
             self.assertEqual((part.base, part[:2], part.best.start, part.overlapping), (
                 number, (100, 650), 0, []), number)
@@ -330,12 +336,12 @@ class Parts(unittest.TestCase):
         ends = [(ticks + 3 * TICKS * (not text), text) for ticks, text in own]
         begins = [(ticks + 3 * TICKS * bool(text), text) for ticks, text in own]
         for some, start in ((ends, 0), (begins, -3)):
-            [part] = fit_parts(self.shown, [base_with(cues, some)], [])
+            [part] = fit_parts(self.shown, [make_time_base(cues, some)], [])
             self.assertEqual(part.best.start, start, (some, start))
 
-    def test_begins_a_stretch_where_it_gains_the_most(self) -> None:
+    def test_begins_a_stretch_at_the_best_cue(self) -> None:
         cues = [ExpectedCue(50 * at, b"", True) for at in range(15)]
-        for before, own, start, wanted in (
+        for before, own, start, expected in (
                 ([3] * 6 + [0] * 9, [0] * 10 + [3] * 5, -9, 10),
                 ([3] * 6 + [0] * 9, [0] * 8 + [3, 0] + [3] * 5, -9, 8),
                 ([3] * 7 + [2] + [0] * 7, [0] * 6 + [3, 0, 3, 0] + [3] * 5, -9, 8),
@@ -346,11 +352,11 @@ class Parts(unittest.TestCase):
                 ([0] * 15, [3] * 15, 50, 10),
                 ([1] * 8 + [0] * 7, [0] * 7 + [3, 0, 0] + [3] * 5, -9, 7),
                 ([1] * 10 + [0] * 5, [0] * 7 + [3, 0, 0] + [3] * 5, -9, 10)):
-            base = base_with([], [])
+            base = make_time_base([], [])
             tracks = [Track(0, 0, base), Track(0, start, base)]
             tracks[0].points, tracks[1].points = before, own
             self.assertEqual(find_border(cues, Stretch(tracks[0], 0, 10), Stretch(
-                tracks[1], 10, 15)), wanted, (before, own, start))
+                tracks[1], 10, 15)), expected, (before, own, start))
 
 
 class Runs(unittest.TestCase):
@@ -372,11 +378,11 @@ class Runs(unittest.TestCase):
                 is_text = kind in "rhl" or kind == "f" and at % 8 < 2 or not cue.letters
                 sendings.append((TICKS * (cue.frame + step * number),
                                  cue.letters if is_text else b"wrong %d" % at))
-        bases = find_time_bases(shown, packets_of(sendings), 0)
+        bases = find_time_bases(shown, make_sent_packets(sendings), 0)
         return [(first[1] + EACH * first[0], last[1] + EACH * last[0])
                 for first, last in find_airings(bases, has_clock)]
 
-    def test_finds_each_run_whichever_is_the_best(self) -> None:
+    def test_finds_each_run_in_any_order(self) -> None:
         for step, kinds in itertools.product((EACH, -10 ** 6), (
                 "r", "rrr", "hrr", "lr", "rwr", "wrw", "fr")):
             for has_clock in (False, True)[:1 + ("w" in kinds)]:
@@ -389,13 +395,14 @@ class Runs(unittest.TestCase):
         self.assertEqual(self.run_frames(self.grid, "rr", EACH), [(0, 1150), (EACH, EACH + 1150)])
 
     def test_returns_the_changes_between_two_places(self) -> None:
-        bases = [base_with([], [(TICKS * at, b"%d" % at) for at in range(5)], 4) for _ in range(3)]
-        for low, high, wanted in (
+        bases = [make_time_base([], [(TICKS * at, b"%d" % at) for at in range(5)], 4)
+                 for _ in range(3)]
+        for low, high, expected in (
                 ((0, 1), (0, 3), [[2], [], []]), ((0, 1), (1, 1), [[2, 3, 4], [0], []]),
                 ((-1, 0), (1, 0), [[0, 1, 2, 3, 4], [], []]), ((1, 4), (1 << 40, 0), [
                     [], [], [0, 1, 2, 3, 4]]), ((0, 4), (2, 2), [[], [0, 1, 2, 3, 4], [0, 1]]),
                 ((1, 2), (1, 3), [[], [], []]), ((-1, 0), (0, 1), [[0], [], []])):
-            self.assertEqual([[*base.changes] for base in limit_bases(bases, low, high)], wanted,
+            self.assertEqual([[*base.changes] for base in limit_bases(bases, low, high)], expected,
                              (low, high))
 
     def test_finds_a_run_by_its_times_alone(self) -> None:
@@ -404,36 +411,36 @@ class Runs(unittest.TestCase):
                 (20, 20, True), (20, 18, True), (20, 17, False), (16, 15, True), (10, 15, True),
                 (10, 14, False), (9, 20, False), (19, 20, True))):
             reported = is_told and count >= 10 * (1 + within)
-            base = base_with(cues, [(TICKS * (cue.frame + within * at % 2), b"%d" % at)
-                                    for at, cue in enumerate(cues[:changes])], 9999, within)
+            base = make_time_base(cues, [(TICKS * (cue.frame + within * at % 2), b"%d" % at)
+                                         for at, cue in enumerate(cues[:changes])], 9999, within)
             for bases in ([base], [base.copy_between(cues, -1, -1), base],
                           [base.copy_between(cues, -1, 300), base]):
-                wanted = {at: (len(bases) - 1, cue.frame + within * at % 2)
-                          for at, cue in enumerate(cues[:changes])}
-                self.assertEqual(find_changes_by_time(bases, count), wanted if reported else {},
+                expected = {at: (len(bases) - 1, cue.frame + within * at % 2)
+                            for at, cue in enumerate(cues[:changes])}
+                self.assertEqual(find_changes_by_time(bases, count), expected if reported else {},
                                  (within, count, changes))
 
 
 class Choices(unittest.TestCase):
-    def test_takes_the_likeliest_clock_by_known_delays(self) -> None:
+    def test_estimates_the_clock_by_known_delays(self) -> None:
         late = Lateness({0: 1, 1: 1}, {0: 1})
         for delays, by in (([-1, -1, 0, 0, 0, 1], -1), ([-1, 0, 0, 0, 1, 1], 0),
                            ([0, 1, 1, 2, 2, 2], 1), ([0, 0, 0, 1, 1, 2], 0), ([2] * 6, 1)):
             cues = [ExpectedCue(100 * at, b"%d" % at, True) for at in range(1, 7)]
-            base = base_with(cues, [(TICKS * (cue.frame + one), cue.letters)
-                                    for cue, one in zip(cues, delays)], 900, 1)
+            base = make_time_base(cues, [(TICKS * (cue.frame + item), cue.letters)
+                                         for cue, item in zip(cues, delays)], 900, 1)
             self.assertEqual(find_likeliest_clock(base, base.compare(0), late).start, -by, delays)
-            wrong = base_with(cues, [(TICKS * (cue.frame + one), b"x")
-                                     for cue, one in zip(cues, delays)], 900, 1)
+            wrong = make_time_base(cues, [(TICKS * (cue.frame + item), b"x")
+                                          for cue, item in zip(cues, delays)], 900, 1)
             self.assertEqual(find_likeliest_clock(wrong, wrong.compare(0), late).start, -1, delays)
-        base = self.base_of_delays([1, None, 1, 0, 2, None])
+        base = self.make_delayed_base([1, None, 1, 0, 2, None])
         self.assertEqual(find_likeliest_clock(base, base.compare(0), late).start, 0)
 
-    def base_of_delays(self, delays: Sequence[int | None]) -> TimeBase:
+    def make_delayed_base(self, delays: Sequence[int | None]) -> TimeBase:
         """Return a time base in which the cues of subtitles have these delays."""
         cues = find_expected_cues([ExpectedSubtitle(100 * at, 100 * at + 50, at, b"%d" % at)
                                    for at in range(1, len(delays) // 2 + 1)])
-        return base_with(cues, [(TICKS * (cue.frame + by), cue.letters) for cue, by in zip(
+        return make_time_base(cues, [(TICKS * (cue.frame + by), cue.letters) for cue, by in zip(
             cues, delays) if by is not None], 9999, 1)
 
     def test_ignores_repeated_texts_for_a_drift(self) -> None:
@@ -444,9 +451,9 @@ class Choices(unittest.TestCase):
                          (Drift(0, 1100, 5), Drift(200, 1100, 4)))
 
     def test_reports_early_ends(self) -> None:
-        for delays, wanted in (([1, 1] * 9 + [1, 0], (-1, EarlyCues(1, 20, 1))),
-                               ([1, 1] * 9 + [0, 0], (-1, EarlyCues(2, 20, 1))),
-                               ([1, 0] * 10, (0, None)), ([0, 1] * 10, (0, None))):
-            base = self.base_of_delays(delays)
+        for delays, expected in (([1, 1] * 9 + [1, 0], (-1, EarlyCues(1, 20, 1))),
+                                 ([1, 1] * 9 + [0, 0], (-1, EarlyCues(2, 20, 1))),
+                                 ([1, 0] * 10, (0, None)), ([0, 1] * 10, (0, None))):
+            base = self.make_delayed_base(delays)
             best, early = choose_clock(base, base.fit(0), None)
-            self.assertEqual((best.start, early), wanted, delays)
+            self.assertEqual((best.start, early), expected, delays)

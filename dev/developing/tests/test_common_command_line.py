@@ -21,22 +21,22 @@ from unittest import mock
 from subtitles.common import command_line
 from subtitles.common.command_line import Stop
 from subtitles.common.files import (
-    BUFFER_SIZE, BackgroundSum, File, Input, Inputs, SummedFile, is_replaced, is_utf_8,
-    make_safe_name, make_temporary_folder, name_errors, open_output, open_result,
+    BUFFER_SIZE, BackgroundChecksum, File, Input, Inputs, SummedFile, add_name_to_errors,
+    is_replaced, is_utf_8, make_safe_name, make_temporary_folder, open_output, open_result,
     read_bounded_bytes, read_first_bytes)
 from subtitles.common.markup import join_markup, markup
 from subtitles.common.program import find_built_program, sources
 from subtitles.formats import listing
 from subtitles.request.lines import (
     MAX_BYTES, MAX_LINES, MAX_LINE_CHARACTERS, MAX_WORDS, MAX_LINE_WORDS, split_lines,
-    read_list, split_words)
+    read_list, split_arguments)
 from .bench import Case
 from .test_dev_layers import TOOLS, modules
 from .test_formats_files import refusal
 
 
 class CommandLine(Case):
-    def test_takes_the_least_and_the_greatest_value_of_each_option(self) -> None:
+    def test_accepts_the_limits_of_each_option(self) -> None:
         none: Any = None
         many = "9" * 5000
         of_words: list[tuple[Callable[[str], object], dict[str, object]]] = [
@@ -62,61 +62,62 @@ class CommandLine(Case):
             (command_line.parse_pid, {"0": 0, "8190": 8190, "0x1FFE": 8190, "8191": none,
                 "-1": none, "0x101": 257, "x": none, "": none})]
         for call, texts in of_words:
-            for text, wanted in texts.items():
+            for text, expected in texts.items():
                 try:
-                    found = call(text)
+                    result = call(text)
                 except argparse.ArgumentTypeError:
-                    found = None
-                self.assertEqual(found, wanted, f"{call.__name__} {text[:20]}")
+                    result = None
+                self.assertEqual(result, expected, f"{call.__name__} {text[:20]}")
 
     def test_formats_options_and_counts(self) -> None:
-        for pid, size, wanted in ((None, 188, []), (None, 204, []),
-                                  (0x101, 188, ["--pid", "0x101"]),
-                                  (0, 192, ["--pid", "0x0", "--packet-size", "192"])):
-            self.assertEqual(command_line.stream_options(pid, size), wanted, (pid, size))
-        self.assertEqual([command_line.counted(one, "fault") for one in (0, 1, 2)],
+        for pid, size, expected in ((None, 188, []), (None, 204, []),
+                                    (0x101, 188, ["--pid", "0x101"]),
+                                    (0, 192, ["--pid", "0x0", "--packet-size", "192"])):
+            self.assertEqual(command_line.make_stream_options(pid, size), expected, (pid, size))
+        self.assertEqual([command_line.counted(item, "fault") for item in (0, 1, 2)],
                          ["0 faults", "1 fault", "2 faults"])
-        self.assertEqual([command_line.format_frame_range(*one)
-                          for one in ((0, 0), (1, 1), (0, 1), (0, 2))],
+        self.assertEqual([command_line.format_frame_range(*item)
+                          for item in ((0, 0), (1, 1), (0, 1), (0, 2))],
                          ["0 frames", "1 frame", "0 to 1 frame", "0 to 2 frames"])
         parser = command_line.ToolParser("")
         command_line.add_page(parser)
         self.assertEqual(vars(parser.parse_args([])), {"page": (0, 0x88)})
 
     def test_escapes_control_characters_of_terminals(self) -> None:
-        for text, wanted in (("\x1f ~\x7f", "\\x1f ~\\x7f"), ("\x80\x9f\xa0", "\\u0080\\u009f\xa0"),
-                             ("\u061c\u061b", "\\u061c\u061b"), ("\u200d\u200e\u200f\u2010",
-                                                                 "\u200d\\u200e\\u200f\u2010"),
-                             ("\u2027\u2028\u202e\u202f", "\u2027\\u2028\\u202e\u202f"),
-                             ("\u2065\u2066\u2069\u206a", "\u2065\\u2066\\u2069\u206a"),
-                             ("\udc80\udcff", "\\x80\\xff"), ("\udc7f\ud800", "\\udc7f\\ud800"),
-                             ("a\nb\0", "a\\x0ab\\x00")):
-            self.assertEqual(command_line.escape_hidden(text), wanted, text)
+        for text, expected in (("\x1f ~\x7f", "\\x1f ~\\x7f"),
+                               ("\x80\x9f\xa0", "\\u0080\\u009f\xa0"),
+                               ("\u061c\u061b", "\\u061c\u061b"), ("\u200d\u200e\u200f\u2010",
+                                                                   "\u200d\\u200e\\u200f\u2010"),
+                               ("\u2027\u2028\u202e\u202f", "\u2027\\u2028\\u202e\u202f"),
+                               ("\u2065\u2066\u2069\u206a", "\u2065\\u2066\\u2069\u206a"),
+                               ("\udc80\udcff", "\\x80\\xff"), ("\udc7f\ud800", "\\udc7f\\ud800"),
+                               ("a\nb\0", "a\\x0ab\\x00")):
+            self.assertEqual(command_line.escape_hidden(text), expected, text)
             self.assertTrue(command_line.quote_argument(text).startswith("$'"), text)
         for text in ("plain", "two words", "it's", "a\\b", ""):
             self.assertEqual(shlex.split(command_line.quote_argument(text)), [text], text)
         for text in ("it's\na\\n", "\x1b[1m"):
-            done = self.call(["bash", "-c", f"printf %s {command_line.quote_argument(text)}"])
-            self.assertEqual(done.out.decode(), text, text)
+            process = self.call(["bash", "-c", f"printf %s {command_line.quote_argument(text)}"])
+            self.assertEqual(process.out.decode(), text, text)
 
     def test_prints_one_line_for_each_error(self) -> None:
-        for reason, wanted in (
+        for reason, expected in (
                 (Stop("a  line\nof two"), "a line of two"), (KeyboardInterrupt(), "stopped"),
                 (OSError(2, "No such file", "a.stl"), "a.stl: No such file"),
                 (OSError(28, "No space"), "the output: No space"),
                 (OSError(2, "No such file", ""), "an empty name: No such file"),
                 (OSError("a  word"), "the output: a word"),
                 (ValueError("x  y"), "internal error: ValueError in no line: x y")):
-            self.assertEqual(command_line.format_error(reason), wanted, reason)
+            self.assertEqual(command_line.format_error(reason), expected, reason)
         for value, lines in (("0", 0), ("1", 1)):
             with mock.patch.dict(os.environ, {"SUBTTX_DEBUG": value}), \
                     mock.patch("traceback.print_exception") as traced:
                 command_line.format_error(ValueError("x"))
                 command_line.format_error(Stop("x"))
             self.assertEqual(traced.call_count, lines, (value, lines))
-        for name, wanted in (("a", "a"), ("-", "./-"), ("-a", "./-a"), ("=a", "./=a"),
-                             ("+a", "./+a"), ("@a", "./@a"), ("a-", "a-"), ("/-a", "/-a")):
-            self.assertEqual(make_safe_name(name), wanted, name)
+        for name, expected in (("a", "a"), ("-", "./-"), ("-a", "./-a"), ("=a", "./=a"),
+                               ("+a", "./+a"), ("@a", "./@a"), ("a-", "a-"), ("/-a", "/-a")):
+            self.assertEqual(make_safe_name(name), expected, name)
 
     def test_handles_a_missing_version_and_a_closed_output(self) -> None:
         with mock.patch.object(command_line, "HOME", self.folder):
@@ -130,7 +131,7 @@ class CommandLine(Case):
                          [True, True, True, False])
 
     def test_names_a_file_as_it_was_given(self) -> None:
-        with self.assertRaises(OSError) as reported, name_errors("typed"):
+        with self.assertRaises(OSError) as reported, add_name_to_errors("typed"):
             raise OSError(2, "No such file", "one", None, "two")
         self.assertEqual((reported.exception.filename, reported.exception.filename2),
                          ("typed", None))
@@ -151,8 +152,8 @@ class CommandLine(Case):
         os.mkdir(self.path("folder"))
         os.mkfifo(self.path("pipe"))
         os.symlink("file", self.path("link"))
-        with socket.socket(socket.AF_UNIX) as made:
-            made.bind(self.path("socket"))
+        with socket.socket(socket.AF_UNIX) as result:
+            result.bind(self.path("socket"))
         for name, kind in (("folder", "a folder"), ("pipe", "a pipe"), ("socket", "a socket"),
                            ("/dev/zero", "a device")):
             for may_be_pipe in (False, True)[:1 + (name != "pipe")]:
@@ -164,11 +165,11 @@ class CommandLine(Case):
         self.must("a link", refusal(lambda: read_first_bytes(self.path("link"), 9,
                                                              is_followed=False))
                   == f"{self.path('link')} is a link")
-        for most, wanted in ((4, b""), (5, b"12345"), (6, b"12345")):
+        for most, expected in ((4, b""), (5, b"12345"), (6, b"12345")):
             message = refusal(lambda: read_bounded_bytes(self.path("file"), most))
-            self.must(f"{most}", bool(message) == (not wanted) and (
+            self.must(f"{most}", bool(message) == (not expected) and (
                 message or read_bounded_bytes(self.path("file"), most)) == (
-                    wanted or f"{self.path('file')} has more than 4 bytes"), message)
+                    expected or f"{self.path('file')} has more than 4 bytes"), message)
         with File(self.path("file")) as file, mock.patch.object(
                 file, "file", mock.Mock(**{"read.return_value": None})):
             self.check("a file of the system that waits", refusal(lambda: file.read()),
@@ -182,20 +183,22 @@ class CommandLine(Case):
         for _ in range(20_000):
             line = "".join(chance.choice("ab \t\\'\"#é\r=-") for _ in range(chance.randrange(12)))
             try:
-                wanted: object = shlex.split(line, comments=True)
+                expected: object = shlex.split(line, comments=True)
             except ValueError:
-                wanted = "wrong"
+                expected = "wrong"
             try:
-                found: object = split_words(line)
+                result: object = split_arguments(line)
             except ValueError:
-                found = "wrong"
-            self.assertEqual(found, wanted, repr(line))
+                result = "wrong"
+            self.assertEqual(result, expected, repr(line))
         began = time.process_time()
-        for one in ("a", "'b'c", "\\d", '"\\e"'):
-            self.assertEqual(len(split_words(one * (MAX_LINE_CHARACTERS // len(one)))), 1, one)
+        for item in ("a", "'b'c", "\\d", '"\\e"'):
+            self.assertEqual(len(split_arguments(item * (MAX_LINE_CHARACTERS // len(item)))),
+                             1, item)
         self.assertLess(time.process_time() - began, 5)
         lines = split_lines(f"a\n{'b' * (MAX_LINE_CHARACTERS + 1)}\nc\x0b\x85\u2028 'd e'\n'")
-        self.assertEqual([(one.number, one.arguments[-1][:9], bool(one.fault)) for one in lines], [
+        self.assertEqual([(item.number, item.arguments[-1][:9], bool(item.fault))
+                          for item in lines], [
             (1, "a", False), (2, "b" * 9, True), (3, "d e", False), (4, "'", True)])
         path = self.write("list", (b"#" * 63_999 + b"\n") * (MAX_BYTES // 64_000))
         self.assertEqual([*split_lines(read_list(path))], [])
@@ -225,15 +228,15 @@ class CommandLine(Case):
             self.check(name, [line.fault for line in split_lines(text)], [fault])
 
     def test_escapes_text_in_pages(self) -> None:
-        for text, wanted in (("a<b>&\"'", "a&lt;b&gt;&amp;&quot;&#x27;"), ("\x07", "\\x07"),
-                             ("\udc80", "\\x80"), ("\ufffe", "\\ufffe"), ("{}", "{}"),
-                             ("a\nb", "a\nb"), *((chr(code), f"\\u{code:04x}") for code in (
+        for text, expected in (("a<b>&\"'", "a&lt;b&gt;&amp;&quot;&#x27;"), ("\x07", "\\x07"),
+                               ("\udc80", "\\x80"), ("\ufffe", "\\ufffe"), ("{}", "{}"),
+                               ("a\nb", "a\nb"), *((chr(code), f"\\u{code:04x}") for code in (
                                  0x61C, 0x200E, 0x200F, *range(0x2028, 0x202F),
                                  *range(0x2066, 0x206A))),
-                             *((chr(code), f"\\u{code:04x}") for code in range(0x80, 0xA0)),
-                             ("\r", "\\x0d"), ("\t", "\\x09"), ("\x7f", "\\x7f")):
+                               *((chr(code), f"\\u{code:04x}") for code in range(0x80, 0xA0)),
+                               ("\r", "\\x0d"), ("\t", "\\x09"), ("\x7f", "\\x7f")):
             self.assertEqual(markup('<a b="{}">{}</a>', text, text).source,
-                             f'<a b="{wanted}">{wanted}</a>', text)
+                             f'<a b="{expected}">{expected}</a>', text)
         bold = markup("<b>{}</b>", 5)
         self.assertEqual((markup("{}{:,}{:.1f}", bold, 1000, 2.55).source, (bold + bold).source,
                           join_markup([bold, "<"], markup("<br/>")).source, bool(bold),
@@ -253,7 +256,7 @@ class CommandLine(Case):
                 at = {"markup": 0, "Markup": 0}.get(call.func.id)  # type: ignore
                 if at is not None and not path.endswith("markup.py") and "spans" not in path:
                     self.must(f"{path} line {call.lineno}", all(isinstance(
-                        one, ast.Constant) for one in call.args[at:at + 1]))
+                        arg, ast.Constant) for arg in call.args[at:at + 1]))
 
     def test_reads_meanings_from_the_manual(self) -> None:
         path = self.write("chapter", b"""# Refusals
@@ -272,21 +275,21 @@ class CommandLine(Case):
             ).values())))
 
     def test_writes_a_file_completely_or_not_at_all(self) -> None:
-        one = self.write("one", b"old")
-        os.symlink(one, self.path("link"))
+        item = self.write("one", b"old")
+        os.symlink(item, self.path("link"))
         with open_output(self.path("link")) as file:
             file.write(b"linked")
         self.assertEqual((self.read("one"), os.path.islink(self.path("link"))), (b"linked", True))
         mask = os.umask(0o027)
-        for path in (one, self.path("new")):
+        for path in (item, self.path("new")):
             with open_output(path) as file:
                 file.write(b"new")
             self.assertEqual(os.stat(path).st_mode & 0o777, 0o640, path)
         os.umask(mask)
-        with self.assertRaises(KeyError), open_output(one) as file:
+        with self.assertRaises(KeyError), open_output(item) as file:
             file.write(b"half")
             raise KeyError
-        self.assertEqual((self.read("one"), is_replaced(one), is_replaced("/dev/null"),
+        self.assertEqual((self.read("one"), is_replaced(item), is_replaced("/dev/null"),
                           is_replaced(self.path("none")), is_replaced("-")),
                          (b"new", True, False, True, False))
 
@@ -303,13 +306,13 @@ class CommandLine(Case):
     def test_hashes_all_bytes_of_a_file(self) -> None:
         for size in (0, 1, BUFFER_SIZE - 1, BUFFER_SIZE, BUFFER_SIZE + 1, 2 * BUFFER_SIZE + 5):
             name = self.write(f"{size}", bytes(range(251)) * (size // 251) + b"x" * (size % 251))
-            wanted = SummedFile(name, size, hashlib.sha256(self.read(name)).hexdigest())
-            self.check(f"{size} bytes", BackgroundSum(name).result(), wanted)
+            expected = SummedFile(name, size, hashlib.sha256(self.read(name)).hexdigest())
+            self.check(f"{size} bytes", BackgroundChecksum(name).result(), expected)
             with mock.patch("threading.Thread.start", side_effect=RuntimeError("no thread")):
-                self.check(f"{size} bytes, no thread", BackgroundSum(name).result(), wanted)
+                self.check(f"{size} bytes, no thread", BackgroundChecksum(name).result(), expected)
         os.mkfifo(self.path("pipe"))
         for wrong in (self.folder, self.path("none"), self.path("0/x"), self.path("pipe")):
-            self.assertRaises((Stop, OSError), BackgroundSum(wrong).result)
+            self.assertRaises((Stop, OSError), BackgroundChecksum(wrong).result)
 
     def test_refuses_a_file_that_is_not_executable(self) -> None:
         self.write_program("program", "#!/bin/sh\n")
@@ -328,27 +331,27 @@ class CommandLine(Case):
                 message = refusal(lambda: self.assertEqual(find_built_program(), "path"))
             self.must(f"{chosen}", message.startswith(why) and bool(message) == bool(why), message)
         for status in (0, 1, -9):
-            done = subprocess.CompletedProcess([], status, b"a sum\n")
-            with mock.patch("subprocess.run", return_value=done):
+            completed_process = subprocess.CompletedProcess([], status, b"a sum\n")
+            with mock.patch("subprocess.run", return_value=completed_process):
                 message = refusal(lambda: self.assertEqual(sources(), "a sum"))
             self.must(f"{status}", bool(message) == (status != 0), message)
 
     def test_recognises_an_input_by_any_name(self) -> None:
-        one, other = self.write("one", b"1"), self.write("other", b"2")
-        os.link(one, self.path("hard"))
+        item, other = self.write("one", b"1"), self.write("other", b"2")
+        os.link(item, self.path("hard"))
         os.symlink("one", self.path("link"))
         inputs = Inputs(self.path("link"), None, "-", self.path("none"))
-        for name, is_followed, wanted in (
+        for name, is_followed, expected in (
                 ("one", False, True), ("hard", False, True), ("link", False, True),
                 ("other", True, False), ("none", True, False)):
             message = refusal(lambda: inputs.refuse(self.path(name), is_followed))
-            self.must(f"{name}", bool(message) == wanted, message)
+            self.must(f"{name}", bool(message) == expected, message)
         before = os.dup(0)
-        for name, wanted in (("one", True), ("pipe", False)):
-            standard = os.open(self.path("one"), os.O_RDONLY) if wanted else os.pipe()[0]
+        for name, expected in (("one", True), ("pipe", False)):
+            standard = os.open(self.path("one"), os.O_RDONLY) if expected else os.pipe()[0]
             os.dup2(standard, 0)
             self.must(f"{name} as standard input", bool(refusal(
-                lambda: Inputs("-").refuse(self.path("one"), True))) == wanted)
+                lambda: Inputs("-").refuse(self.path("one"), True))) == expected)
         os.dup2(before, 0)
         os.symlink("one", self.path("another"))
         for is_followed in (False, True):
@@ -390,13 +393,13 @@ class Signals(Case):
             def interrupted(path: str, *words: Any, **more: Any) -> None:
                 seen.append(path)
                 if place != "shutil.rmtree":
-                    made(path, *words, **more)
+                    result(path, *words, **more)
                 if len(seen) == 1:
                     raise KeyboardInterrupt
-                made(path, *words, **more)
+                result(path, *words, **more)
 
             seen: list[str] = []
-            made: Any = os.mkdir if place == "os.mkdir" else shutil.rmtree
+            result: Any = os.mkdir if place == "os.mkdir" else shutil.rmtree
             patched: Any = \
                 mock.patch(f"subtitles.common.files.{place}", interrupted) if place else \
                 contextlib.nullcontext()

@@ -10,24 +10,25 @@ from unittest import mock
 
 from subtitles.common.markup import markup
 from subtitles.common.shapes import (
-    Flag, Integer, Listed, Maybe, Member, Number, OneOf, Record, Rules, Shape, Text)
-from subtitles.common.times import ALL_DAY, Between, FRAMES_OF_A_DAY
+    Flag, Integer, ListOf, Maybe, Member, Number, OneOf, Record, Rules, Shape, Text)
+from subtitles.common.times import ALL_DAY, FRAMES_OF_A_DAY, FrameRange
 from subtitles.request.commands import (
-    Listener, OutputNames, ListNames, Progress, Printer, pair_name)
+    Listener, OutputNames, ListNames, Progress, Printer, make_pair_name)
 from subtitles.request.request import ORIGIN_CHOICE, Selection
 from .bench import Case
 
 
 class Shapes(unittest.TestCase):
-    INNER = Record("inner", "", Member("x", Integer(0, 5)), Member("y", Flag(), is_required=False))
-    OUTER = Record("outer", "", Member("a", Text()), Member("b", Maybe(INNER)),
-                   Member("c", Listed(INNER, 2), is_required=False), rules=(
+    INNER_RECORD = Record("inner", "", Member("x", Integer(0, 5)),
+                          Member("y", Flag(), is_required=False))
+    OUTER_RECORD = Record("outer", "", Member("a", Text()), Member("b", Maybe(INNER_RECORD)),
+                          Member("c", ListOf(INNER_RECORD, 2), is_required=False), rules=(
                        Rules(({"a": OneOf("p"), "b": OneOf(None)}, {"a": Text("[qr]+")})),
-                       Rules(({"a": Text("[pq]")}, {"b": INNER}))))
+                       Rules(({"a": Text("[pq]")}, {"b": INNER_RECORD}))))
 
-    def test_names_the_first_place_that_does_not_fit(self) -> None:
+    def test_reports_the_first_value_of_the_wrong_type(self) -> None:
         nan, inf = float("nan"), float("inf")
-        one: dict[str, Any] = {"x": 1}
+        item: dict[str, Any] = {"x": 1}
         rows: list[tuple[Shape, list[object], list[object]]] = [
             (Text(), ["", "a", "\n"], [None, 5, b"a", ["a"]]),
             (Text("[a-c]+"), ["abc", "a"], ["", "abcd", "dabc", "abc\n", "ab\nc", None]),
@@ -45,19 +46,23 @@ class Shapes(unittest.TestCase):
             for value in bad:
                 self.assertEqual(shape.find_misfit(value), "", (shape.schema(), value))
         deep: list[tuple[Shape, object, str | None]] = [
-            (Listed(Integer(0, 9), 3, 1), [1, 2, 3], None), (Listed(Integer(0, 9), 3, 1), [], ""),
-            (Listed(Integer(0, 9), 3, 1), [1, 2, 3, 4], ""), (Listed(Flag(), 3), [], None),
-            (Listed(Integer(0, 9), 3, 1), (1, 2), ""), (Listed(Integer(0, 9), 3), None, ""),
-            (Listed(Integer(0, 9), 3), [1, 10, "x"], "[1]"), (Listed(Flag(), 3), [True, 1], "[1]"),
-            (self.INNER, one, None), (self.INNER, {"x": 1, "y": False}, None),
-            (self.INNER, {"y": True}, ".x"), (self.INNER, {"x": 6}, ".x"), (self.INNER, [one], ""),
-            (self.INNER, {"x": 1, "y": 1}, ".y"), (self.INNER, {"x": 1, "z": 1}, ".z"),
-            (self.INNER, None, ""), (self.OUTER, {"a": "p", "b": None}, None),
-            (self.OUTER, {"a": "q", "b": None, "c": [one, one]}, None),
-            (self.OUTER, {"a": "q", "b": {"x": 9}}, ".b.x"), (self.OUTER, {"b": None}, ".a"),
-            (self.OUTER, {"a": "q", "b": one, "c": [one, {"x": 1, "y": 2}]}, ".c[1].y"),
-            (self.OUTER, {"a": "p", "b": one}, ".a"), (self.OUTER, {"a": "s", "b": one}, ".a"),
-            (self.OUTER, {"a": "r", "b": one}, None), (self.OUTER, {"a": "r", "b": None}, ".a")]
+            (ListOf(Integer(0, 9), 3, 1), [1, 2, 3], None), (ListOf(Integer(0, 9), 3, 1), [], ""),
+            (ListOf(Integer(0, 9), 3, 1), [1, 2, 3, 4], ""), (ListOf(Flag(), 3), [], None),
+            (ListOf(Integer(0, 9), 3, 1), (1, 2), ""), (ListOf(Integer(0, 9), 3), None, ""),
+            (ListOf(Integer(0, 9), 3), [1, 10, "x"], "[1]"), (ListOf(Flag(), 3), [True, 1], "[1]"),
+            (self.INNER_RECORD, item, None), (self.INNER_RECORD, {"x": 1, "y": False}, None),
+            (self.INNER_RECORD, {"y": True}, ".x"), (self.INNER_RECORD, {"x": 6}, ".x"),
+            (self.INNER_RECORD, [item], ""), (self.INNER_RECORD, {"x": 1, "y": 1}, ".y"),
+            (self.INNER_RECORD, {"x": 1, "z": 1}, ".z"),
+            (self.INNER_RECORD, None, ""), (self.OUTER_RECORD, {"a": "p", "b": None}, None),
+            (self.OUTER_RECORD, {"a": "q", "b": None, "c": [item, item]}, None),
+            (self.OUTER_RECORD, {"a": "q", "b": {"x": 9}}, ".b.x"),
+            (self.OUTER_RECORD, {"b": None}, ".a"),
+            (self.OUTER_RECORD, {"a": "q", "b": item, "c": [item, {"x": 1, "y": 2}]}, ".c[1].y"),
+            (self.OUTER_RECORD, {"a": "p", "b": item}, ".a"),
+            (self.OUTER_RECORD, {"a": "s", "b": item}, ".a"),
+            (self.OUTER_RECORD, {"a": "r", "b": item}, None),
+            (self.OUTER_RECORD, {"a": "r", "b": None}, ".a")]
         for shape, value, place in deep:
             self.assertEqual(shape.find_misfit(value), place, value)
 
@@ -66,19 +71,20 @@ class Shapes(unittest.TestCase):
                 (Text(most=5), "abcde", "abcde"), (Text(most=5), "abcdef", "ab..."),
                 (Text("a*", 5), "a" * 6, "a" * 6), (Text(most=5), None, None),
                 (Maybe(Text(most=5)), "abcdef", "ab..."), (Maybe(Text()), None, None),
-                (Listed(Text(most=4), 2), iter(["abcde", "b", "c"]), ["a...", "b"]),
-                (Listed(Flag(), 2), (), []), (Integer(0, 1), 0, 0),
-                (self.INNER, {"x": 1, "y": False, "z": 3}, {"x": 1, "y": False}),
-                (self.INNER, {"x": 0}, {"x": 0}),
+                (ListOf(Text(most=4), 2), iter(["abcde", "b", "c"]), ["a...", "b"]),
+                (ListOf(Flag(), 2), (), []), (Integer(0, 1), 0, 0),
+                (self.INNER_RECORD, {"x": 1, "y": False, "z": 3}, {"x": 1, "y": False}),
+                (self.INNER_RECORD, {"x": 0}, {"x": 0}),
                 (Record("", "", Member("n", Text(most=4), getter=lambda value: value.m)),
                  SimpleNamespace(m="abcde"), {"n": "a..."}),
                 (Record("", "", Member("n", Flag())), SimpleNamespace(n=False), {"n": False})]
-        for shape, value, wanted in rows:
-            self.assertEqual(shape.to_json(value), wanted, value)
+        for shape, value, expected in rows:
+            self.assertEqual(shape.to_json(value), expected, value)
 
     def test_prefixes_all_anchors_of_a_part_and_their_links(self) -> None:
         some = markup('<a id="x">{}</a><a href="#x">b</a><a id="y" href="#y">c</a>', ' id="')
-        self.assertEqual(some.anchored("p").source, '<a id="px"> id=&quot;</a><a href="#px">b</a>'
+        self.assertEqual(some.prefix_anchors("p").source,
+                         '<a id="px"> id=&quot;</a><a href="#px">b</a>'
                                                     '<a id="py" href="#py">c</a>')
 
 
@@ -86,14 +92,14 @@ class Spans(unittest.TestCase):
     def test_has_the_first_frame_and_not_the_end(self) -> None:
         day = FRAMES_OF_A_DAY
         for between, inside, words in (
-                (ALL_DAY, [True, True, True], ""), (Between(25, 50), [False, True, False],
+                (ALL_DAY, [True, True, True], ""), (FrameRange(25, 50), [False, True, False],
                                                     "--from 00:00:01:00 --to 00:00:02:00"),
-                (Between(0, 25), [True, False, False], "--to 00:00:01:00"),
-                (Between(50, day), [False, False, True], "--from 00:00:02:00"),
-                (Between(0, 0), [False] * 3, "--to 00:00:00:00"),
-                (Between(1, day - 1), [False, True, True],
+                (FrameRange(0, 25), [True, False, False], "--to 00:00:01:00"),
+                (FrameRange(50, day), [False, False, True], "--from 00:00:02:00"),
+                (FrameRange(0, 0), [False] * 3, "--to 00:00:00:00"),
+                (FrameRange(1, day - 1), [False, True, True],
                  "--from 00:00:00:01 --to 23:59:59:24")):
-            self.assertEqual([between.has(frame) for frame in (0, 25, 50)], inside, between)
+            self.assertEqual([between.includes(frame) for frame in (0, 25, 50)], inside, between)
             self.assertEqual(" ".join(between.words()), words, (between, inside))
 
 
@@ -136,27 +142,27 @@ class FileNames(Case):
     def test_gives_the_program_a_file_name_in_utf_8(self) -> None:
         later = OutputNames("one", self.folder, "out",
                             "later")  # folder whose files are moved to `out` later
-        for one, name in ((later, "one"), (later.name_part(2), "one.2")):
-            self.must(f"{name}: later", (one.display_path("html"), one.report_path,
-                                         one.json_path) == (
+        for item, name in ((later, "one"), (later.make_part_paths(2), "one.2")):
+            self.must(f"{name}: later", (item.make_display_path("html"), item.report_path,
+                                         item.json_path) == (
                 f"out/{name}.html", f"later/{name}.html", f"later/{name}.json"))
         later.set_subtitle_file(self.write("a.stl", b"one"))
-        self.must("as it is", later.name_part(1).program_stl == later.program_stl ==
+        self.must("as it is", later.make_part_paths(1).program_stl == later.program_stl ==
                   self.path("a.stl"))
         own = os.fsdecode(os.fsencode(self.path("caf")) + b"\xe9")
         self.write(own, b"two")
         for _ in range(2):
             later.set_subtitle_file(own)
             self.must("by another name", later.program_stl == self.path("one.given.stl") and
-                      later.name_part(1).program_stl == later.program_stl and
+                      later.make_part_paths(1).program_stl == later.program_stl and
                       self.read("one.given.stl") ==
                       b"two" and later.make_utf_8_path(own, "x") != later.program_stl)
 
-    def test_names_no_two_pairs_the_same(self) -> None:
+    def test_gives_each_pair_a_unique_name(self) -> None:
         names = ListNames()
-        self.check("pairs", [names.name_pair(f"{one}.stl") for one in "abaa"],
+        self.check("pairs", [names.name_pair(f"{item}.stl") for item in "abaa"],
                    ["a", "b", "a~2", "a~3"])
         long = ["a" * 179, "a" * 180, "a" * 181, "a" * 182, "a" * 181 + "b", "é" * 90, "é" * 91]
-        found = [pair_name(f"{one}.stl") for one in long]
-        self.must("long", len({*found}) == len(long) and [one in found for one in long] == [
-            True, True, False, False, False, True, False], found)
+        result = [make_pair_name(f"{item}.stl") for item in long]
+        self.must("long", len({*result}) == len(long) and [item in result for item in long] == [
+            True, True, False, False, False, True, False], result)

@@ -14,23 +14,25 @@ import sys
 from typing import Callable, Iterator, NamedTuple, Sequence
 
 from developing.pes import make_pes_packet
-from subtitles.common.times import TICKS, time_of
+from subtitles.common.times import TICKS, format_frame
 from .bench import BENCH, Case
 from .judged import JudgedPair, judge_files
 from .streams import (
-    AHEAD, MPEG_2, PMT_PID, PRIVATE, TELETEXT_PID, VIDEO_PID, Maker, program_association,
-    program_map, teletext_descriptor)
-from .transmissions import CLOSING, HEADER, Sent, pes_file, write_programme, schedule_pages
-from .test_judging_losses import WRONG, large
+    PTS_AHEAD, MPEG_2, PMT_PID, PRIVATE, TELETEXT_PID, VIDEO_PID, StreamMaker,
+    make_program_association, program_map, make_teletext_descriptor)
+from .transmissions import (
+    CLOSING, HEADER, SentPes, join_pes_packets, write_programme, schedule_pages)
+from .test_judging_losses import WRONG, enlarge_pes_packets
 
-FIRST, EACH, LASTS = 900_000, 100, 60  # first TCI, interval between TCIs, and duration, in frames
+# first TCI, interval between TCIs, and duration, in frames
+FIRST_TCI, DISTANCE, DURATION = 900_000, 100, 60
 SILENT_PID, OTHER_PID, LATER_PMT = 0x121, 0x111, 0x110
 INSERTERS, ONE_A_FRAME, TWO_A_FRAME = "inserters", "one a frame", "two a frame"
 BREAKS, PROGRAMMES, AIRINGS = "breaks", "programmes", "airings"
 GATE = 8  # the tests judge every eighth recording of a kind
 
 
-class Bound(NamedTuple):
+class DelayBound(NamedTuple):
     """Limits for a kind of recording: how many may be refused, and how many not judged."""
 
     recordings: int
@@ -41,8 +43,9 @@ class Bound(NamedTuple):
 # Limits for each kind of recording. The refused recordings can't be distinguished from faulty
 # recordings: see `IndistinguishableFaults`.
 LOST = {
-    INSERTERS: Bound(66, 2, 12), ONE_A_FRAME: Bound(30, 7, 0), TWO_A_FRAME: Bound(28, 6, 0),
-    BREAKS: Bound(9, 0, 5), PROGRAMMES: Bound(8, 0, 2), AIRINGS: Bound(11, 0, 0)}
+    INSERTERS: DelayBound(66, 2, 12), ONE_A_FRAME: DelayBound(30, 7, 0),
+    TWO_A_FRAME: DelayBound(28, 6, 0), BREAKS: DelayBound(9, 0, 5), PROGRAMMES: DelayBound(8, 0, 2),
+    AIRINGS: DelayBound(11, 0, 0)}
 
 
 class Recording(NamedTuple):
@@ -59,10 +62,10 @@ class Recording(NamedTuple):
         return judge_files(case, stl, path, *self.words)
 
 
-def evenly(count: int, is_adjoining: bool = False) -> list[tuple[int, int]]:
+def list_even_times(count: int, is_adjoining: bool = False) -> list[tuple[int, int]]:
     """Return the start and end frames of `count` subtitles that begin every hundred frames."""
-    lasts = EACH if is_adjoining else LASTS
-    return [(FIRST + EACH * at, FIRST + EACH * at + lasts) for at in range(count)]
+    lasts = DISTANCE if is_adjoining else DURATION
+    return [(FIRST_TCI + DISTANCE * at, FIRST_TCI + DISTANCE * at + lasts) for at in range(count)]
 
 
 # Kinds of inserters, with possible delays of in-cues and out-cues in frames.
@@ -76,43 +79,44 @@ SHARES: dict[str, tuple[Sequence[int], Sequence[int]]] = {
     "u5": (range(6), range(6))}
 
 
-def late_inserter(kind: str, count: int, is_adjoining: bool) -> Callable[[Case], tuple[str, str]]:
+def make_late_inserter(kind: str, count: int, is_adjoining: bool) -> Callable[[Case],
+                                                                              tuple[str, str]]:
     """Return a function that writes a programme with random delays of in-cues and out-cues."""
     def made(case: Case) -> tuple[str, str]:
         chance = random.Random(f"{kind} {count} {is_adjoining}")
         begins, ends = SHARES[kind]
-        times = [(begin, begin + EACH if is_adjoining and chance.randrange(2) else end)
-                 for begin, end in evenly(count)]
+        times = [(begin, begin + DISTANCE if is_adjoining and chance.randrange(2) else end)
+                 for begin, end in list_even_times(count)]
         delays = {end: chance.choice(ends) for _, end in times}
         delays |= {begin: chance.choice(begins) for begin, _ in times}
         stl = write_programme(case, times)
-        known = {pts // TICKS + delays.get(pts // TICKS, 0): some
-                 for pts, some in schedule_pages(case, stl)}
+        known = {pts // TICKS + delays.get(pts // TICKS, 0): packets
+                 for pts, packets in schedule_pages(case, stl)}
         known |= {frame: [HEADER, CLOSING] for frame in (
-            FIRST - 50, FIRST - 25, times[-1][1] + 25, times[-1][1] + 50)}
-        return stl, case.write("late.pes", pes_file([
+            FIRST_TCI - 50, FIRST_TCI - 25, times[-1][1] + 25, times[-1][1] + 50)}
+        return stl, case.write("late.pes", join_pes_packets([
             (frame * TICKS, known.get(frame, [])) for frame in range(min(known), max(known) + 1)]))
 
     return made
 
 
-def inserters() -> Iterator[Recording]:
+def list_inserters() -> Iterator[Recording]:
     """Yield recordings of three lengths by each inserter. They are judged without a clock."""
     for kind, (begins, ends) in SHARES.items():
         within = max([1, *begins, *ends])
         for count in (12, 24, 80):
             for is_adjoining in (False, True):
-                yield Recording(INSERTERS, f"{kind} {count} {is_adjoining}", late_inserter(
+                yield Recording(INSERTERS, f"{kind} {count} {is_adjoining}", make_late_inserter(
                     kind, count, is_adjoining), ["--within", f"{within}", "--every", "40",
                                                  "--no-complete"])
 
 
-def all_but(left_out: Callable[[int], bool]) -> Callable[[random.Random, int], list[int]]:
+def list_all_except(left_out: Callable[[int], bool]) -> Callable[[random.Random, int], list[int]]:
     """Return a function that selects all frames except those for which `left_out` is true."""
     return lambda chance, frames: [at for at in range(frames) if not left_out(at)]
 
 
-def share_of(one_in: int) -> Callable[[random.Random, int], list[int]]:
+def choose_share(one_in: int) -> Callable[[random.Random, int], list[int]]:
     """Return a function that selects random frames, and leaves out one in `one_in`."""
     return lambda chance, frames: [at for at in range(frames) if chance.randrange(one_in)]
 
@@ -120,63 +124,65 @@ def share_of(one_in: int) -> Callable[[random.Random, int], list[int]]:
 def steps(step: Callable[[random.Random], int]) -> Callable[[random.Random, int], list[int]]:
     """Return a function that selects frames at intervals that `step` returns."""
     def made(chance: random.Random, frames: int) -> list[int]:
-        at, found = 0, list[int]()
+        at, result = 0, list[int]()
         while at < frames:
-            found.append(at)
+            result.append(at)
             at += step(chance)
-        return found
+        return result
 
     return made
 
 
-DISTANCES: dict[str, Callable[[random.Random, int], list[int]]] = {
-    "each": all_but(lambda at: False), "one silence": all_but(lambda at: 500 <= at < 512),
-    "two silences": all_but(lambda at: at % 500 < 12 and at // 500 in (1, 2)),
-    "three silences": all_but(lambda at: at % 250 < 12 and at // 250 in (1, 2, 3)),
-    "1 in 500 left out": share_of(500), "1 in 200 left out": share_of(200),
-    "1 in 100 left out": share_of(100), "1 in 20 left out": share_of(20),
+CUE_DISTANCES: dict[str, Callable[[random.Random, int], list[int]]] = {
+    "each": list_all_except(lambda at: False),
+    "one silence": list_all_except(lambda at: 500 <= at < 512),
+    "two silences": list_all_except(lambda at: at % 500 < 12 and at // 500 in (1, 2)),
+    "three silences": list_all_except(lambda at: at % 250 < 12 and at // 250 in (1, 2, 3)),
+    "1 in 500 left out": choose_share(500), "1 in 200 left out": choose_share(200),
+    "1 in 100 left out": choose_share(100), "1 in 20 left out": choose_share(20),
     "geometric": steps(lambda chance: 1 + (chance.randrange(2) and int(chance.expovariate(0.7)))),
     "slow": steps(lambda chance: 1 + int(chance.expovariate(0.15))),
     "normal": steps(lambda chance: max(1, round(chance.gauss(3, 2)))),
     "bursts": steps(lambda chance: chance.choice((1, 1, 1, 8))),
     "wall clock": steps(lambda chance: chance.choices((1, 2), (9, 1))[0]),
-    "beside filler": all_but(lambda at: at % 6 == 5)}
+    "beside filler": list_all_except(lambda at: at % 6 == 5)}
 
 
-def paced_sent(case: Case, name: str, count: int, each: int) -> tuple[str, Sent]:
+def make_paced_programme(case: Case, name: str, count: int, each: int) -> tuple[str, SentPes]:
     """Return a subtitle file and its transmission.
 
     `each` PES packets are sent in each frame that has a page or is selected by the kind `name`.
     """
-    chance, times = random.Random(f"{name} {count}"), evenly(count)
+    chance, times = random.Random(f"{name} {count}"), list_even_times(count)
     stl = write_programme(case, times)
     known = dict(schedule_pages(case, stl))
-    frames = {*(pts // TICKS for pts in known), *(FIRST + at for at in DISTANCES[name](
-        chance, times[-1][1] - FIRST))} if name in DISTANCES else {
-            *(pts // TICKS for pts in known), *(range(FIRST, times[-1][1], 3)
+    frames = {*(pts // TICKS for pts in known), *(FIRST_TCI + at for at in CUE_DISTANCES[name](
+        chance, times[-1][1] - FIRST_TCI))} if name in CUE_DISTANCES else {
+            *(pts // TICKS for pts in known), *(range(FIRST_TCI, times[-1][1], 3)
                                                 if name == "each third" else ())}
     return stl, [(frame * TICKS + TICKS // each * at,
                   known.get(frame * TICKS, []) if not at else [])
                  for frame in sorted(frames) for at in range(each)]
 
 
-def paced(name: str, count: int, each: int) -> Callable[[Case], tuple[str, str]]:
-    """Return a function that writes the programme of `paced_sent` as a transport stream."""
+def make_paced_case(name: str, count: int, each: int) -> Callable[[Case], tuple[str, str]]:
+    """Return a function that writes the programme of `make_paced_programme` as a transport
+    stream."""
     def made(case: Case) -> tuple[str, str]:
-        stl, sent = paced_sent(case, name, count, each)
-        return stl, case.write("paced.ts", in_stream(sent))
+        stl, sent = make_paced_programme(case, name, count, each)
+        return stl, case.write("paced.ts", make_service_stream(sent))
 
     return made
 
 
 def paces() -> Iterator[Recording]:
     """Yield recordings with one or two PES packets in the frames that DISTANCES selects."""
-    for kind, each, names in ((ONE_A_FRAME, 1, [*DISTANCES, "alone"]),
-                              (TWO_A_FRAME, 2, [*DISTANCES])):
+    for kind, each, names in ((ONE_A_FRAME, 1, [*CUE_DISTANCES, "alone"]),
+                              (TWO_A_FRAME, 2, [*CUE_DISTANCES])):
         for name in names:
             for count in (12, 30):
                 label = "each third" if name == "alone" and count == 30 else name
-                yield Recording(kind, f"{label} {count}", paced(label, count, each), [
+                yield Recording(kind, f"{label} {count}", make_paced_case(label, count, each), [
                     "--every", "40", "--no-complete", *(["--within", "1"] if each == 2 else [])])
 
 
@@ -187,41 +193,43 @@ class Service(NamedTuple):
     pages: Sequence[tuple[int, int, int]]
 
 
-def tables_of(services: Sequence[Service]) -> list[tuple[int, bytes]]:
+def make_service_tables(services: Sequence[Service]) -> list[tuple[int, bytes]]:
     """Return the PAT and the PMT of each programme, all with the same PCR PID."""
     pids = [PMT_PID if not at else LATER_PMT + at for at in range(len(services))]
-    made = [(0, program_association([(one.number, pid) for one, pid in zip(services, pids)]))]
-    for one, pid in zip(services, pids):
-        made.append((pid, program_map(one.number, [(VIDEO_PID, MPEG_2, b""), *(
-            (own, PRIVATE, teletext_descriptor(kind=kind, page=page))
-            for own, kind, page in one.pages)], VIDEO_PID)))
-    return made
+    result = [(0,
+               make_program_association([(item.number, pid) for item, pid in zip(services, pids)]))]
+    for item, pid in zip(services, pids):
+        result.append((pid, program_map(item.number, [(VIDEO_PID, MPEG_2, b""), *(
+            (own, PRIVATE, make_teletext_descriptor(kind=kind, page=page))
+            for own, kind, page in item.pages)], VIDEO_PID)))
+    return result
 
 
-OWN = Service(1, [(TELETEXT_PID, 2, 0x88)])
+OWN_SERVICE = Service(1, [(TELETEXT_PID, 2, 0x88)])
 
 
-def in_stream(sent: Sent, plan: Sequence[tuple[int, Sequence[Service]]] = ((0, (OWN,)),),
-              beside: Sequence[int] = ()) -> bytes:
+def make_service_stream(sent: SentPes,
+                        plan: Sequence[tuple[int, Sequence[Service]]] = ((0, (OWN_SERVICE,)),),
+                        beside: Sequence[int] = ()) -> bytes:
     """Return a transport stream with PES packets, each after a PCR.
 
     `plan` contains indexes of PES packets, each with the programmes announced from this packet on.
     The PIDs `beside` carry PES packets without Teletext.
     """
-    maker = Maker([])
+    maker = StreamMaker([])
     for number, (pts, some) in enumerate(sent):
         for begin, services in plan:
             if begin == number:
-                maker.tables = tables_of(services)
+                maker.tables = make_service_tables(services)
                 maker.put_tables()
-        maker.put_pcr(pts - AHEAD)
+        maker.put_pcr(pts - PTS_AHEAD)
         maker.put(TELETEXT_PID, make_pes_packet(pts, some))
         for pid in beside:
             maker.put(pid, make_pes_packet(pts, []))
     return maker.data
 
 
-def services() -> Iterator[Recording]:
+def list_services() -> Iterator[Recording]:
     """Yield recordings with several programmes, or with tables that change after the subtitles."""
     silent = Service(2, [(SILENT_PID, 2, 0x88)])
     other_page = Service(2, [(SILENT_PID, 2, 0x89)])
@@ -229,36 +237,36 @@ def services() -> Iterator[Recording]:
     same = Service(2, [(TELETEXT_PID, 2, 0x88)])
     moved = Service(1, [(OTHER_PID, 2, 0x88)])
     plans: dict[str, tuple[Callable[[int], list[tuple[int, Sequence[Service]]]], list[int]]] = {
-        "alone": (lambda end: [(0, (OWN,))], []),
-        "another page": (lambda end: [(0, (OWN, other_page))], [SILENT_PID]),
-        "silent service": (lambda end: [(0, (OWN, silent))], [SILENT_PID]),
-        "silent service without packets": (lambda end: [(0, (OWN, silent))], []),
-        "two announce one PID": (lambda end: [(0, (OWN, same))], []),
+        "alone": (lambda end: [(0, (OWN_SERVICE,))], []),
+        "another page": (lambda end: [(0, (OWN_SERVICE, other_page))], [SILENT_PID]),
+        "silent service": (lambda end: [(0, (OWN_SERVICE, silent))], [SILENT_PID]),
+        "silent service without packets": (lambda end: [(0, (OWN_SERVICE, silent))], []),
+        "two announce one PID": (lambda end: [(0, (OWN_SERVICE, same))], []),
         "of two types": (lambda end: [(0, (twice,))], [SILENT_PID]),
-        "another PID behind": (lambda end: [(0, (OWN,)), (end - 1, (moved,))], []),
+        "another PID behind": (lambda end: [(0, (OWN_SERVICE,)), (end - 1, (moved,))], []),
         "not announced": (lambda end: [(0, (Service(1, []),))], [])}
     for name, (plan, beside) in plans.items():
         def made(case: Case, plan: Callable[[int], list[tuple[int, Sequence[Service]]]] = plan,
                  beside: list[int] = beside) -> tuple[str, str]:
-            stl = write_programme(case, evenly(12))
+            stl = write_programme(case, list_even_times(12))
             sent = schedule_pages(case, stl)
-            return stl, case.write("some.ts", in_stream(sent, plan(len(sent)), beside))
+            return stl, case.write("some.ts", make_service_stream(sent, plan(len(sent)), beside))
 
         yield Recording(PROGRAMMES, name, made, ["--every", "40", "--no-complete"])
 
 
-def broken(*lengths: int) -> Callable[[Case], tuple[str, str]]:
+def make_broken_case(*lengths: int) -> Callable[[Case], tuple[str, str]]:
     """Return a function that writes a programme with breaks of these lengths in frames.
 
     A break follows twenty subtitles.
     """
     def made(case: Case) -> tuple[str, str]:
-        stl = write_programme(case, evenly(20 * (len(lengths) + 1)))
+        stl = write_programme(case, list_even_times(20 * (len(lengths) + 1)))
         sent = []
-        for pts, some in schedule_pages(case, stl):
-            part = (pts // TICKS - FIRST) // (20 * EACH)
-            sent.append((pts + TICKS * sum(lengths[:part]), some))
-        return stl, case.write("breaks.pes", pes_file(sent))
+        for pts, packets in schedule_pages(case, stl):
+            part = (pts // TICKS - FIRST_TCI) // (20 * DISTANCE)
+            sent.append((pts + TICKS * sum(lengths[:part]), packets))
+        return stl, case.write("breaks.pes", join_pes_packets(sent))
 
     return made
 
@@ -266,53 +274,53 @@ def broken(*lengths: int) -> Callable[[Case], tuple[str, str]]:
 def breaks() -> Iterator[Recording]:
     """Yield recordings with one or two breaks that last 1 to 16 seconds."""
     for lengths in ((25,), (50,), (100,), (124,), (125,), (126,), (250,), (400, 50), (400, 150)):
-        yield Recording(BREAKS, f"{lengths}", broken(*lengths), [
+        yield Recording(BREAKS, f"{lengths}", make_broken_case(*lengths), [
             "--breaks", f"{len(lengths)}", "--every", "40", "--no-complete"])
 
 
-def with_tail(count: int) -> Callable[[Case], tuple[str, str]]:
+def make_recording_with_tail(count: int) -> Callable[[Case], tuple[str, str]]:
     """Return a function that writes a programme and repeats `count` subtitles ten minutes later."""
     def made(case: Case) -> tuple[str, str]:
         times = [(frame + at * at * 7, end + at * at * 7) for at, (frame, end) in
-                 enumerate(evenly(20))]
+                 enumerate(list_even_times(20))]
         stl = write_programme(case, times)
         sent = schedule_pages(case, stl)
         end = times[count - 1][1] * TICKS if count else -1
-        later = [(pts + 15_000 * TICKS, some) for pts, some in sent if pts <= end]
-        return stl, case.write("tail.pes", pes_file([*sent, *later]))
+        later = [(pts + 15_000 * TICKS, packets) for pts, packets in sent if pts <= end]
+        return stl, case.write("tail.pes", join_pes_packets([*sent, *later]))
 
     return made
 
 
-def near_short_subtitles(count: int, is_before: bool) -> Callable[[Case], tuple[str, str]]:
+def make_short_subtitle_case(count: int, is_before: bool) -> Callable[[Case], tuple[str, str]]:
     """Return a function that writes a programme next to short subtitles of another programme.
 
     The short subtitles last six minutes. The programme is before them if `is_before` is true.
     """
     def made(case: Case) -> tuple[str, str]:
-        quick = [(FIRST + 20 * at, FIRST + 20 * at + 15) for at in range(450)]
+        quick = [(FIRST_TCI + 20 * at, FIRST_TCI + 20 * at + 15) for at in range(450)]
         others = schedule_pages(case,
                                 write_programme(case, quick, text=b"Others %d", name="quick.stl"))
-        stl = write_programme(case, evenly(count))
+        stl = write_programme(case, list_even_times(count))
         by = TICKS * (10_000 if not is_before else -10_000)
-        return stl, case.write("quick.pes", pes_file(sorted([
-            *schedule_pages(case, stl), *((pts + by, some) for pts, some in others)])))
+        return stl, case.write("quick.pes", join_pes_packets(sorted([
+            *schedule_pages(case, stl), *((pts + by, packets) for pts, packets in others)])))
 
     return made
 
 
-def cut_at(count: int) -> Callable[[Case], tuple[str, str]]:
+def make_cut_case(count: int) -> Callable[[Case], tuple[str, str]]:
     """Return a function that writes a programme with a break between adjoining subtitles.
 
     At the break, after `count` subtitles, the page is erased.
     """
     def made(case: Case) -> tuple[str, str]:
-        times = evenly(20, True)
+        times = list_even_times(20, True)
         stl = write_programme(case, times)
         own = write_programme(case, times[:count], name="first.stl")
-        rest = [(pts + 500 * TICKS, some) for pts, some in schedule_pages(case, stl)
+        rest = [(pts + 500 * TICKS, packets) for pts, packets in schedule_pages(case, stl)
                 if pts >= times[count][0] * TICKS]
-        return stl, case.write("cut.pes", pes_file([*schedule_pages(case, own), *rest]))
+        return stl, case.write("cut.pes", join_pes_packets([*schedule_pages(case, own), *rest]))
 
     return made
 
@@ -320,59 +328,62 @@ def cut_at(count: int) -> Callable[[Case], tuple[str, str]]:
 def airings() -> Iterator[Recording]:
     """Yield recordings with repeated subtitles, another programme, or a break."""
     for count in (0, 3, 6):
-        yield Recording(AIRINGS, f"tail {count}", with_tail(count), ["--every", "40"])
+        yield Recording(AIRINGS, f"tail {count}", make_recording_with_tail(count),
+                        ["--every", "40"])
     for count in (5, 8, 12):
         for is_before in (False, True):
-            yield Recording(AIRINGS, f"quick {count} {is_before}", near_short_subtitles(
+            yield Recording(AIRINGS, f"quick {count} {is_before}", make_short_subtitle_case(
                 count, is_before), ["--every", "40", "--no-complete"])
     for count in (8, 12):
-        yield Recording(AIRINGS, f"cut {count}", cut_at(count), [
-            "--every", "40", "--no-complete", "--to", time_of(FIRST + EACH * count)])
+        yield Recording(AIRINGS, f"cut {count}", make_cut_case(count), [
+            "--every", "40", "--no-complete", "--to", format_frame(FIRST_TCI + DISTANCE * count)])
 
 
 def recordings() -> list[Recording]:
-    return [*inserters(), *paces(), *breaks(), *services(), *airings()]
+    return [*list_inserters(), *paces(), *breaks(), *list_services(), *airings()]
 
 
 class CorrectRecordings(Case):
     def test_has_the_stated_number_of_recordings(self) -> None:
-        counts = collections.Counter(one.kind for one in recordings())
-        self.must("counts", counts == {kind: one.recordings for kind, one in LOST.items()}, counts)
+        counts = collections.Counter(item.kind for item in recordings())
+        self.must("counts",
+                  counts == {kind: item.recordings for kind, item in LOST.items()}, counts)
 
     def test_accepts_correct_recordings_of_each_kind(self) -> None:
         for kind in LOST:
-            several = [one for one in recordings() if one.kind == kind][::GATE]
-            words = [one.judge(self).word for one in several]
+            several = [item for item in recordings() if item.kind == kind][::GATE]
+            words = [item.judge(self).word for item in several]
             self.must(kind, is_bounded(kind, words) and "accepted" in words, words)
 
 
 class IndistinguishableFaults(Case):
-    def test_a_silence_looks_like_a_loss(self) -> None:
+    def test_cannot_distinguish_a_silence_from_a_loss(self) -> None:
         for each, names in ((1, [*SILENT, "1 in 20 left out"]), (2, SILENT)):
             for name in names:
-                _, sent = paced_sent(self, name, 12, each)
-                self.check(f"{name}, {each} a frame", lossy(sent, each) == in_stream(sent), True)
+                _, sent = make_paced_programme(self, name, 12, each)
+                self.check(f"{name}, {each} a frame",
+                           remove_single_packets(sent, each) == make_service_stream(sent), True)
 
     def test_rare_delays_look_like_early_subtitles(self) -> None:
-        for one in inserters():
-            if one.name in ("rare 80 False", "rare 80 True"):
-                stl, path = one.made(self)
-                self.check(one.name,
-                           [judge_files(self, stl, path, *one.words, "--origin", origin).word
+        for inserter in list_inserters():
+            if inserter.name in ("rare 80 False", "rare 80 True"):
+                stl, path = inserter.made(self)
+                self.check(inserter.name,
+                           [judge_files(self, stl, path, *inserter.words, "--origin", origin).word
                                       for origin in ("0", f"{TICKS}")], ["accepted", "refused"])
 
 
 SILENT = ("one silence", "two silences", "three silences")
-LARGEST = 9  # maximum size of a PES packet in TS packets
+MAX_TS_PACKETS = 9  # maximum size of a PES packet in TS packets
 
 
-def lossy(sent: Sent, each: int) -> bytes:
+def remove_single_packets(sent: SentPes, each: int) -> bytes:
     """Return a stream that has lost all PES packets not in `sent`.
 
     Before the loss, the stream had `each` PES packets in every frame.
     """
-    maker = Maker([])
-    maker.tables = tables_of((OWN,))
+    maker = StreamMaker([])
+    maker.tables = make_service_tables((OWN_SERVICE,))
     for number, (pts, some) in enumerate(sent):
         before = len(maker.packets)
         missing = (pts - sent[number - 1][0]) * each // TICKS - 1 if number else 0
@@ -380,14 +391,14 @@ def lossy(sent: Sent, each: int) -> bytes:
             sizes = [1] * missing
             while sum(sizes) % 16:
                 sizes[sizes.index(min(sizes))] += 1
-            assert max(sizes) <= LARGEST
+            assert max(sizes) <= MAX_TS_PACKETS
             for at, size in enumerate(sizes, 1):
-                maker.put(TELETEXT_PID, large(make_pes_packet(
+                maker.put(TELETEXT_PID, enlarge_pes_packets(make_pes_packet(
                     pts - TICKS // each * at, WRONG * (at == 1)), size))
             del maker.packets[before:]
         if not number:
             maker.put_tables()
-        maker.put_pcr(pts - AHEAD)
+        maker.put_pcr(pts - PTS_AHEAD)
         maker.put(TELETEXT_PID, make_pes_packet(pts, some))
     return maker.data
 
@@ -406,11 +417,11 @@ def main(program: str) -> None:
     case = CorrectRecordings("test_accepts_correct_recordings_of_each_kind")
     kinds = dict[str, list[str]]()
     case.setUp()
-    for one in recordings():
-        judged = one.judge(case)
-        kinds.setdefault(one.kind, []).append(judged.word)
+    for recording in recordings():
+        judged = recording.judge(case)
+        kinds.setdefault(recording.kind, []).append(judged.word)
         if judged.word != "accepted":
-            print(f"{one.kind}, {one.name}: {judged.verdict.sentence}", flush=True)
+            print(f"{recording.kind}, {recording.name}: {judged.verdict.sentence}", flush=True)
     for kind, words in kinds.items():
         print(f"{kind}: {dict(collections.Counter(words))}, "
               f"{'no more' if is_bounded(kind, words) else 'MORE'} than {LOST[kind]}", flush=True)

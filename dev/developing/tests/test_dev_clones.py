@@ -11,9 +11,9 @@ from typing import Iterable
 
 from subtitles.common.program import TOP, resolve_script, read
 from ..compiled import share_compiled
-from ..proved import Proved, compute_digest, parse_proved, format_proved
+from ..proved import ProvedProgram, compute_digest, parse_proved, format_proved
 from ..trial import ANOTHER_USER, Trial
-from .bench import Case, Done, SECONDS
+from .bench import Case, CompletedCall, SECONDS
 
 PACKET = ["packet", "00"]
 SOURCE = os.path.join("crates", "ttx_packet", "src", "parity.rt")
@@ -22,16 +22,16 @@ VERSION = "a toolchain"
 TOOLCHAIN = f'#!/bin/sh\n[ "$1" = version ] && echo {VERSION!r}\n'
 LINE = "logic=proved functions=7"
 NEITHER, PASSED, FAILED = (b"\n%d passed, %d failed\n" % it for it in ((0, 0), (1, 0), (0, 1)))
-NEEDED = ["subttx", "crates.txt", "HANDLES", "tools", "dev", "crates"]
+NEEDED_PATHS = ["subttx", "crates.txt", "HANDLES", "tools", "dev", "crates"]
 
 
-KEPT = {"lib.rt", "parity.rt", "Lib.antt"}  # names of the files that a copied crate has
+COPIED_FILES = {"lib.rt", "parity.rt", "Lib.antt"}  # names of the files that a copied crate has
 
 
 def left_out(folder: str, names: list[str]) -> set[str]:
     """Return the names in a folder that a copy omits: most sources, tests and output files."""
     if os.path.basename(folder) in ("src", "specs", "proofs"):
-        return set(names) - KEPT
+        return set(names) - COPIED_FILES
     here = {"tests", "every_place"} if os.path.basename(folder) == "developing" else set()
     return set(names) & (here | {"out", "must-fail", "release-edits", "__pycache__", "vectors",
                                  "transcripts"})
@@ -43,7 +43,7 @@ class Clone:
     def __init__(self, case: Case) -> None:
         self.case, self.top = case, case.path("clone")
         os.mkdir(self.top)
-        for name in NEEDED:
+        for name in NEEDED_PATHS:
             here, there = os.path.join(TOP, name), self.path(name)
             if os.path.isdir(here):
                 shutil.copytree(here, there, ignore=left_out)
@@ -56,9 +56,9 @@ class Clone:
     def path(self, *names: str) -> str:
         return os.path.join(self.top, *names)
 
-    def tool(self, name: str, *words: str) -> list[str]:
+    def tool(self, name: str, *args: str) -> list[str]:
         """Run a tool in the copied repository. Return its output lines."""
-        return self.case.call([self.path("tools", name), *words]).out.decode().splitlines()
+        return self.case.call([self.path("tools", name), *args]).out.decode().splitlines()
 
     def put(self, folder: str, program: str, line: str = LINE) -> None:
         """Copy a program to a folder, and write PROVED with the digests of the current sources."""
@@ -67,7 +67,7 @@ class Clone:
         os.chmod(self.path(folder, "subttx"), 0o755)
         crates = {name: (digest, line) for name, digest in self.crates.items()}
         self.write(os.path.join(folder, "PROVED"), format_proved(
-            Proved(self.tool("sources")[0], compute_digest(program), VERSION, crates)))
+            ProvedProgram(self.tool("sources")[0], compute_digest(program), VERSION, crates)))
 
     def write(self, name: str, text: str) -> None:
         os.makedirs(os.path.dirname(self.path(name)), exist_ok=True)
@@ -89,43 +89,46 @@ class Clone:
         os.makedirs(self.path("bin"), exist_ok=True)
         self.case.write_program(self.path("bin", name), text)
 
-    def give_toolchain(self, text: str = TOOLCHAIN) -> str:
+    def write_toolchain(self, text: str = TOOLCHAIN) -> str:
         """Write the script `rt` to the copied repository. Return a PATH with its folder."""
         self.give("rt", text)
-        return os.pathsep.join([self.path("bin"), path_without_rt()])
+        return os.pathsep.join([self.path("bin"), remove_rt_from_path()])
 
-    def call(self, command: list[str], path: str, user: int | None = None) -> Done:
+    def call(self, command: list[str], path: str, user: int | None = None) -> CompletedCall:
         """Run a command with this PATH, as another user if `user` is given."""
-        done = subprocess.run(command, cwd=self.case.folder, env={**os.environ, "PATH": path},
-                              user=user, stdin=subprocess.DEVNULL, stdout=subprocess.PIPE,
-                              stderr=subprocess.PIPE, timeout=SECONDS, check=False)
-        return Done(done.returncode, done.stdout, done.stderr.decode().splitlines())
+        process = subprocess.run(command, cwd=self.case.folder, env={**os.environ, "PATH": path},
+                                 user=user, stdin=subprocess.DEVNULL, stdout=subprocess.PIPE,
+                                 stderr=subprocess.PIPE, timeout=SECONDS, check=False)
+        return CompletedCall(process.returncode, process.stdout,
+                             process.stderr.decode().splitlines())
 
-    def run(self, *words: str, script: str | None = None, user: int | None = None) -> Done:
+    def run(self, *args: str, script: str | None = None, user: int | None = None) -> CompletedCall:
         """Run ./subttx without an `rt` command on the PATH."""
-        return self.call([script or self.path("subttx"), *words], path_without_rt(), user)
+        return self.call([script or self.path("subttx"), *args], remove_rt_from_path(), user)
 
-    def release(self, *words: str) -> Done:
-        return self.call([self.path("dev", "release"), *words], self.give_toolchain())
+    def release(self, *args: str) -> CompletedCall:
+        return self.call([self.path("dev", "release"), *args], self.write_toolchain())
 
-    def check_runs(self, name: str, done: Done | None = None) -> None:
+    def check_runs(self, name: str, process: CompletedCall | None = None) -> None:
         """Check that ./subttx runs the program and prints only the program's output."""
-        done = done or self.run(*PACKET)
-        self.case.must(name, done == self.case.call([self.case.bench.program, *PACKET]), done)
+        process = process or self.run(*PACKET)
+        self.case.must(name, process == self.case.call([self.case.bench.program, *PACKET]), process)
 
-    def check_fails(self, name: str, why: str) -> None:
+    def check_failure(self, name: str, why: str) -> None:
         """Check that ./subttx runs no program and prints the reason `why` on two lines."""
-        done = self.run(*PACKET)
-        self.case.must(name, done.status == 2 and not done.out and len(done.told) == 2
-                       and why in done.told[0] and "rt is not on the PATH" in done.told[1], done)
+        process = self.run(*PACKET)
+        self.case.must(name, process.status == 2 and not process.out and len(process.told) == 2
+                       and why in process.told[0] and "rt is not on the PATH" in process.told[1],
+                       process)
 
 
-def path_without_rt() -> str:
+def remove_rt_from_path() -> str:
     folders = os.environ["PATH"].split(os.pathsep)
-    return os.pathsep.join(one for one in folders if not os.path.exists(os.path.join(one, "rt")))
+    return os.pathsep.join(folder for folder in folders
+                           if not os.path.exists(os.path.join(folder, "rt")))
 
 
-def a_log(clone: Clone, kept: Iterable[str] = ()) -> str:
+def make_log(clone: Clone, kept: Iterable[str] = ()) -> str:
     """Return output of `rt ci` on proved crates, previously proved crates, and a failed crate."""
     lines = []
     for name in clone.crates:
@@ -158,25 +161,27 @@ class Clones(Case):
         helping = [["--help"], ["-h"], ["help"], ["help", "check"], ["check", "--help"],
                    ["-h", "survey"]]
         for words in helping:
-            self.must(f"{words}", clone.run(*words) == Done(0, text, []))
+            self.must(f"{words}", clone.run(*words) == CompletedCall(0, text, []))
         for words in [["check"], ["chec"], ["help", "me", "please"], ["help", "me"],
                       ["check", "a.stl", "b.pes", "-h"],
                       ["check", "a.stl", "b.pes", "--page", "-h"]]:
-            done = clone.run(*words)
-            self.must(f"{words}", (done.status, done.out) == (2, b"usage 0 Words\n")
-                      and done.told[0].startswith("error: "), done)
+            process = clone.run(*words)
+            self.must(f"{words}", (process.status, process.out) == (2, b"usage 0 Words\n")
+                      and process.told[0].startswith("error: "), process)
         os.remove(clone.path("dist", "PROVED"))
         for words in helping:
-            done = clone.run(*words)
-            self.must(f"{words} without a program", (done.status, done.out) == (0, text), done)
+            process = clone.run(*words)
+            self.must(f"{words} without a program", (process.status, process.out) == (0, text),
+                      process)
 
     def test_prints_the_version(self) -> None:
         clone = Clone(self)
         text = f"subttx {(read(os.path.join(TOP, 'VERSION')) or '').strip()}\n".encode()
         for word in ("--version", "-V"):
-            self.must(word, clone.run(word) == Done(0, text, []))
-            done = clone.run(word, "check")
-            self.must(f"{word} check", (done.status, done.out) == (2, b"usage 0 Words\n"), done)
+            self.must(word, clone.run(word) == CompletedCall(0, text, []))
+            process = clone.run(word, "check")
+            self.must(f"{word} check", (process.status, process.out) == (2, b"usage 0 Words\n"),
+                      process)
 
     def test_detects_a_damaged_program(self) -> None:
         clone = Clone(self)
@@ -186,9 +191,9 @@ class Clones(Case):
             byte = file.read(1)[0]
             file.seek(-1, os.SEEK_CUR)
             file.write(bytes([byte ^ 1]))
-        clone.check_fails("one byte", "dist/subttx is damaged")
+        clone.check_failure("one byte", "dist/subttx is damaged")
         os.remove(clone.path("dist", "subttx"))
-        clone.check_fails("no file", "dist/subttx is not an executable program")
+        clone.check_failure("no file", "dist/subttx is not an executable program")
 
     def test_detects_changed_sources(self) -> None:
         clone = Clone(self)
@@ -198,13 +203,13 @@ class Clones(Case):
             text = read(clone.path(name)) or ""
             clone.write(name, text.replace("subttx:", "subttx: sub_laws", 1)
                         if name == "crates.txt" else text + "// changed\n")
-            clone.check_fails(name, "dist/subttx was built from other sources")
+            clone.check_failure(name, "dist/subttx was built from other sources")
             clone.write(name, text)
         clone.add_to(SOURCE, "// changed\n")
         clone.put("dist", self.bench.program)
         clone.check_runs("with a program of its own")
         os.rename(clone.path(SOURCE), clone.path(SOURCE + "2"))
-        clone.check_fails("another name", "dist/subttx was built from other sources")
+        clone.check_failure("another name", "dist/subttx was built from other sources")
 
     def test_runs_in_a_read_only_clone(self) -> None:
         clone, user = Clone(self), None if os.geteuid() else ANOTHER_USER
@@ -222,7 +227,7 @@ class Clones(Case):
                            ("it ends by a signal", "#!/bin/sh\nkill -ILL $$\n")):
             clone.write("other", text)
             clone.put("dist", clone.path("other"))
-            clone.check_fails(name, "dist/subttx does not run here")
+            clone.check_failure(name, "dist/subttx does not run here")
 
     def test_follows_the_script_of_a_repository(self) -> None:
         clone = Clone(self)
@@ -231,8 +236,8 @@ class Clones(Case):
                 ("the script", clone.path("subttx"), clone.path("dist", "subttx")),
                 ("a program beside it", clone.path("other"), clone.path("other")),
                 ("a script elsewhere", self.write("alone", b"#!/bin/sh\n"), self.path("alone"))):
-            found = resolve_script(path)
-            self.must(name, os.path.realpath(found) == os.path.realpath(program), found)
+            result = resolve_script(path)
+            self.must(name, os.path.realpath(result) == os.path.realpath(program), result)
 
     def test_prefers_a_program_that_was_built_here(self) -> None:
         clone = Clone(self)
@@ -240,35 +245,36 @@ class Clones(Case):
         clone.check_runs("there is none yet")
         clone.write("other", f"#!/bin/sh\n[ $2 = 00 ] && exec echo built\ncat {stored}\n")
         clone.put("out", clone.path("other"))
-        done = clone.run(*PACKET)
-        self.must("out/", (done.status, done.out, done.told) == (0, b"built\n", []), done)
+        process = clone.run(*PACKET)
+        self.must("out/", (process.status, process.out, process.told) == (0, b"built\n", []),
+                  process)
         clone.add_to(SOURCE, "// changed\n")
         clone.put("dist", self.bench.program)
         clone.check_runs("dist/, where out/ is older")
 
-    def test_release_takes_only_what_was_proved(self) -> None:
+    def test_releases_only_a_proved_program(self) -> None:
         clone = Clone(self)
         clone.build()
         os.remove(clone.path("dist", "PROVED"))
         first, *others = clone.crates
-        clone.write("log", a_log(clone, kept=[first]))
-        done = clone.release("--note", clone.path("log"))
-        self.must("a log is noted", done.status == 0 and not done.told, done)
-        done = clone.release("--keep")
-        self.must("a crate without a line is told", first.encode() in done.out, done)
-        done = clone.release()
-        self.must("and refused", done.status == 2 and first in done.told[0], done)
-        clone.write("log", a_log(clone, kept=others))
+        clone.write("log", make_log(clone, kept=[first]))
+        process = clone.release("--note", clone.path("log"))
+        self.must("a log is noted", process.status == 0 and not process.told, process)
+        process = clone.release("--keep")
+        self.must("a crate without a line is told", first.encode() in process.out, process)
+        process = clone.release()
+        self.must("and refused", process.status == 2 and first in process.told[0], process)
+        clone.write("log", make_log(clone, kept=others))
         clone.release("--note", clone.path("log"))
-        done = clone.release("--compare")
-        self.must("no dist/ yet", done.status == 0 and done.out.endswith(NEITHER), done)
-        done = clone.release()
-        self.must("taken", done.status == 0, done)
+        process = clone.release("--compare")
+        self.must("no dist/ yet", process.status == 0 and process.out.endswith(NEITHER), process)
+        process = clone.release()
+        self.must("taken", process.status == 0, process)
         reported = parse_proved(read(clone.path("dist", "PROVED")))
         self.must("each crate's own line", reported.crates == {
             name: (digest, f"{LINE} of={name}") for name, digest in clone.crates.items()}, reported)
-        done = clone.release("--compare")
-        self.must("the same bytes", done.status == 0 and done.out.endswith(PASSED), done)
+        process = clone.release("--compare")
+        self.must("the same bytes", process.status == 0 and process.out.endswith(PASSED), process)
         shutil.rmtree(clone.path("out"))
         clone.check_runs("it runs")
 
@@ -276,13 +282,14 @@ class Clones(Case):
         clone = Clone(self)
         clone.build()
         clone.add_to(SOURCE, "// changed\n")
-        clone.write("log", a_log(clone, kept=clone.crates))
+        clone.write("log", make_log(clone, kept=clone.crates))
         clone.release("--note", clone.path("log"))
-        done = clone.release("--keep")
+        process = clone.release("--keep")
         reported = parse_proved(read(clone.path("out", "PROVED"))).crates
         self.must("all but one", set(clone.crates) - set(reported) == {"ttx_packet"}, reported)
-        done = clone.release("--compare")
-        self.must("other sources are told", done.status == 0 and b"other sources" in done.out, done)
+        process = clone.release("--compare")
+        self.must("other sources are told", process.status == 0 and b"other sources" in process.out,
+                  process)
 
     def test_compare_reports_different_programs(self) -> None:
         clone = Clone(self)
@@ -290,11 +297,11 @@ class Clones(Case):
         with open(self.path("other"), "ab") as file:
             file.write(b"\0")
         clone.put("out", self.path("other"))
-        done = clone.release("--compare")
-        self.must("other bytes", done.status == 1 and done.out.endswith(FAILED), done)
+        process = clone.release("--compare")
+        self.must("other bytes", process.status == 1 and process.out.endswith(FAILED), process)
         shutil.copy(self.path("other"), clone.path("dist", "subttx"))
-        done = clone.release("--compare")
-        self.must("damage", done.status == 1 and b"is not the program" in done.out, done)
+        process = clone.release("--compare")
+        self.must("damage", process.status == 1 and b"is not the program" in process.out, process)
 
 
 # A fake prover, which logs the crate, runs FIRST, and proves all crates except FAILS.
@@ -314,33 +321,33 @@ echo 'LINE'
 LINKER = """#!/bin/sh
 [ "$5" = -o ] && cp 'PROGRAM' "$6"
 """
-TOLD = re.compile(r"subttx: (\w+) proved after \d+ s, (\d+) of \d+ crates left")
-SLEEPS = "echo $$ >>'PIDS'; exec sleep 600"
+PROVED_PROGRESS = re.compile(r"subttx: (\w+) proved after \d+ s, (\d+) of \d+ crates left")
+SLEEP_COMMAND = "echo $$ >>'PIDS'; exec sleep 600"
 
 
-class Bare(Clone):
+class BareClone(Clone):
     """A copy of the repository that has a fake toolchain, but no PROVED for its program."""
 
     def __init__(self, case: Case, fails: str = "", first: str = "") -> None:
         super().__init__(case)
         os.remove(self.path("dist", "PROVED"))
-        self.environment = self.give_toolchain(TOOLCHAIN)
+        self.environment = self.write_toolchain(TOOLCHAIN)
         self.called = case.path("called")
-        self.give_prover(fails, first)
+        self.write_prover(fails, first)
         self.give("rattle-link", LINKER.replace("PROGRAM", case.bench.program))
 
-    def give_prover(self, fails: str = "", first: str = "", line: str = LINE) -> None:
+    def write_prover(self, fails: str = "", first: str = "", line: str = LINE) -> None:
         text = PROVER.replace("FIRST", first).replace("FAILS", fails).replace("LINE", line)
         self.give("rattle", text.replace("CALLED", self.called))
 
-    def start(self) -> Done:
+    def start(self) -> CompletedCall:
         """Run ./subttx with the fake toolchain on the PATH."""
         return self.call([self.path("subttx"), *PACKET], self.environment)
 
-    def prove(self, *words: str) -> list[str]:
+    def prove(self, *args: str) -> list[str]:
         """Run tools/prove. Return the crates for which it called the prover, in order."""
         self.write(self.called, "")
-        self.call([self.path("tools", "prove"), *words], self.environment)
+        self.call([self.path("tools", "prove"), *args], self.environment)
         return (read(self.called) or "").split()
 
     def has_cleared(self) -> bool:
@@ -349,14 +356,14 @@ class Bare(Clone):
 
 class ProvingClones(Case):
     def test_proves_and_runs_the_program(self) -> None:
-        clone = Bare(self)
-        done = clone.start()
-        reported = [TOLD.fullmatch(line) for line in done.told[1:]]
-        self.must("it runs", done.out == self.call([self.bench.program, *PACKET]).out, done)
+        clone = BareClone(self)
+        process = clone.start()
+        reported = [PROVED_PROGRESS.fullmatch(line) for line in process.told[1:]]
+        self.must("it runs", process.out == self.call([self.bench.program, *PACKET]).out, process)
         self.must("each crate is told", {it[1] for it in reported if it} == set(clone.crates)
                   and [int(it[2]) for it in reported
                        if it] == [*reversed(range(len(clone.crates)))],
-                  done)
+                  process)
         kept = parse_proved(read(clone.path("out", "PROVED")))
         self.must("what is kept", kept.program == compute_digest(self.bench.program)
                   and kept.sources == clone.tool("sources")[0], kept)
@@ -366,24 +373,24 @@ class ProvingClones(Case):
         clone.check_runs("again, without the toolchain")
 
     def test_reports_a_crate_that_is_not_proved(self) -> None:
-        clone = Bare(self, fails="ttx_page")
-        done = clone.start()
-        self.must("status 2", done.status == 2 and not done.out, done)
-        self.must("its messages", "a goal is open" in done.told and LINE not in done.told
-                  and done.told[-1].startswith("subttx: ttx_page was not proved"), done)
+        clone = BareClone(self, fails="ttx_page")
+        process = clone.start()
+        self.must("status 2", process.status == 2 and not process.out, process)
+        self.must("its messages", "a goal is open" in process.told and LINE not in process.told
+                  and process.told[-1].startswith("subttx: ttx_page was not proved"), process)
         self.must("nothing is left", clone.has_cleared()
                   and not os.path.exists(clone.path("out", "subttx")))
 
     def test_refuses_a_line_with_unproved_functions(self) -> None:
-        clone = Bare(self)
+        clone = BareClone(self)
         for name, line in (("a word", f"{LINE} foreign=low::adds"), ("no line", "only=1 proved=1"),
                            ("a warning", f"warning: no call of `low::adds` can meet it\n{LINE}")):
-            clone.give_prover(line=line)
-            done = clone.start()
-            self.must(name, done.status == 2 and "was not proved" in done.told[-1], done)
+            clone.write_prover(line=line)
+            process = clone.start()
+            self.must(name, process.status == 2 and "was not proved" in process.told[-1], process)
 
     def test_proves_only_changed_crates(self) -> None:
-        clone = Bare(self)
+        clone = BareClone(self)
         self.must("all at first", sorted(clone.prove()) == sorted(clone.crates))
         self.must("then none", not clone.prove())
         clone.add_to(os.path.join("crates", "sub_check", "src", "lib.rt"), "// changed\n")
@@ -393,15 +400,15 @@ class ProvingClones(Case):
         self.must("all", sorted(clone.prove("--anew")) == sorted(clone.crates))
 
     def test_reports_a_source_that_changes_meanwhile(self) -> None:
-        clone = Bare(self, first=f"echo '// changed' >>'{self.path('clone')}/{SOURCE}'")
-        done = clone.start()
-        self.must("it is told", done.status == 2 and any("were changed" in it for it in done.told),
-                  done)
+        clone = BareClone(self, first=f"echo '// changed' >>'{self.path('clone')}/{SOURCE}'")
+        process = clone.start()
+        self.must("it is told", process.status == 2
+                  and any("were changed" in it for it in process.told), process)
         self.must("nothing is left", not os.path.exists(clone.path("out", "subttx")))
 
     def test_stops_the_toolchain_after_an_interrupt(self) -> None:
         pids = self.path("pids")
-        clone = Bare(self, first=SLEEPS.replace("PIDS", pids))
+        clone = BareClone(self, first=SLEEP_COMMAND.replace("PIDS", pids))
         running = subprocess.Popen([clone.path("tools", "prove")], stdin=subprocess.DEVNULL,
                                    stderr=subprocess.DEVNULL,
                                    env={**os.environ, "PATH": clone.environment})

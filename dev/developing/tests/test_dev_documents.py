@@ -28,17 +28,17 @@ BLOCK = re.compile(r"^```(\w*)\n(.*?)^```$", re.M | re.S)
 CODE = re.compile(r"`[^`\n]*`")
 
 
-def documents() -> Iterator[tuple[str, str]]:
+def list_document_texts() -> Iterator[tuple[str, str]]:
     for form in NAMES:
         for path in sorted(glob.glob(os.path.join(TOP, form))):
             yield path, read(path) or ""
 
 
-def anchors(text: str) -> set[str]:
+def list_anchors(text: str) -> set[str]:
     """Return the names of a document's anchors and headings, as used in links."""
     text = BLOCK.sub("", text)
-    return {*ANCHOR.findall(text), *(re.sub(r"[^\w\- ]", "", found.lower()).replace(" ", "-")
-                                     for found in HEADING.findall(text))}
+    return {*ANCHOR.findall(text), *(re.sub(r"[^\w\- ]", "", result.lower()).replace(" ", "-")
+                                     for result in HEADING.findall(text))}
 
 
 def sources() -> str:
@@ -51,7 +51,7 @@ def sources() -> str:
 class AllDocuments(Case):
     def test_links_have_existing_targets(self) -> None:
         count = 0
-        for path, text in documents():
+        for path, text in list_document_texts():
             for target in LINK.findall(CODE.sub("", BLOCK.sub("", text))):
                 if ":" in target:
                     continue
@@ -59,12 +59,12 @@ class AllDocuments(Case):
                 name, _, heading = target.partition("#")
                 there = os.path.join(os.path.dirname(path), name) if name else path
                 self.must(f"{os.path.relpath(path, TOP)}: {target}", os.path.exists(there) and (
-                    not heading or heading in anchors(read(there) or "")))
+                    not heading or heading in list_anchors(read(there) or "")))
         self.must("links", count > 100, count)
 
     def test_quoted_blocks_are_in_the_sources(self) -> None:
         code, count = sources(), 0
-        for path, text in documents():
+        for path, text in list_document_texts():
             for kind, block in BLOCK.findall(text):
                 where = f"{os.path.relpath(path, TOP)}: {block[:60]!r}"
                 if kind == "antt":
@@ -81,18 +81,19 @@ class AllDocuments(Case):
 
     def test_make_picture_detects_an_old_picture(self) -> None:
         tool = [os.path.join(TOP, "dev", "make-picture"), "-p", self.bench.program]
-        made = self.write("old.png", b"\x89PNG\r\n\x1a\n")
-        done = self.call([*tool, "--compare", made])
-        self.must("an old one", done.status == 1 and b"is not of today's report" in done.out, done)
+        result = self.write("old.png", b"\x89PNG\r\n\x1a\n")
+        process = self.call([*tool, "--compare", result])
+        self.must("an old one", process.status == 1 and b"is not of today's report" in process.out,
+                  process)
         if not find_browser():
             self.skipTest("the picture of README, since there is no browser")
-        done = self.call([*tool, made])
-        self.must("made", done.status == 0, done)
-        with open(made, "rb") as file:
+        process = self.call([*tool, result])
+        self.must("made", process.status == 0, process)
+        with open(result, "rb") as file:
             head = file.read(24)
         self.must("PNG", head[:8] == b"\x89PNG\r\n\x1a\n"
                   and struct.unpack(">II", head[16:]) == (1000, 800), head)
-        self.must("a new one", self.call([*tool, "--compare", made]).status == 0)
+        self.must("a new one", self.call([*tool, "--compare", result]).status == 0)
 
 
 USAGE = """usage: subttx COMMAND FILES [options]
@@ -136,58 +137,58 @@ class GeneratedFiles(Case):
             self.must(f"dev/make-pages: {name}", read(os.path.join(TOP, name)) == text)
 
     def test_the_table_has_each_option_of_the_program(self) -> None:
-        known = {one.name for one in pages.parse_options(read(os.path.join(TOP, pages.TABLE))
-                                                         or "")}
+        known = {option.name for option in pages.parse_options(read(os.path.join(TOP, pages.TABLE))
+                                                               or "")}
         self.must("options", {"--page", "--within", "--pes", "--receiver"} < known, known)
 
 
 class GeneratedParts(unittest.TestCase):
     def test_reads_the_usage(self) -> None:
-        found = pages.parse_commands(USAGE)
-        self.assertEqual([(one.name, one.files, one.needed) for one in found],
+        commands = pages.parse_commands(USAGE)
+        self.assertEqual([(item.name, item.files, item.needed) for item in commands],
                          [("check", "STL PES", []), ("listen", "PES", ["--at"]),
                           ("packet", "HEX", [])])
-        self.assertEqual(found[0].does,
+        self.assertEqual(commands[0].does,
                          "accepts a transmission, or names its place; --all lists all")
         with self.assertRaises(Stop):
             pages.parse_commands("usage: none")
 
-    def test_reads_the_table(self) -> None:
-        found = pages.parse_options(TABLE)
-        self.assertEqual([(one.name, one.value, one.commands) for one in found],
+    def test_parses_the_option_table(self) -> None:
+        options = pages.parse_options(TABLE)
+        self.assertEqual([(item.name, item.value, item.commands) for item in options],
                          [("--page", "P", ["check", "listen"]), ("--all", "", ["check"]),
                           ("--at", "TIME", ["listen"]), ("--kind", "K", ["listen"])])
-        self.assertEqual([one.list_choices() for one in found], [[], [], [], ["a", "b", "c"]])
+        self.assertEqual([item.list_choices() for item in options], [[], [], [], ["a", "b", "c"]])
 
-    def test_reads_a_help(self) -> None:
+    def test_parses_a_help_text(self) -> None:
         self.assertEqual(pages.parse_entries(HELP), [
             ("--help", "", "show it"), ("--from", "TIME", "the first frame"),
             ("--kind", "{a,b}", "which one"), ("-o", "OUT", "the file to write")])
 
-    def test_makes_pages(self) -> None:
-        made = pages.make_program_parts(USAGE, TABLE)
-        self.assertIn(".B listen\n.I PES\n.B \\-\\-at TIME\n.OP \\-\\-page P\n", made["synopsis"])
+    def test_makes_manual_pages(self) -> None:
+        result = pages.make_program_parts(USAGE, TABLE)
+        self.assertIn(".B listen\n.I PES\n.B \\-\\-at TIME\n.OP \\-\\-page P\n", result["synopsis"])
         self.assertIn("\\fB\\-\\-page\\fP \\fIP\\fP\nThe page: one. Without it: \\fB888\\fP.",
-                      made["options"])
-        made = pages.make_tool_parts(HELP)
-        self.assertEqual(made["status"], "Status 0 or 2.\n")
-        self.assertIn("Which one. WORD is a, b.", made["options"])
-        self.assertIn("[\\-\\-from TIME] [\\-o OUT]", made["synopsis"])
+                      result["options"])
+        result = pages.make_tool_parts(HELP)
+        self.assertEqual(result["status"], "Status 0 or 2.\n")
+        self.assertIn("Which one. WORD is a, b.", result["options"])
+        self.assertIn("[\\-\\-from TIME] [\\-o OUT]", result["synopsis"])
 
     def test_makes_the_table_of_a_chapter(self) -> None:
-        made = pages.make_chapter_parts("| `--page P` | `check` | the page | 888 |\n")["options"]
+        result = pages.make_chapter_parts("| `--page P` | `check` | the page | 888 |\n")["options"]
         for name, is_there in (("--page P", False), ("--every N", True), ("--strict", True),
                                ("--no-keeping", False)):
-            self.assertEqual(f"| `{name}` | " in made, is_there, name)
+            self.assertEqual(f"| `{name}` | " in result, is_there, name)
 
     def test_makes_a_completion(self) -> None:
-        made = pages.make_completion_parts(USAGE, TABLE, [HELP])
-        self.assertIn("--kind) _subttx_words 'a b c'", made["values"])
-        self.assertIn("        --at | --from | --page)\n", made["values"])
-        self.assertIn("check) options='--page --all' ;;", made["options"])
-        self.assertEqual(made["commands"], "    local commands='check listen packet'\n")
+        completion_parts = pages.make_completion_parts(USAGE, TABLE, [HELP])
+        self.assertIn("--kind) _subttx_words 'a b c'", completion_parts["values"])
+        self.assertIn("        --at | --from | --page)\n", completion_parts["values"])
+        self.assertIn("check) options='--page --all' ;;", completion_parts["options"])
+        self.assertEqual(completion_parts["commands"], "    local commands='check listen packet'\n")
 
-    def test_puts_parts_between_their_lines(self) -> None:
+    def test_inserts_generated_parts_between_markers(self) -> None:
         text = "a\n# made: one\nold\n# end\nb\n"
         self.assertEqual(pages.replace_parts(text, {"one": "new\n"}),
                          "a\n# made: one\nnew\n# end\nb\n")
@@ -205,7 +206,7 @@ SCRIPT = re.compile(r"`([a-z][\w.-]*/?)`")  # name of a script or folder in thes
 LINE = re.compile(r"^([a-z_]+) +\S", re.M)  # line of the module list in __init__.py
 
 
-def entries(folder: str) -> list[str]:
+def list_folder_entries(folder: str) -> list[str]:
     """Return the names in a folder, modules without extension and folders with a slash."""
     return sorted(name.removesuffix(".py") + "/" * os.path.isdir(os.path.join(folder, name))
                   for name in os.listdir(folder) if not name.startswith("__"))
@@ -218,7 +219,7 @@ class ModuleLists(Case):
             section = contributing.partition(f"## {heading}\n")[2].partition("\n## ")[0]
             rows = [row for row in SCRIPT.findall(section)
                     if row[-1] != "/" or not os.path.exists(os.path.join(TOP, row))]
-            wanted = [entry for entry in entries(os.path.join(TOP, name))
+            wanted = [entry for entry in list_folder_entries(os.path.join(TOP, name))
                       if entry not in ("subtitles/", "developing/")]
             self.must(name, sorted(rows) == sorted(wanted), set(rows) ^ set(wanted))
 
@@ -226,24 +227,24 @@ class ModuleLists(Case):
         folder = os.path.join(TOP, "tools", "subtitles")
         listed = (read(os.path.join(folder, "__init__.py")) or "").partition("To find")[0]
         rows = re.findall(r"^([a-z]+)  +\S", listed, re.M)
-        wanted = [one.rstrip("/") for one in entries(folder)]
+        wanted = [one.rstrip("/") for one in list_folder_entries(folder)]
         self.must("packages", sorted(rows) == wanted, set(rows) ^ set(wanted))
 
     def test_each_package_lists_its_modules(self) -> None:
         for name in PACKAGES:
             folder = os.path.join(TOP, name)
             rows = LINE.findall((read(os.path.join(folder, "__init__.py")) or "").split('"""')[1])
-            wanted = [one.rstrip("/") for one in entries(folder)
-                      if "." not in one and "-" not in one]
-            self.must(name, sorted(rows) == wanted, set(rows) ^ set(wanted))
+            expected = [entry.rstrip("/") for entry in list_folder_entries(folder)
+                        if "." not in entry and "-" not in entry]
+            self.must(name, sorted(rows) == expected, set(rows) ^ set(expected))
 
     def test_class_names_are_unique(self) -> None:
         places = collections.defaultdict[str, list[str]](list)
         for folder, _, names in os.walk(os.path.join(TOP, "tools", "subtitles")):
             for name in names if not folder.endswith("__pycache__") else ():
                 text = read(os.path.join(folder, name)) or ""
-                for found in re.findall(r"^class (\w+)", text, re.M):
-                    places[found].append(name)
+                for result in re.findall(r"^class (\w+)", text, re.M):
+                    places[result].append(name)
         several = {name: files for name, files in places.items() if len(files) > 1}
         self.must("names of classes", len(places) > 100 and not several, several)
 
@@ -255,7 +256,7 @@ class ModuleLists(Case):
                   and len(list_indexed_clauses(text)) > 60, len(list_indexed_clauses(text)))
 
     def test_a_reading_list_describes_each_crate(self) -> None:
-        about = import_script("reading-list").first_paragraph
+        about = import_script("reading-list").read_first_paragraph
         for crate in Library(TOP).crates:
             self.must(crate, about(crate).endswith("."), about(crate))
         self.must("none", about("nowhere") == "")
@@ -263,15 +264,15 @@ class ModuleLists(Case):
     def test_stated_sizes_are_right_to_a_tenth(self) -> None:
         text = read(os.path.join(TOP, "docs", "ASSURANCE.md")) or ""
         _, _, reported = text.partition("The crates contain ")
-        numbers = [int(one.replace(",", ""))
-                   for one in re.findall(r"\d+,\d+", reported)[:len(KINDS)]]
+        numbers = [int(item.replace(",", ""))
+                   for item in re.findall(r"\d+,\d+", reported)[:len(KINDS)]]
         counts = add_sizes(count_lines(TOP))
         self.must("sizes", len(numbers) == len(KINDS) and all(
             abs(number - counts[kind]) * 10 < counts[kind]
             for number, kind in zip(numbers, KINDS)), (numbers, counts))
 
 
-STORED = "dev/bodies-to-read.txt"
+STORED_FILE = "dev/bodies-to-read.txt"
 # First lines of the functions and impls in STORED, which make system calls without a contract.
 HELD = [
     "fn main(rt: HostRuntime)",
@@ -311,23 +312,23 @@ class Examples(Case):
     def test_the_severity_file_of_the_manual_is_valid(self) -> None:
         manual = read(os.path.join(TOP, "docs", "manual", "qc.md")) or ""
         text = next(text for _, text in BLOCK.findall(manual.partition("**A severity file**")[2]))
-        found = Severity(self.write("severity", text.encode()))
+        result = Severity(self.write("severity", text.encode()))
         rules = [line.partition("#")[0].split() for line in text.splitlines()]
         named = {" ".join(words): severity for *words, severity in rules}
         others = named.pop("others")
-        self.check("named", {name: found.classify(int(name) if name.isdecimal() else name)
+        self.check("named", {name: result.classify(int(name) if name.isdecimal() else name)
                              for name in named}, named)
-        self.check("others", (others, found.classify(72), found.classify("never sent")),
+        self.check("others", (others, result.classify(72), result.classify("never sent")),
                    ("error",) * 3)
         self.check("some are warnings", set(named.values()), {"warning"})
 
 
-def text_of(name: str) -> str:
+def read_document(name: str) -> str:
     with open(os.path.join(TOP, name), encoding="utf-8") as file:
         return file.read()
 
 
-def text_of_sources() -> list[str]:
+def read_source_texts() -> list[str]:
     """Return the paths of the source files of all crates."""
     crates = os.path.join(TOP, "crates")
     return [os.path.relpath(os.path.join(place, name), TOP)
@@ -341,23 +342,23 @@ def implements_drop(text: str) -> bool:
 
 
 class ReadBodies(unittest.TestCase):
-    def test_bodies_are_unchanged_since_they_were_read(self) -> None:
-        parts = text_of(STORED).split("\n== ")[1:]
+    def test_reviewed_function_bodies_are_unchanged(self) -> None:
+        parts = read_document(STORED_FILE).split("\n== ")[1:]
         bodies = [part.partition("\n")[2] for part in parts]
         self.assertEqual([next((head for head in HELD if body.startswith(f"{head} ")), body)
                           for body in bodies], HELD)
         for part in parts:
             name, _, body = part.partition("\n")
             with self.subTest(body.partition("\n")[0]):
-                code = "\n".join(line for line in text_of(name).split("\n")
+                code = "\n".join(line for line in read_document(name).split("\n")
                                  if not line.lstrip().startswith("//"))
                 self.assertIn(f"\n{body.strip()}\n", code,
-                              f"read the change of {name}, and store it in {STORED}")
+                              f"read the change of {name}, and store it in {STORED_FILE}")
 
     def test_no_crate_implements_drop(self) -> None:
-        for name in text_of_sources():
+        for name in read_source_texts():
             with self.subTest(name):
-                self.assertFalse(implements_drop(text_of(name)))
+                self.assertFalse(implements_drop(read_document(name)))
 
     def test_finds_an_implementation_of_drop(self) -> None:
         rows = [

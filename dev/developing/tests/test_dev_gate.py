@@ -10,70 +10,72 @@ import unittest
 from random import Random
 
 from developing import read_counts
-from developing.every_place.carried_laws import LAWS, make_random_packets
+from developing.every_place.carried_laws import LAW_CHECKS, make_random_packets
 from developing.every_place.recordings import MAX_UNSEEN_PACKETS
-from developing.every_place.streams import multiplex, lose_units
+from developing.every_place.streams import multiplex, drop_random_units
 from developing.every_place.trying import get_status
 from subtitles.common.program import TOP, read
 from subtitles.results.files import read_result
 from . import runner, table
-from .bench import Case, example_bytes, tool_path
+from .bench import Case, get_tool_path, read_example_file
 
 
-EVALUATES = re.compile(r"^\s*(?:[^#]*[;&|(]\s*)?(?:eval|exec\s+sh\s+-c)\b")
+EVAL_COMMAND = re.compile(r"^\s*(?:[^#]*[;&|(]\s*)?(?:eval|exec\s+sh\s+-c)\b")
 
 
 class Scripts(Case):
-    def test_no_script_evaluates_what_it_was_given(self) -> None:
+    def test_no_script_evaluates_its_arguments(self) -> None:
         names = subprocess.run(["git", "-C", TOP, "ls-files"], stdout=subprocess.PIPE, check=False)
         for name in names.stdout.decode().split("\n"):
             path = os.path.join(TOP, name)
             text = os.path.isfile(path) and read(path) or ""
             is_script = text.startswith("#!") and "sh" in text.split("\n", 1)[0]
             if is_script or name.endswith((".sh", ".bash", ".md")):
-                found = [line for line in text.split("\n") if EVALUATES.match(line)]
-                self.must(name, not found, found)
+                result = [line for line in text.split("\n") if EVAL_COMMAND.match(line)]
+                self.must(name, not result, result)
 
 
 class JobScripts(Case):
     LINES = ["in/one.stl in/one.pes", "'in/a b; touch hit.stl' in/one.pes --page 888",
              "in/$(touch${IFS}hit).stl in/one.pes", "in/one.stl in/bad.pes",
              "in/one.stl in/one.pes -p /bin/true", "-one.stl in/one.pes"]
-    WANTED = {"one": "relative", "a b; touch hit": "relative", "$(touch${IFS}hit)": "relative",
-              "one~2": "refused", "line 5": "not judged", "line 6": "not judged"}
+    EXPECTED_VERDICTS = {"one": "relative", "a b; touch hit": "relative",
+                         "$(touch${IFS}hit)": "relative", "one~2": "refused",
+                         "line 5": "not judged", "line 6": "not judged"}
 
     def setUp(self) -> None:
         super().setUp()
         for folder in ("in", "bin", "home"):
             os.mkdir(self.path(folder))
         for name in ("one.stl", "a b; touch hit.stl", "$(touch${IFS}hit).stl"):
-            self.write(f"in/{name}", example_bytes("hello.stl"))
+            self.write(f"in/{name}", read_example_file("hello.stl"))
         for name, data in (("one", "hello"), ("bad", "no-erase")):
-            self.write(f"in/{name}.pes", example_bytes(f"{data}.pes"))
+            self.write(f"in/{name}.pes", read_example_file(f"{data}.pes"))
         self.write("list", "".join(f"{line}\n" for line in self.LINES).encode())
-        self.write_program("bin/subttx-qc", f'#!/bin/sh\nexec {tool_path("qc")} "$@" -p '
+        self.write_program("bin/subttx-qc", f'#!/bin/sh\nexec {get_tool_path("qc")} "$@" -p '
                                             f"'{self.bench.program}'\n")
         self.env = {**os.environ, "PATH": f"{self.path('bin')}:{os.environ['PATH']}"}
 
     def check_results(self, name: str) -> None:
         """Check that each line of the list has a result, and that no text in it was executed."""
         os.makedirs(self.path("out"), exist_ok=True)
-        found = {path.removesuffix(".json"): (read_result(self.path(f"out/{path}")) or
-                                              {})["verdict"]
-                 for path in os.listdir(self.path("out")) if path.endswith(".json")}
-        self.must(name, found == self.WANTED and not os.path.exists(self.path("hit")) and
-                  "index.html" not in os.listdir(self.path("out")), found)
+        result = {path.removesuffix(".json"): (read_result(self.path(f"out/{path}")) or
+                                               {})["verdict"]
+                  for path in os.listdir(self.path("out")) if path.endswith(".json")}
+        self.must(name, result == self.EXPECTED_VERDICTS
+                  and not os.path.exists(self.path("hit"))
+                  and "index.html" not in os.listdir(self.path("out")), result)
 
     def test_runs_each_line_as_a_job_of_slurm(self) -> None:
         script = os.path.join(TOP, "docs", "manual", "judge.sh")
         ended = [self.call(["bash", script], env={**self.env, "SLURM_ARRAY_TASK_ID": f"{number}"})
                  for number in range(1, 8)]
-        self.must("statuses", [done.status for done in ended] == [0, 0, 0, 0, 1, 1, 1], ended)
+        self.must("statuses", [process.status for process in ended] == [0, 0, 0, 0, 1, 1, 1], ended)
         self.check_results("results")
         shutil.rmtree(self.path("out"))
         for number in ("", "1 2", "1 --line 2"):
-            done = self.call(["bash", script], env={**self.env, "SLURM_ARRAY_TASK_ID": number})
-            self.check(f"index {number!r}", (done.status, os.path.exists(self.path("out"))),
+            process = self.call(["bash", script], env={**self.env, "SLURM_ARRAY_TASK_ID": number})
+            self.check(f"index {number!r}", (process.status, os.path.exists(self.path("out"))),
                        (1, False))
         os.mkdir(self.path("out"))
         if not shutil.which("sbatch") or self.call(["sinfo"]).status:
@@ -91,9 +93,10 @@ class JobScripts(Case):
         self.write("hosts", b":\n")
         command = command.replace("parallel", "parallel --sshloginfile hosts --workdir .")
         env = {**self.env, "PARALLEL_HOME": self.path("home")}
-        done = self.call(["bash", "-c", command], env=env)
-        self.check_results(f"results: {done}")
-        times = {name: os.stat(self.path(f"out/{name}.json")).st_mtime_ns for name in self.WANTED}
+        process = self.call(["bash", "-c", command], env=env)
+        self.check_results(f"results: {process}")
+        times = {name: os.stat(self.path(f"out/{name}.json")).st_mtime_ns
+                 for name in self.EXPECTED_VERDICTS}
         self.write("list", "".join(f"{line}\n" for line in [
             *self.LINES[:4], self.LINES[0], self.LINES[5]]).encode())
         self.call(["bash", "-c", command], env=env)
@@ -103,8 +106,8 @@ class JobScripts(Case):
 
 
 class Counts(unittest.TestCase):
-    def test_believes_the_last_line_if_the_status_agrees(self) -> None:
-        for printed, status, wanted in (
+    def test_uses_the_last_line_only_if_the_status_agrees(self) -> None:
+        for printed, status, expected in (
                 ("7 passed, 0 failed\n", 0, (7, 0)), ("a\n7 passed, 2 failed\n", 1, (7, 2)),
                 ("7 passed, 2 failed\n", -9, (7, 2)), ("7 passed, 2 failed\n", 0, None),
                 ("7 passed, 0 failed\n", 1, None), ("7 passed, 0 failed\n", -9, None),
@@ -112,7 +115,7 @@ class Counts(unittest.TestCase):
                 ("of 7 passed, 0 failed\n", 0, None), ("", 0, None),
                 ("1 passed, 1 failed\n7 passed, 0 failed\n", 0, (7, 0))):
             with self.subTest(said=printed, status=status):
-                self.assertEqual(read_counts(printed, status), wanted)
+                self.assertEqual(read_counts(printed, status), expected)
 
 
 SEEDS = 150
@@ -132,7 +135,7 @@ class LastLines(unittest.TestCase):
 
 class RecordingProperties(unittest.TestCase):
     def test_checks_the_properties_of_extracted_packets(self) -> None:
-        for name, law in LAWS.items():
+        for name, law in LAW_CHECKS.items():
             for seed in range(SEEDS):
                 with self.subTest(name, seed=seed):
                     self.assertIsNone(law(seed))
@@ -142,9 +145,9 @@ class RecordingProperties(unittest.TestCase):
         for seed in range(SEEDS):
             chance = Random(seed)
             sent = multiplex(chance, make_random_packets(chance) * 3, 257, False)
-            kept = {one.number for one in lose_units(chance, sent) if not one.is_wrong}
+            kept = {item.number for item in drop_random_units(chance, sent) if not item.is_wrong}
             row = 0
-            for number in sorted({one.number for one in sent if one.number is not None}):
+            for number in sorted({item.number for item in sent if item.number is not None}):
                 row = 0 if number in kept else row + 1
                 most = max(most, row)
         self.assertEqual(most, MAX_UNSEEN_PACKETS - 1)
@@ -152,30 +155,30 @@ class RecordingProperties(unittest.TestCase):
 
 class SelectedTests(Case):
     def test_finds_a_module_by_any_of_its_names(self) -> None:
-        for name, wanted in (
+        for name, expected in (
                 ("stream/layout.py", "stream/layout.py"), ("stream.layout", "stream/layout.py"),
                 ("tools/subtitles/stream/layout.py", "stream/layout.py"),
                 ("subtitles.stream.layout", "stream/layout.py"), ("tools/qc", "qc"),
                 ("dev/dist", "dev/dist"), ("air/judge.py", "air/judge.py")):
-            self.must(name, table.module_of(name) == wanted, table.module_of(name))
+            self.must(name, table.get_module_path(name) == expected, table.get_module_path(name))
 
     def test_has_tests_for_each_module_and_script(self) -> None:
         known, top = table.rows(), os.path.join(TOP, "tools", "subtitles")
         modules = {os.path.relpath(path, top) for path in glob.glob(
             os.path.join(top, "**", "*.py"), recursive=True)}
-        named = {one for one in modules if not one.endswith("__init__.py")}
-        self.must("modules", {one for one in known if one.endswith(".py")} == named,
-                  {one for one in known if one.endswith(".py")} ^ named)
+        named = {item for item in modules if not item.endswith("__init__.py")}
+        self.must("modules", {item for item in known if item.endswith(".py")} == named,
+                  {item for item in known if item.endswith(".py")} ^ named)
         everything = runner.find_tests([])
-        classes = {runner.name_of(one).rpartition(".")[0] for one in everything}
+        classes = {runner.get_test_name(item).rpartition(".")[0] for item in everything}
         for module, tests in known.items():
             self.must(module, tests and {*tests} <= classes, {*tests} - classes)
         for name, test in (("stream.layout", "test_stream_layouts."),
                            ("tools/qc", "test_cli_earlier_results.")):
-            self.must(name, any(test in one for one in table.tests_of(name)))
-            self.must(f"{name}: those alone", {runner.name_of(one).rpartition(".")[0]
-                                               for one in runner.find_tests([name])} ==
-                      {*table.tests_of(name)})
-        self.must("by name", all("test_dev_gate" in one.id()
-                                 for one in runner.find_tests(["test_dev_gate."])))
-        self.must("no module", not table.tests_of("subtitles.none"))
+            self.must(name, any(test in item for item in table.list_tests_of(name)))
+            self.must(f"{name}: those alone", {runner.get_test_name(item).rpartition(".")[0]
+                                               for item in runner.find_tests([name])} ==
+                      {*table.list_tests_of(name)})
+        self.must("by name", all("test_dev_gate" in item.id()
+                                 for item in runner.find_tests(["test_dev_gate."])))
+        self.must("no module", not table.list_tests_of("subtitles.none"))

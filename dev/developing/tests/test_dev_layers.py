@@ -10,7 +10,7 @@ import subprocess
 from typing import Iterator
 
 from subtitles.common.program import TOP
-from subtitles.common.times import CLOCK, ticks_between, wrap_pts
+from subtitles.common.times import CLOCK, subtract_pts, wrap_pts
 from .bench import Case, SECONDS
 
 # Packages of the tools. Each may import only packages before it.
@@ -18,52 +18,52 @@ ORDER = ["common", "formats", "request", "stream", "clock", "recording", "judgin
          "report", "cli", "air"]
 LONGEST_LINE = 100
 MAIN = "subtitles.cli.main"  # module that imports other modules on demand
-IN_ROWS = os.path.join("developing", "signs.py")  # file with a table of long lines
+TABLE_FILE = os.path.join("developing", "signs.py")  # file with a table of long lines
 # Modules of the tools that the second implementation may import.
-SHARED = {"subtitles." + name for name in (
+SHARED_MODULES = {"subtitles." + name for name in (
     "common.command_line", "common.program.TOP", "common.program.find_built_program",
     "common.times", "formats.layout", *("formats.stl." + name for name in (
         "GSI", "LAST_BLOCK", "TEXT", "TTI", "USER_DATA")),
     *("formats.teletext." + name for name in ("CODE_WORDS", "NUMBER", "Page", "START", "is_odd")))}
 
 
-def name_of(path: str) -> str:
+def get_module_name(path: str) -> str:
     """Return the dotted module name for a file; a package is named by its folder."""
     home = TOOLS if path.startswith(TOOLS + os.sep) else DEV
     words = os.path.relpath(path, home).removesuffix(".py").split(os.sep)
     return ".".join(words[:-1] if words[-1] == "__init__" else words)
 
 
-def imported(text: str, name: str, is_package: bool) -> Iterator[str]:
+def list_imports(text: str, name: str, is_package: bool) -> Iterator[str]:
     """Yield the names that a module imports, including imports in functions and for type hints."""
     here = name.split(".") if is_package else name.split(".")[:-1]
     for node in ast.walk(ast.parse(text)):
         if isinstance(node, ast.Import):
-            yield from (one.name for one in node.names)
+            yield from (item.name for item in node.names)
         elif isinstance(node, ast.ImportFrom):
             above = here[:len(here) - node.level + 1] if node.level else []
             module = ".".join([*above, *([node.module] if node.module else [])])
             yield module
-            yield from (f"{module}.{one.name}" for one in node.names)
+            yield from (f"{module}.{item.name}" for item in node.names)
 
 
-def wrong_imports(name: str, names: Iterator[str]) -> list[str]:
+def list_wrong_imports(name: str, names: Iterator[str]) -> list[str]:
     """Return the names among `names` that the module `name` must not import."""
     here = name.split(".")
     if here[0] == "developing":
         if here[1:2] != ["every_place"]:
             return []
-        return [one for one in names if one.startswith("subtitles")
-                and not any((one + ".").startswith(shared + ".") for shared in SHARED)
-                and not any(shared.startswith(one + ".") for shared in SHARED)]
+        return [item for item in names if item.startswith("subtitles")
+                and not any((item + ".").startswith(shared + ".") for shared in SHARED_MODULES)
+                and not any(shared.startswith(item + ".") for shared in SHARED_MODULES)]
     allowed = ORDER[:ORDER.index(here[1]) + 1] if here[1:] else []
-    found = []
-    for one in names:
-        words = one.split(".")
+    result = []
+    for item in names:
+        words = item.split(".")
         is_right = words[0] != "developing" and (words[0] != "subtitles"
                                                  or words[1:2] == [] or words[1] in allowed)
-        found += [] if is_right else [one]
-    return found
+        result += [] if is_right else [item]
+    return result
 
 
 def wraps(text: str) -> list[int]:
@@ -78,26 +78,26 @@ NEWER_ARGUMENTS = {*((name, "key") for name in ("bisect", "bisect_left", "bisect
                    ("dataclass", "slots"), ("dataclass", "kw_only"), ("zip", "strict")}
 
 
-def newer_lines(text: str) -> list[int]:
+def list_newer_lines(text: str) -> list[int]:
     """Return the numbers of lines that Python 3.9 rejects, such as `X | None` in an assignment."""
-    found = []
+    result = []
     for node in ast.walk(ast.parse(text, feature_version=(3, 9))):
         if isinstance(node, ast.Call):
             name = node.func.attr if isinstance(node.func, ast.Attribute) else \
                 getattr(node.func, "id", "")
-            found += [node.lineno] * any((name, one.arg) in NEWER_ARGUMENTS
-                                         for one in node.keywords)
+            result += [node.lineno] * any((name, keyword.arg) in NEWER_ARGUMENTS
+                                          for keyword in node.keywords)
         elif isinstance(node, ast.Assign) and isinstance(node.value, ast.BinOp) and \
                 isinstance(node.value.right, ast.Constant) and node.value.right.value is None:
-            found.append(node.lineno)
-    return found
+            result.append(node.lineno)
+    return result
 
 
-def long_lines(text: str) -> list[int]:
+def list_long_lines(text: str) -> list[int]:
     return [number for number, line in enumerate(text.split("\n"), 1) if len(line) > LONGEST_LINE]
 
 
-def cycle_in(imports: dict[str, set[str]]) -> list[str]:
+def find_cycle(imports: dict[str, set[str]]) -> list[str]:
     """Return the modules of an import cycle, or an empty list."""
     clear: set[str] = set()
 
@@ -119,20 +119,21 @@ class Imports(Case):
         paths = [path for folder in PACKAGES for path in modules(folder)]
         self.must("modules", len(paths) > 50, len(paths))
         for path in paths:
-            name = name_of(path)
+            name = get_module_name(path)
             with open(path, encoding="utf-8") as file:
-                names = imported(file.read(), name, path.endswith("__init__.py"))
-            wrong = wrong_imports(name, names)
+                names = list_imports(file.read(), name, path.endswith("__init__.py"))
+            wrong = list_wrong_imports(name, names)
             self.must(name, not wrong, wrong)
 
     def test_modules_run_on_python_3_9(self) -> None:
         for path in modules(os.path.join(TOOLS, "subtitles")):
             with open(path, encoding="utf-8") as file:
-                self.check(name_of(path), newer_lines(file.read()), [])
+                self.check(get_module_name(path), list_newer_lines(file.read()), [])
         for line in ("at = bisect.bisect_left(a, b, key=c)", "dataclass(slots=True)",
                      "for a in zip(b, c, strict=True): pass", "Page = Rows | None"):
-            self.check(line, newer_lines(line), [1])
-        self.check("annotations", newer_lines("a: int | None = 3\ndef b() -> int | None: pass"), [])
+            self.check(line, list_newer_lines(line), [1])
+        self.check("annotations",
+                   list_newer_lines("a: int | None = 3\ndef b() -> int | None: pass"), [])
 
     def test_finds_wrong_imports(self) -> None:
         for name, text, is_right in [
@@ -151,52 +152,53 @@ class Imports(Case):
                 ("developing.every_place.known", "from subtitles.formats.teletext import OPTIONS",
                  False),
                 ("developing.every_place.known", "from subtitles.common.times import CLOCK", True)]:
-            wrong = wrong_imports(name, imported(text, name, False))
+            wrong = list_wrong_imports(name, list_imports(text, name, False))
             self.must(f"{name}: {text}", (not wrong) == is_right, wrong)
 
     def test_modules_have_no_import_cycle(self) -> None:
-        for imports, wanted in (({"a": set[str]()}, []), ({"a": {"b"}, "b": set[str]()}, []),
-                                ({"a": {"a"}}, ["a"]), ({"a": {"b"}, "b": {"a"}}, ["a", "b"]),
-                                ({"a": {"b", "c"}, "b": set[str](), "c": {"d"}, "d": {"c"}},
-                                 ["c", "d"])):
-            self.must(f"{imports}", cycle_in(imports) == wanted)
+        for imports, expected in (({"a": set[str]()}, []), ({"a": {"b"}, "b": set[str]()}, []),
+                                  ({"a": {"a"}}, ["a"]), ({"a": {"b"}, "b": {"a"}}, ["a", "b"]),
+                                  ({"a": {"b", "c"}, "b": set[str](), "c": {"d"}, "d": {"c"}},
+                                   ["c", "d"])):
+            self.must(f"{imports}", find_cycle(imports) == expected)
         texts = {}
         for path in modules(PACKAGES[0]):
             if not path.endswith("__init__.py"):
                 with open(path, encoding="utf-8") as file:
-                    texts[name_of(path)] = file.read()
-        found = cycle_in({
-            name: {other for other in texts.keys() & {*imported(text, name, False)} if name != MAIN}
+                    texts[get_module_name(path)] = file.read()
+        result = find_cycle({
+            name: {other for other in texts.keys() & {*list_imports(text, name, False)}
+                   if name != MAIN}
             for name, text in texts.items()})
-        self.must("tools", not found, found)
+        self.must("tools", not result, result)
 
     def test_lines_have_at_most_100_columns(self) -> None:
-        self.must("what is found", long_lines("a" * 100 + "\n" + "ä" * 101 + "\n") == [2])
+        self.must("what is found", list_long_lines("a" * 100 + "\n" + "ä" * 101 + "\n") == [2])
         for path in [*(path for folder in PACKAGES for path in modules(folder)), *scripts()]:
-            if not path.endswith(IN_ROWS):
+            if not path.endswith(TABLE_FILE):
                 with open(path, encoding="utf-8") as file:
-                    found = long_lines(file.read())
-                self.must(path, not found, found)
+                    result = list_long_lines(file.read())
+                self.must(path, not result, result)
 
     def test_only_one_module_wraps_pts(self) -> None:
         self.must("what is found", wraps("a = 1\nb = (a - 2) % CLOCK") == [2])
         for path in modules(PACKAGES[0]):
             with open(path, encoding="utf-8") as file:
-                found = wraps(file.read())
-            is_home = name_of(path) == "subtitles.common.times"
-            self.must(name_of(path), bool(found) == is_home, found)
+                result = wraps(file.read())
+            is_home = get_module_name(path) == "subtitles.common.times"
+            self.must(get_module_name(path), bool(result) == is_home, result)
 
     def test_wraps_pts_and_differences(self) -> None:
-        for ticks, wanted in ((0, 0), (CLOCK - 1, CLOCK - 1), (CLOCK, 0), (-1, CLOCK - 1),
-                              (2 * CLOCK + 5, 5)):
-            self.must(f"wrapped {ticks}", wrap_pts(ticks) == wanted, wrap_pts(ticks))
-        for first, second, wanted in ((0, 0, 0), (5, 8, 3), (8, 5, -3), (CLOCK - 1, 1, 2),
-                                      (1, CLOCK - 1, -2), (0, CLOCK // 2 - 1, CLOCK // 2 - 1),
-                                      (0, CLOCK // 2, -CLOCK // 2),
-                                      (0, CLOCK // 2 + 1, 1 - CLOCK // 2),
-                                      (CLOCK + 5, 8, 3)):
-            found = ticks_between(first, second)
-            self.must(f"from {first} to {second}", found == wanted, found)
+        for ticks, expected in ((0, 0), (CLOCK - 1, CLOCK - 1), (CLOCK, 0), (-1, CLOCK - 1),
+                                (2 * CLOCK + 5, 5)):
+            self.must(f"wrapped {ticks}", wrap_pts(ticks) == expected, wrap_pts(ticks))
+        for first, second, expected in ((0, 0, 0), (5, 8, 3), (8, 5, -3), (CLOCK - 1, 1, 2),
+                                        (1, CLOCK - 1, -2), (0, CLOCK // 2 - 1, CLOCK // 2 - 1),
+                                        (0, CLOCK // 2, -CLOCK // 2),
+                                        (0, CLOCK // 2 + 1, 1 - CLOCK // 2),
+                                        (CLOCK + 5, 8, 3)):
+            result = subtract_pts(first, second)
+            self.must(f"from {first} to {second}", result == expected, result)
 
 
 TOOLS, DEV, BENCH = (os.path.join(TOP, name) for name in ("tools", "dev", "bench"))
@@ -212,14 +214,14 @@ def is_python(path: str) -> bool:
 
 
 def modules(folder: str) -> list[str]:
-    found: list[str] = []
+    result: list[str] = []
     for name in sorted(os.listdir(folder)):
         path = os.path.join(folder, name)
         if os.path.isdir(path):
-            found += modules(path)
+            result += modules(path)
         elif name.endswith(".py"):
-            found.append(path)
-    return found
+            result.append(path)
+    return result
 
 
 def scripts() -> list[str]:
@@ -230,7 +232,7 @@ def scripts() -> list[str]:
 
 
 @contextlib.contextmanager
-def cache_of(case: Case) -> Iterator[str]:
+def open_mypy_cache(case: Case) -> Iterator[str]:
     """Return a context manager for mypy's cache folder.
 
     It is the user's folder, or an empty folder if another process uses the user's folder or CI is
@@ -258,11 +260,11 @@ class Hints(Case):
         command = [mypy, "--strict", "--scripts-are-modules", "--follow-imports=silent"]
         try:
             listed = [path for folder in PACKAGES for path in modules(folder)]
-            with cache_of(self) as cache:
-                done = self.call([*command, f"--cache-dir={cache}", *listed, *scripts()],
-                                 env={**os.environ, "MYPYPATH": os.pathsep.join([TOOLS, DEV])})
+            with open_mypy_cache(self) as cache:
+                process = self.call([*command, f"--cache-dir={cache}", *listed, *scripts()],
+                                    env={**os.environ, "MYPYPATH": os.pathsep.join([TOOLS, DEV])})
         except subprocess.TimeoutExpired:
             if "CI" in os.environ:
                 raise
             self.skipTest(f"type hints, since mypy took more than {SECONDS} seconds")
-        self.must("mypy --strict", done.status == 0, done.out.decode())
+        self.must("mypy --strict", process.status == 0, process.out.decode())

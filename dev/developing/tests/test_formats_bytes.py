@@ -8,7 +8,7 @@ from developing import pes, stl
 from subtitles.common import times
 from subtitles.common.command_line import decode_page
 from subtitles.formats import teletext
-from .transmissions import CLOSING, HEADER, row_packet
+from .transmissions import CLOSING, HEADER, make_numbered_row
 
 CLOCK, DAY = 8_589_934_592, 2_160_000
 START = b"\0\0\1\xbd"
@@ -21,7 +21,7 @@ CODES = ["00010101", "00000010", "01001001", "01011110", "01100100", "01110011",
 NOTHING = b"\x01"  # differs from each code word in at least two bits
 
 
-def bits_of(number: int, count: int) -> str:
+def format_bits(number: int, count: int) -> str:
     return f"{number:0{count}b}"
 
 
@@ -32,16 +32,16 @@ class Times(unittest.TestCase):
                             (90_000, "01:00:00:00"), (2_159_999, "23:59:59:24"),
                             (979_331, "10:52:53:06")):
             code = bytes(map(int, text.split(":")))
-            self.assertEqual((times.time_of(frame), times.frame_of(text),
+            self.assertEqual((times.format_frame(frame), times.parse_frame(text),
                               stl.encode_time_code(frame),
-                              times.time_of_code(code), times.frame_of_code(code)),
+                              times.decode_time(code), times.decode_frame(code)),
                              (text, frame, code, text, frame), (frame, text))
-        self.assertEqual(times.time_of(DAY), "24:00:00:00")
-        self.assertEqual(times.time_of_code(bytes([24, 99, 255, 25])), "24:99:255:25")
+        self.assertEqual(times.format_frame(DAY), "24:00:00:00")
+        self.assertEqual(times.decode_time(bytes([24, 99, 255, 25])), "24:99:255:25")
         for text in ("24:00:00:00", "23:60:00:00", "23:59:60:00", "23:59:59:25", "", "1:00:00:00",
                      "00:00:00:000", "00:00:00:00\n", " 00:00:00:00", "00:00:00;00",
                      "00:00:00:0\u0661"):
-            self.assertIsNone(times.frame_of(text), text)
+            self.assertIsNone(times.parse_frame(text), text)
 
     def test_counts_pts_over_33_bits(self) -> None:
         half = CLOCK // 2
@@ -49,12 +49,12 @@ class Times(unittest.TestCase):
                                      (0, CLOCK - 1, -1), (0, half - 1, half - 1), (0, half, -half),
                                      (7, half + 6, half - 1), (half + 7, 6, half - 1),
                                      (half + 7, 7, -half), (CLOCK - 5, 20, 25)):
-            self.assertEqual(times.ticks_between(first, second), later, (first, second, later))
-        for ticks, wanted in ((-1, CLOCK - 1), (0, 0), (CLOCK - 1, CLOCK - 1), (CLOCK, 0)):
-            self.assertEqual(times.wrap_pts(ticks), wanted, ticks)
-        for frame, origin, wanted in ((0, 5, 5), (1, 5, 3605), (1, CLOCK - 1, 3599),
-                                      (DAY, 0, 7_776_000_000), (DAY, CLOCK - 1, 7_775_999_999)):
-            self.assertEqual(times.pts_of(frame, origin), wanted, (frame, origin))
+            self.assertEqual(times.subtract_pts(first, second), later, (first, second, later))
+        for ticks, expected in ((-1, CLOCK - 1), (0, 0), (CLOCK - 1, CLOCK - 1), (CLOCK, 0)):
+            self.assertEqual(times.wrap_pts(ticks), expected, ticks)
+        for frame, origin, expected in ((0, 5, 5), (1, 5, 3605), (1, CLOCK - 1, 3599),
+                                        (DAY, 0, 7_776_000_000), (DAY, CLOCK - 1, 7_775_999_999)):
+            self.assertEqual(times.pts_of(frame, origin), expected, (frame, origin))
 
     def test_finds_the_frame_of_each_pts(self) -> None:
         offs = (-901, -900, -899, -1, 0, 1, 1800, 2699, 2700, 3599)
@@ -68,31 +68,31 @@ class Times(unittest.TestCase):
                  [0, 3600, 7250, 10800], [0, 3599, 7200]]
         for origin, ticks, within in itertools.product((0, 1, 900, CLOCK - 3600, CLOCK - 1), rows,
                                                        (0, 1, 50)):
-            several = [(origin + one) % CLOCK for one in ticks]
+            several = [(origin + item) % CLOCK for item in ticks]
             early = 900 if within else 0
             distances = [(pts - origin + early) % CLOCK for pts in several]
-            wanted = [one // 3600 if one < 3600 * DAY and (within or one % 3600 == 0) else -1
-                      for one in distances]
-            found = times.frames_at(several, origin, within)
-            self.assertEqual(list(found), wanted, ticks)
-            is_row = len(ticks) > 3 and -1 not in wanted and ticks == [
+            expected = [item // 3600 if item < 3600 * DAY and (within or item % 3600 == 0) else -1
+                        for item in distances]
+            result = times.find_frames_of_day(several, origin, within)
+            self.assertEqual(list(result), expected, ticks)
+            is_row = len(ticks) > 3 and -1 not in expected and ticks == [
                 ticks[0] + 3600 * at for at in range(len(ticks))]
-            self.assertTrue(isinstance(found, range) or not is_row, ticks)
-            for pts, frame, distance in zip(several, wanted, distances):
-                self.assertEqual(times.frame_at(pts, origin, within), None if frame < 0 else frame,
-                                 (pts, frame, distance))
-                self.assertEqual(times.frame_in(pts, origin, within), distance // 3600,
+            self.assertTrue(isinstance(result, range) or not is_row, ticks)
+            for pts, frame, distance in zip(several, expected, distances):
+                self.assertEqual(times.find_frame_of_day(pts, origin, within), None if frame < 0
+                                 else frame, (pts, frame, distance))
+                self.assertEqual(times.compute_frame(pts, origin, within), distance // 3600,
                                  (pts, frame, distance))
 
 
 class Codes(unittest.TestCase):
-    def test_decodes_each_byte_bit_by_bit(self) -> None:
+    def test_decodes_each_byte_by_its_bits(self) -> None:
         for byte in range(256):
-            bits = bits_of(byte, 8)
+            bits = format_bits(byte, 8)
             self.assertEqual(teletext.is_odd(byte), bits.count("1") % 2 == 1, byte)
             self.assertEqual(pes.reverse_bits(bytes([byte])), bytes([int(bits[::-1], 2)]), byte)
             near = [number for number, code in enumerate(CODES)
-                    if sum(one != two for one, two in zip(bits, code)) < 2]
+                    if sum(item != two for item, two in zip(bits, code)) < 2]
             self.assertEqual(teletext.NUMBER[byte], near[0] if near else None, byte)
         for code in range(128):
             self.assertIn(pes.add_odd_parity(code), (code, code + 128), code)
@@ -100,21 +100,21 @@ class Codes(unittest.TestCase):
 
     def test_reads_each_magazine_and_packet_number(self) -> None:
         for magazine, number in itertools.product(range(8), range(32)):
-            made = pes.make_packet(magazine, number, (), b"a")
-            self.assertEqual(pes.decode_address(made), (magazine, number), (magazine, number))
-            self.assertEqual(made[2], 0x61, (magazine, number))
+            packet = pes.make_packet(magazine, number, (), b"a")
+            self.assertEqual(pes.decode_address(packet), (magazine, number), (magazine, number))
+            self.assertEqual(packet[2], 0x61, (magazine, number))
             for at in (0, 1):
-                self.assertIsNone(pes.decode_address(made[:at] + NOTHING + made[at + 1:]), at)
+                self.assertIsNone(pes.decode_address(packet[:at] + NOTHING + packet[at + 1:]), at)
         numbers = bytes([8, 7, 0, 9, 1, 14, 2, 15])
-        made = pes.make_packet(1, 0, numbers, b" " * 32)
-        self.assertEqual((len(made), pes.decode_header(made)), (42, numbers))
+        packet = pes.make_packet(1, 0, numbers, b" " * 32)
+        self.assertEqual((len(packet), pes.decode_header(packet)), (42, numbers))
         for at in range(2, 10):
-            self.assertIsNone(pes.decode_header(made[:at] + NOTHING + made[at + 1:]), at)
+            self.assertIsNone(pes.decode_header(packet[:at] + NOTHING + packet[at + 1:]), at)
         self.assertEqual(pes.get_page_number(numbers), 0x78)
-        rows = [row_packet(1, b"a"), made, made[:9] + NOTHING + made[10:], NOTHING + made[1:],
-                HEADER,
+        rows = [make_numbered_row(1, b"a"), packet, packet[:9] + NOTHING + packet[10:],
+                NOTHING + packet[1:], HEADER,
                 CLOSING]
-        self.assertEqual([one[:2] for one in pes.find_headers(rows)],
+        self.assertEqual([header[:2] for header in pes.find_headers(rows)],
                          [(1, 0x78), (0, 0x88), (0, 0xFF)])
 
     def test_reads_each_control_bit(self) -> None:
@@ -122,8 +122,10 @@ class Codes(unittest.TestCase):
                   12: 29, 13: 30, 14: 31}
         for bit, place in places.items():
             alone = [(place // 4 == at) << place % 4 for at in range(8)]
-            for header, is_set in ((bytes(alone), True), (bytes(15 - one for one in alone), False)):
-                self.assertEqual([one for one in places if teletext.has_bit(header, one) == is_set],
+            for header, is_set in ((bytes(alone), True), (bytes(15 - item
+                                    for item in alone), False)):
+                self.assertEqual([item for item in places
+                                  if teletext.has_bit(header, item) == is_set],
                                  [bit], (header, is_set))
 
     def test_reads_names_of_pages(self) -> None:
@@ -139,8 +141,8 @@ class Codes(unittest.TestCase):
 class Packets(unittest.TestCase):
     def test_writes_each_bit_of_a_pts_in_its_place(self) -> None:
         for pts in (0, 1, CLOCK - 1, 0x155555555, 0xAAAAAAAA, *(1 << bit for bit in range(33))):
-            bits = bits_of(pts, 33)
-            wanted = int(f"0010{bits[:3]}1{bits[3:18]}1{bits[18:]}1", 2).to_bytes(5, "big")
-            self.assertEqual(pes.encode_pts(pts), wanted, pts)
+            bits = format_bits(pts, 33)
+            expected = int(f"0010{bits[:3]}1{bits[3:18]}1{bits[18:]}1", 2).to_bytes(5, "big")
+            self.assertEqual(pes.encode_pts(pts), expected, pts)
             data = pes.make_pes_packet(pts, [])
             self.assertEqual(pes.decode_pts(data), pts, pts)

@@ -17,58 +17,60 @@ from subtitles.common.program import TOP
 from subtitles.common.times import TICKS
 from subtitles.formats.stl import UNUSED
 from subtitles.formats.teletext import (
-    BY_WORD, CODE_WORDS, CZECH, ENGLISH, FRENCH, GERMAN, ITALIAN, NationalOption, OPTIONS,
+    OPTION_BY_WORD, CODE_WORDS, CZECH, ENGLISH, FRENCH, GERMAN, ITALIAN, NationalOption, OPTIONS,
     NATIONAL_CODES, RESERVED, SPANISH, SWEDISH, decode_character, encode_line, has_bit,
-    has_characters, character_bytes, character_table, option_for_language, option_for_track,
-    find_options)
+    has_characters, read_character_bytes, make_character_table, choose_language_option,
+    choose_track_option, find_options)
 from subtitles.judging.subtitles import advise_on_character
 from subtitles.recording.notices import find_character_set_notices, find_option_notices
 from subtitles.request.request import Request
-from .bench import Case, Done, example_bytes
+from .bench import Case, CompletedCall, read_example_file
 from .parts import survey_packets
 from .results import check_schema
 from .transmissions import packets
-from .test_cli_pairs import STORY, lines_of, qc
+from .test_cli_pairs import STORY, qc, split_output_lines
 
-VECTORS = os.path.join(TOP, "dev", "vectors", "national")
+NATIONAL_FOLDER = os.path.join(TOP, "dev", "vectors", "national")
 
 
-def rows_of(name: str) -> Iterator[dict[str, str]]:
+def read_vector_rows(name: str) -> Iterator[dict[str, str]]:
     """Yield the rows of a table in dev/vectors/national/."""
-    with open(os.path.join(VECTORS, name), encoding="utf-8", newline="") as file:
+    with open(os.path.join(NATIONAL_FOLDER, name), encoding="utf-8", newline="") as file:
         yield from csv.DictReader(file, delimiter="\t", quoting=csv.QUOTE_NONE)
 
 
 class NationalOptions(unittest.TestCase):
     def test_each_byte_gives_its_cell_and_its_character(self) -> None:
         count = 0
-        for row in rows_of("options.tsv"):
+        for row in read_vector_rows("options.tsv"):
             count += 1
-            option, text = BY_WORD[row["option"]], bytes.fromhex(row["stl"])
+            option, text = OPTION_BY_WORD[row["option"]], bytes.fromhex(row["stl"])
             cell, character = int(row["cell"], 16), row["char"].replace("SPACE", " ")
             with self.subTest(option=option.word, stl=row["stl"]):
                 bits = sum(int(row[name]) << at for at, name in enumerate(("C12", "C13", "C14")))
                 self.assertEqual(option.bits, bits)
                 self.assertEqual(encode_line(text, option), [cell])
                 self.assertEqual(decode_character(text), character)
-                self.assertEqual(character_table(bits)[cell], character)
+                self.assertEqual(make_character_table(bits)[cell], character)
                 self.assertIn(option, find_options(text))
         self.assertEqual(count, 658)
 
     def test_decodes_codes_that_no_subtitle_uses_as_libzvbi(self) -> None:
         for option in OPTIONS:
-            self.assertEqual(character_table(option.bits)[0x7F], "\u25a0", option)
-        self.assertEqual("".join(character_table(ENGLISH.bits)[code] for code in b"[\\]^`{|}~"),
+            self.assertEqual(make_character_table(option.bits)[0x7F], "\u25a0", option)
+        self.assertEqual("".join(make_character_table(ENGLISH.bits)[code]
+                                 for code in b"[\\]^`{|}~"),
                          "←½→↑—¼‖¾÷")
-        self.assertEqual(character_table(GERMAN.bits)[0x5E:0x60], ["^", "_"])
+        self.assertEqual(make_character_table(GERMAN.bits)[0x5E:0x60], ["^", "_"])
         # With reserved control bits, only characters that are the same in all options are known.
         for bits in (RESERVED, 8):
-            self.assertEqual([(code, character_table(bits)[code] != "\u25a1") for code in
+            self.assertEqual([(code, make_character_table(bits)[code] != "\u25a1") for code in
                               range(32, 127)],
                              [(code, code not in NATIONAL_CODES) for code in range(32, 127)], bits)
 
     def test_encodes_no_other_text_in_one_cell(self) -> None:
-        known = {(row["option"], bytes.fromhex(row["stl"])) for row in rows_of("options.tsv")}
+        known = {(row["option"], bytes.fromhex(row["stl"]))
+                 for row in read_vector_rows("options.tsv")}
         for option in OPTIONS:
             for first in range(0x20, 0x100):
                 for text in (bytes([first]), *(bytes([first, second]) for second in b"AaeEzZ ")):
@@ -81,12 +83,12 @@ class NationalOptions(unittest.TestCase):
 
     def test_encodes_texts_in_eleven_languages(self) -> None:
         count = 0
-        for row in rows_of("vectors.tsv"):
+        for row in read_vector_rows("vectors.tsv"):
             if row["kind"] in ("drawn", "refused"):
                 count += 1
                 with self.subTest(no=row["no"], option=row["option"], text=row["text"]):
                     text = bytes.fromhex(row["stl"])
-                    self.assertEqual(has_characters(text, BY_WORD[row["option"]]),
+                    self.assertEqual(has_characters(text, OPTION_BY_WORD[row["option"]]),
                                      row["kind"] == "drawn")
         self.assertGreater(count, 150)
         for byte in range(0x80, 0x90):
@@ -99,14 +101,14 @@ class NationalOptions(unittest.TestCase):
                              (b"0A", SPANISH), (b"21", SPANISH), (b"06", CZECH), (b"25", CZECH),
                              (b"00", ENGLISH), (b"20", ENGLISH), (b"", ENGLISH), (b"\xff\x00",
                                                                                    ENGLISH)):
-            self.assertEqual(option_for_language(code), option, code)
+            self.assertEqual(choose_language_option(code), option, code)
         for track, named in (("fra", FRENCH), ("FRE", FRENCH), ("swe", SWEDISH), ("slo", CZECH),
                              ("por", SPANISH), ("eng", ENGLISH), ("deu", GERMAN)):
-            self.assertEqual(option_for_track(track), named, track)
-        self.assertIsNone(option_for_track("pol"))
+            self.assertEqual(choose_track_option(track), named, track)
+        self.assertIsNone(choose_track_option("pol"))
 
     def test_each_option_has_all_national_characters(self) -> None:
-        self.assertEqual({len(one.characters) for one in OPTIONS}, {len(NATIONAL_CODES)})
+        self.assertEqual({len(item.characters) for item in OPTIONS}, {len(NATIONAL_CODES)})
 
 
 class Advice(unittest.TestCase):
@@ -127,15 +129,16 @@ class Advice(unittest.TestCase):
         for text, at, letter in ((b"a\xc2eb", 1, b"\xc2e"), (b"a\xc2", 1, b"\xc2"),
                                  (b"\xc2\x80e", 0, b"\xc2"), (b"ab", 1, b"b"),
                                  (b"\xc2 e", 0, b"\xc2"), (b"\xc9e", 0, b"\xc9")):
-            self.assertEqual(character_bytes(text, at), letter, text)
+            self.assertEqual(read_character_bytes(text, at), letter, text)
 
 
 # Compare transmissions in each national option with dev/vectors/national/ and with libzvbi.
 
-FIRST, LENGTH = 90_000, 25  # first TCI and subtitle duration, in frames
+FIRST_TCI, LENGTH = 90_000, 25  # first TCI and subtitle duration, in frames
 ACCENT_BYTES = range(0xC0, 0xD0)  # diacritical marks
 SPACING = {*range(0x01, 0x0E), 0x1C, 0x1D}  # spacing attributes allowed in a text
-WITHOUT_CELL = {*range(0x80, 0x86), 0x8A}  # codes for italics, underline, boxing and a new line
+# codes for italics, underline, boxing and a new line
+BYTES_WITHOUT_CELL = {*range(0x80, 0x86), 0x8A}
 
 
 class Text(NamedTuple):
@@ -147,18 +150,18 @@ class Text(NamedTuple):
     cells: bytes = b""
 
 
-def character_texts(option: NationalOption) -> list[tuple[Text, str]]:
+def list_character_texts(option: NationalOption) -> list[tuple[Text, str]]:
     """Return a text for each character of a national option, with the character."""
     return [(Text(bytes.fromhex(line["stl"]), 5, 0, (
         START_BOX * 2 + bytes([int(line["cell"], 16)]) + END_BOX * 2).ljust(40)),
         chr(int(line["unicode"][2:], 16)))
-            for line in rows_of("options.tsv") if line["option"] == option.word]
+            for line in read_vector_rows("options.tsv") if line["option"] == option.word]
 
 
 def texts(option: NationalOption) -> list[tuple[Text, str]]:
     """Return each text of vectors.tsv for an option, and its error message or an empty string."""
-    found = []
-    for line in rows_of("vectors.tsv"):
+    result = []
+    for line in read_vector_rows("vectors.tsv"):
         cells, message = b"", line["prepared line or refusal"]
         if line["kind"] == "drawn":
             cells = bytes.fromhex(line["row of 40 cells"])
@@ -166,11 +169,12 @@ def texts(option: NationalOption) -> list[tuple[Text, str]]:
             drawn = bytes.fromhex(message.split()[1])
             cells = (b" " * ((40 - len(drawn)) // 2) + drawn).ljust(40)
         if line["option"] == option.word:
-            found.append((Text(bytes.fromhex(line["stl"]), 22, 2, cells), "" if cells else message))
-    return found
+            result.append((Text(bytes.fromhex(line["stl"]), 22, 2, cells), "" if cells
+                           else message))
+    return result
 
 
-class Sliced(ctypes.Structure):
+class SlicedData(ctypes.Structure):
     """The type `vbi_sliced` in libzvbi: a line of the vertical blanking interval."""
 
     _fields_ = [("id", ctypes.c_uint32), ("line", ctypes.c_uint32), ("data", ctypes.c_uint8 * 56)]
@@ -181,8 +185,8 @@ TELETEXT_B = 3  # the constant VBI_SLICED_TELETEXT_B in libzvbi
 PAGE_EVENT = 2  # VBI_EVENT_TTX_PAGE; libzvbi decodes pages only with a handler for this event
 ANY_SUBCODE = 0x3F7F
 LEVEL_1 = 0  # the constant VBI_WST_LEVEL_1 in libzvbi
-TEXT_AT, CHARACTER = 28, 8  # offset and size of characters in `vbi_page`
-UNICODE_AT = 6  # offset of the code point in `vbi_char`
+TEXT_OFFSET, CHARACTER = 28, 8  # offset and size of characters in `vbi_page`
+UNICODE_OFFSET = 6  # offset of the code point in `vbi_char`
 
 
 class Receiver:
@@ -199,7 +203,7 @@ class Receiver:
 
     def row(self, sent: list[bytes], row: int) -> str:
         """Decode packets, and return the text in a row of page 888."""
-        lines = (Sliced * len(sent))()
+        lines = (SlicedData * len(sent))()
         for line, packet in zip(lines, sent):
             line.id = TELETEXT_B
             line.line = 0
@@ -210,77 +214,79 @@ class Receiver:
         if not self.library.vbi_fetch_vt_page(self.decoder, page, 0x888, ANY_SUBCODE, LEVEL_1, 25,
                                               0):
             return ""
-        at = [TEXT_AT + CHARACTER * (41 * row + column) + UNICODE_AT for column in range(40)]
+        at = [TEXT_OFFSET + CHARACTER * (41 * row + column) + UNICODE_OFFSET
+              for column in range(40)]
         return "".join(chr(int.from_bytes(page.raw[place:place + 2], "little")) for place in at)
 
 
 class Transmissions(Case):
-    def schedule_of(self, option: NationalOption, several: list[Text]) -> str:
+    def schedule_texts(self, option: NationalOption, several: list[Text]) -> str:
         """Run `schedule` on adjoining subtitles with these texts. Return the last printed line."""
-        blocks = [make_tti_block(number, begin, begin + LENGTH, one.row, one.justify, one.text)
-                  for number, one in enumerate(several) for begin in [FIRST + LENGTH * number]]
-        self.write("a.stl", make_gsi_block(b"", len(blocks), len(blocks), FIRST) + b"".join(blocks))
+        blocks = [make_tti_block(number, begin, begin + LENGTH, item.row, item.justify, item.text)
+                  for number, item in enumerate(several) for begin in [FIRST_TCI + LENGTH * number]]
+        self.write("a.stl",
+                   make_gsi_block(b"", len(blocks), len(blocks), FIRST_TCI) + b"".join(blocks))
         return self.program("schedule", "a.stl", "a.pes", "--every", "1500", "--option",
                             option.word)[1][-1]
 
     def transmit(self, option: NationalOption, several: list[Text]) -> list[list[bytes]]:
         """Return the Teletext packets sent for each text, none if it repeats the previous page."""
-        line = self.schedule_of(option, several)
+        line = self.schedule_texts(option, several)
         self.must(f"{option.word}: a schedule", line.startswith("written "), line)
         line = self.program("check", "a.stl", "a.pes", "--every", "1500", "--option",
                             option.word)[1][-1]
         self.must(f"{option.word}: a check", line.startswith("accepted "), line)
-        by_frame = {decode_pts(one) // TICKS: get_teletext_packets(get_data_field(one))
-                    for one in packets(self.read("a.pes"))}
-        return [by_frame.get(FIRST + LENGTH * number, []) for number in range(len(several))]
+        by_frame = {decode_pts(packet) // TICKS: get_teletext_packets(get_data_field(packet))
+                    for packet in packets(self.read("a.pes"))}
+        return [by_frame.get(FIRST_TCI + LENGTH * number, []) for number in range(len(several))]
 
     def check_cells(self, option: NationalOption, several: list[Text]) -> None:
         """Check the cells sent for each text, and the control bits of the national option."""
         before = b""
-        for one, found in zip(several, self.transmit(option, several)):
-            name = f"{option.word} {one.text.hex()}"
-            if not found:
-                self.must(f"{name}: the same page", one.cells == before)
+        for item, result in zip(several, self.transmit(option, several)):
+            name = f"{option.word} {item.text.hex()}"
+            if not result:
+                self.must(f"{name}: the same page", item.cells == before)
                 continue
-            header, *rows, _ = found
+            header, *rows, _ = result
             bits = [has_bit(decode_header(header) or b"", bit) for bit in NATIONAL]
             self.must(f"{name}: C12 to C14", bits == [
                 bool(option.bits >> at & 1) for at in range(3)], bits)
             reported = [(decode_address(row), bytes(byte & 0x7F for byte in row[2:]))
                         for row in rows]
-            self.must(f"{name}: the row", reported == [((0, one.row), one.cells)], reported)
-            before = one.cells
+            self.must(f"{name}: the row", reported == [((0, item.row), item.cells)], reported)
+            before = item.cells
 
     def test_encodes_each_character_as_in_the_table(self) -> None:
         for option in OPTIONS:
-            self.check_cells(option, [one for one, _ in character_texts(option)])
+            self.check_cells(option, [item for item, _ in list_character_texts(option)])
 
     def test_encodes_texts_or_names_the_refused_byte(self) -> None:
         for option in OPTIONS:
             several = texts(option)
-            self.check_cells(option, [one for one, reported in several if not reported])
-            for one, reported in several:
+            self.check_cells(option, [item for item, reported in several if not reported])
+            for item, reported in several:
                 if reported:
-                    line = self.schedule_of(option, [one])
-                    self.must(f"{option.word} {one.text.hex()}", line ==
+                    line = self.schedule_texts(option, [item])
+                    self.must(f"{option.word} {item.text.hex()}", line ==
                               "refused {} {} block 1 {} {}".format(*reported.split()), line)
 
-    def test_refuses_every_other_byte(self) -> None:
+    def test_refuses_all_remaining_bytes(self) -> None:
         singles = [bytes([byte]) for byte in range(256) if byte != UNUSED[0]]
         tried = singles + [bytes([mark, byte]) for mark in ACCENT_BYTES for byte in range(256)]
         for option in OPTIONS:
-            known = {one.text for one, _ in character_texts(option)}
-            known |= {bytes([byte]) for byte in SPACING | WITHOUT_CELL}
-            wanted = []
+            known = {item.text for item, _ in list_character_texts(option)}
+            known |= {bytes([byte]) for byte in SPACING | BYTES_WITHOUT_CELL}
+            expected = []
             for number, text in enumerate(tried, 1):
                 if text not in known:
                     is_control = text[0] < 0x20 or 0x80 <= text[0] < 0xA0
                     reported = "51 Control" if is_control else "50 Character"
-                    wanted.append(f"refused {reported} block {number} at 0")
-            self.schedule_of(option, [Text(text, 5, 0) for text in tried])
+                    expected.append(f"refused {reported} block {number} at 0")
+            self.schedule_texts(option, [Text(text, 5, 0) for text in tried])
             lines = self.program("check", "a.stl", "/dev/null", "--all", "--option", option.word)[1]
-            found = [line for line in lines if " block " in line]
-            self.must(option.word, found == wanted, sorted(set(found) ^ set(wanted))[:4])
+            result = [line for line in lines if " block " in line]
+            self.must(option.word, result == expected, sorted(set(result) ^ set(expected))[:4])
 
     def test_libzvbi_decodes_the_same_characters(self) -> None:
         try:
@@ -288,97 +294,100 @@ class Transmissions(Case):
         except OSError:
             self.skipTest("the letters by libzvbi, which is not installed")
         for option in OPTIONS:
-            several = character_texts(option)
-            for (one, character), found in zip(several, self.transmit(option, [
-                    one for one, _ in several])):
-                shown = receiver.row(found, one.row)[2:3] if found else character
-                self.must(f"{option.word} {one.text.hex()} {character}", shown == character, shown)
+            several = list_character_texts(option)
+            for (item, character), result in zip(several, self.transmit(option, [
+                    item for item, _ in several])):
+                shown = receiver.row(result, item.row)[2:3] if result else character
+                self.must(f"{option.word} {item.text.hex()} {character}", shown == character, shown)
 
 
 PAGE = (0, 0x88)
-ASKED = Request(stl="a.stl", recording="a.ts", page=PAGE, every=250, option="english", origin=0,
+JUDGED_REQUEST = Request(stl="a.stl", recording="a.ts", page=PAGE, every=250, option="english",
+                         origin=0,
               is_complete=True, pid=None, is_loss_allowed=False, severity=None, breaks=0, pes=None,
-                start=None)
-HEADER, OTHER, CLOSING = (make_packet(0, 0, numbers, b" " * 32) for numbers in (
+                         start=None)
+HEADER, OTHER_HEADER, CLOSING = (make_packet(0, 0, numbers, b" " * 32) for numbers in (
     (8, 8, 0, 8, 0, 8, 1, 0), (1, 0, 0, 0, 0, 0, 0, 0), (15, 15, 15, 7, 15, 3, 0, 0)))
 ROW = make_packet(0, 20, (), b"a row".ljust(40))
 
 
-def character_set_packet(number: int, character_set: int, designation: int = 0, magazine: int = 0,
+def make_character_set_packet(number: int, character_set: int, designation: int = 0,
+                              magazine: int = 0,
            function: int = 0) -> bytes:
     """Return a packet X/28 or M/29 that designates a character set (seven bits)."""
     first = encode_triplet(function | character_set << 7)
     address = magazine + 8 * number
-    head = bytes(CODE_WORDS[one] for one in (address & 15, address >> 4, designation))
+    head = bytes(CODE_WORDS[item] for item in (address & 15, address >> 4, designation))
     return (head + first).ljust(42, encode_triplet(0)[:1])
 
 
-def with_bits(data: bytes, *bits: int) -> bytes:
+def flip_header_bits(data: bytes, *bits: int) -> bytes:
     """Return the data with the given bits flipped."""
-    found = bytearray(data)
+    result = bytearray(data)
     for bit in bits:
-        found[bit >> 3] ^= 1 << (bit & 7)
-    return bytes(found)
+        result[bit >> 3] ^= 1 << (bit & 7)
+    return bytes(result)
 
 
-def check_warnings(case: Case, name: str, done: Done, kinds: list[str]) -> list[Any]:
+def check_warnings(case: Case, name: str, process: CompletedCall, kinds: list[str]) -> list[Any]:
     """Check the kinds of the warnings in one.json, and that all are reported. Return them."""
     verdict = json.loads(case.read("one.json"))
     check_schema(case, verdict, f"{name}: the schema")
-    found: list[Any] = verdict["warnings"]
-    case.must(f"{name}: kinds", [one["kind"] for one in found] == kinds, (found, done))
-    lines = [one["line"] for one in found]
-    printed = [line.removeprefix("qc: warning: ") for line in done.told
+    result: list[Any] = verdict["warnings"]
+    case.must(f"{name}: kinds", [item["kind"] for item in result] == kinds, (result, process))
+    lines = [item["line"] for item in result]
+    printed = [line.removeprefix("qc: warning: ") for line in process.told
             if line.startswith("qc: warning: ")]
-    case.must(f"{name}: said", printed == lines, done.told)
+    case.must(f"{name}: said", printed == lines, process.told)
     report = case.read("out/story.html").decode()
     case.must(f"{name}: in the report", all(
         f'<p class="note">warning: {line}</p>' in report for line in lines), lines)
-    return found
+    return result
 
 
 class Warnings(Case):
     def test_warns_of_another_option_than_that_of_the_language(self) -> None:
         may = "receivers above level 1 may show other characters"
         cases: list[tuple[str, bytes, list[str]]] = [
-            ("another region", character_set_packet(29, 8),
+            ("another region", make_character_set_packet(29, 8),
              [f"packet 8/29/0 names character set 000 of region 0001: {may}"]),
-            ("another option", character_set_packet(29, 1, 4),
+            ("another option", make_character_set_packet(29, 1, 4),
              [f"packet 8/29/4 names character set 001 of region 0000: {may}"]),
-            ("not to be read", with_bits(character_set_packet(29, 8), 30, 40),
+            ("not to be read", flip_header_bits(make_character_set_packet(29, 8), 30, 40),
              [f"packet 8/29/0 names an unreadable character set: {may}"]),
-            ("the same", character_set_packet(29, 0), []),
-            ("another magazine's", character_set_packet(29, 8, magazine=1), [])]
+            ("the same", make_character_set_packet(29, 0), []),
+            ("another magazine's", make_character_set_packet(29, 8, magazine=1), [])]
         for name, more, lines in cases:
             reported = survey_packets(self, make_pes_packet(0, [HEADER, ROW, CLOSING, more]))
-            found = list(find_character_set_notices(reported, ASKED))
-            self.must(name, [one.line for one in found] == lines, found)
-            self.must(f"{name}: kind", {one.kind for one in found} <= {"character_set"}, found)
+            result = list(find_character_set_notices(reported, JUDGED_REQUEST))
+            self.must(name, [item.line for item in result] == lines, result)
+            self.must(f"{name}: kind", {item.kind for item in result} <= {"character_set"}, result)
 
     def test_warns_if_another_option_is_designated(self) -> None:
         reported = survey_packets(self, make_pes_packet(
-            0, [HEADER, character_set_packet(29, 0b100)]))
+            0, [HEADER, make_character_set_packet(29, 0b100)]))
         for option in OPTIONS:
-            request = dataclasses.replace(ASKED, option=option.word)
+            request = dataclasses.replace(JUDGED_REQUEST, option=option.word)
             self.must(option.word, bool([*find_character_set_notices(reported, request)]) == (
                 option != FRENCH))
 
     def test_a_warning_changes_the_verdict_only_with_strict(self) -> None:
-        pes = packets(example_bytes("story.pes"))
-        sent = [*get_teletext_packets(get_data_field(pes[1])), character_set_packet(29, 8)]
+        pes = packets(read_example_file("story.pes"))
+        sent = [*get_teletext_packets(get_data_field(pes[1])), make_character_set_packet(29, 8)]
         data = b"".join([pes[0], make_pes_packet(decode_pts(pes[1]), sent), *pes[2:]])
         path = self.write("one.pes", data)
-        done = qc(self, STORY, path, "--origin", "0", "-o", "out", "--json", "one.json")
-        self.must("accepted", done.status == 0, done)
-        check_warnings(self, "a file", done, ["character_set"])
-        done = qc(self, STORY, "-", "--origin", "0", "--strict", data=data)
-        self.must("strict, a feed", done.status == 1 and lines_of(done)[-1].startswith(
+        process = qc(self, STORY, path, "--origin", "0", "-o", "out", "--json", "one.json")
+        self.must("accepted", process.status == 0, process)
+        check_warnings(self, "a file", process, ["character_set"])
+        process = qc(self, STORY, "-", "--origin", "0", "--strict", data=data)
+        self.must("strict, a feed", process.status == 1
+                  and split_output_lines(process)[-1].startswith(
             "not accepted, since --strict treats warnings as faults (character_set): accepted"),
-            done)
+            process)
 
 
 class Languages(unittest.TestCase):
-    def test_takes_the_option_of_the_language_that_a_pmt_names(self) -> None:
+    def test_uses_the_option_of_the_pmt_language(self) -> None:
         cases: list[tuple[list[str], str, str]] = [
             (["eng"], "english", ""), (["eng"], "french", "eng, which uses --option english"),
             (["fre"], "french", ""), (["fra"], "german", "fra, which uses --option french"),
@@ -390,14 +399,15 @@ class Languages(unittest.TestCase):
             (["fre", "eng"], "english", ""), (["nld"], "english", ""), (["nld"], "czech", ""),
             (["fre", "und"], "english", ""), ([], "english", "")]
         for languages, option, words in cases:
-            found = [one.line for one in find_option_notices(languages, dataclasses.replace(
-                ASKED, option=option))]
+            result = [option_notice.line
+                      for option_notice in find_option_notices(languages, dataclasses.replace(
+                JUDGED_REQUEST, option=option))]
             line = f"the PMT announces page 888 in {words}, but it was judged with --option " \
                    f"{option}"
             with self.subTest(languages=languages, option=option):
-                self.assertEqual(found, [line] * bool(words))
+                self.assertEqual(result, [line] * bool(words))
 
-    def test_takes_each_language_of_a_pmt_as_a_receiver(self) -> None:
+    def test_reads_each_pmt_language_as_a_receiver_does(self) -> None:
         path = os.path.join(TOP, "dev", "vectors", "national", "pmt.tsv")
         with open(path, encoding="utf-8", newline="") as file:
             rows = [*csv.DictReader(file, delimiter="\t", quoting=csv.QUOTE_NONE)]
@@ -405,7 +415,7 @@ class Languages(unittest.TestCase):
         for row in rows:
             language, word = row["ISO 639-2"], row["option"]
             for option in OPTIONS:
-                request = dataclasses.replace(ASKED, option=option.word)
-                found = [*find_option_notices([language], request)]
+                request = dataclasses.replace(JUDGED_REQUEST, option=option.word)
+                result = [*find_option_notices([language], request)]
                 with self.subTest(language=language, option=option.word):
-                    self.assertEqual(bool(found), word != option.word)
+                    self.assertEqual(bool(result), word != option.word)

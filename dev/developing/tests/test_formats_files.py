@@ -11,8 +11,8 @@ from unittest import mock
 
 from developing.stl import make_gsi_block, make_tti_block
 from subtitles.common.command_line import Stop
-from subtitles.common.files import Damaged
-from subtitles.common.times import ALL_DAY, Between
+from subtitles.common.files import DamagedFile
+from subtitles.common.times import ALL_DAY, FrameRange
 from subtitles.formats import listing, stl
 from subtitles.formats.stl import (
     LAST_BLOCK, Subtitle, SubtitleFile, SubtitleList, USER_DATA, read_titles)
@@ -57,21 +57,21 @@ class Blocks(unittest.TestCase):
              "block 2 begins a subtitle, but the one before is incomplete"),
             ([(1, last, 0), (2, 0, 0)], [(1, b"1")], "the subtitle of block 2 has no last block"),
             ([(1, 0, 0), (9, user, 0)], [], "the subtitle of block 2 has no last block")]
-        for row, wanted, words in of_rows:
-            data = make_gsi_block(b"", 0, 0) + b"".join(self.block(*one) for one in row)
+        for row, expected, words in of_rows:
+            data = make_gsi_block(b"", 0, 0) + b"".join(self.block(*item) for item in row)
             for rest in (b"", b"x" * 127):
-                found: list[stl.StoredSubtitle] = []
-                message = refusal(lambda: found.extend(stl.read_stored_subtitles(data + rest)),
-                                  Damaged)
-                self.assertEqual([(one.number, one.text) for one in found], wanted, row)
+                result: list[stl.StoredSubtitle] = []
+                message = refusal(lambda: result.extend(stl.read_stored_subtitles(data + rest)),
+                                  DamagedFile)
+                self.assertEqual([(item.number, item.text) for item in result], expected, row)
                 self.assertEqual(message, words if words and "no last" not in words or not rest else
                                  f"block {len(row) + 1} is incomplete", rest)
-        [one] = stl.read_stored_subtitles(make_gsi_block(b"", 0, 0) + b"".join(
+        [item] = stl.read_stored_subtitles(make_gsi_block(b"", 0, 0) + b"".join(
             make_tti_block(1, at, at + 2, 20 + at, at, b"x", ebn) for at,
             ebn in ((0, 0), (1, last))))
-        self.assertEqual((stl.subtitle_times(one), one.row, one.justify), ((0, 2), 20, 0))
+        self.assertEqual((stl.get_subtitle_times(item), item.row, item.justify), ((0, 2), 20, 0))
         group = make_gsi_block(b"", 0, 0) + self.block(1, 0) + self.block(1, last, group=1)
-        self.assertTrue(refusal(lambda: list(stl.read_stored_subtitles(group)), Damaged))
+        self.assertTrue(refusal(lambda: list(stl.read_stored_subtitles(group)), DamagedFile))
 
     def test_refuses_an_invalid_gsi_block(self) -> None:
         good = make_gsi_block(b"", 0, 0)
@@ -81,7 +81,7 @@ class Blocks(unittest.TestCase):
                             (good[:3] + b"STL24" + good[8:], "not an EBU STL file"),
                             (good[:3] + b"STL30" + good[8:], "it has 30 frames a second"),
                             (good[:3] + b"STL25.02" + good[11:], "")):
-            message = refusal(lambda: list(stl.read_stored_subtitles(data)), Damaged)
+            message = refusal(lambda: list(stl.read_stored_subtitles(data)), DamagedFile)
             self.assertTrue(message.startswith(words) and bool(message) == bool(words), message)
 
     def test_reads_subtitles_before_damage(self) -> None:
@@ -89,15 +89,16 @@ class Blocks(unittest.TestCase):
         for data, count, is_told in ((good, 0, False), (good + self.block(1, 255), 1, False),
                                      (good + self.block(1, 255) + b"x", 1, True),
                                      (good + b"x", -1, False), (b"", -1, False)):
-            found: list[stl.StoredSubtitle] = []
+            result: list[stl.StoredSubtitle] = []
             reported: list[str] = []
             with mock.patch.object(stl, "print_stderr", reported.append):
-                stopped = refusal(lambda: found.extend(stl.read_until_damage("damaged.stl", data)))
-            self.assertEqual((-1 if stopped else len(found), any(
+                stopped = refusal(lambda: result.extend(stl.read_until_damage("damaged.stl", data)))
+            self.assertEqual((-1 if stopped else len(result), any(
                 line.startswith("damaged.stl: ") for line in reported)), (count, is_told),
                              (data, count, is_told))
-        self.assertEqual(stl.page_letter_codes(b"A b\x01\xc1!$\x23", "english"), b"Ab!\x24\x5f")
-        self.assertEqual(stl.page_letter_codes(b" \x20!", "german"), b"!")
+        self.assertEqual(stl.encode_page_characters(b"A b\x01\xc1!$\x23", "english"),
+                         b"Ab!\x24\x5f")
+        self.assertEqual(stl.encode_page_characters(b" \x20!", "german"), b"!")
 
 
 class PlainSubtitle(NamedTuple):
@@ -140,46 +141,48 @@ class Files(Case):
                                         text))
         return make_gsi_block(b"", 0, 0) + b"".join(blocks), groups
 
-    def test_agrees_with_a_plain_reading_of_random_files(self) -> None:
+    def test_agrees_with_a_simple_parser_on_random_files(self) -> None:
         chance = random.Random(11)
         for _ in range(150):
             data, groups = self.file(chance)
-            between = chance.choice((ALL_DAY, Between(chance.randrange(40), 90)))
+            between = chance.choice((ALL_DAY, FrameRange(chance.randrange(40), 90)))
             left = {at for at in range(1, 7) if chance.randrange(5) == 0}
             file = SubtitleFile(self.write("one.stl", data), between, left)
-            outside = [one.begin is not None and not between.has(one.begin) for one in groups]
-            own = [(at, one) for at, one in enumerate(groups, 1) if at not in left
-                   and one.begin is not None and between.has(one.begin)]
-            lasts = [one.blocks[-1] for one, is_out in zip(groups, outside)
-                     if one.is_ended and not is_out]
-            self.assertEqual([found.position for found in file.list_subtitles()],
+            outside = [item.begin is not None and not between.includes(item.begin)
+                       for item in groups]
+            own = [(at, item) for at, item in enumerate(groups, 1) if at not in left
+                   and item.begin is not None and between.includes(item.begin)]
+            lasts = [item.blocks[-1] for item, is_out in zip(groups, outside)
+                     if item.is_ended and not is_out]
+            self.assertEqual([result.position for result in file.list_subtitles()],
                              [at for at, _ in own])
             self.assertEqual((list(file.list_last_blocks()), file.count_ended()[0],
                               list(file.start_blocks)), (
-                lasts, len(lasts), [one.blocks[0] for one in groups]))
+                lasts, len(lasts), [item.blocks[0] for item in groups]))
             self.assertEqual(file.count_ended()[1], sum(data[at + 3] == LAST_BLOCK for at in range(
                 GSI, len(data), 128)))
-            for at, one in enumerate(groups, 1):
-                earlier = [some for place, some in own if some.blocks[0] < one.blocks[0]]
-                for block in one.blocks:
-                    found = file.find_by_block(block)
-                    self.assertEqual((found and (found.position, found.number),
-                                      file.find_previous_first(
+            for at, item in enumerate(groups, 1):
+                earlier = [some for place, some in own if some.blocks[0] < item.blocks[0]]
+                for block in item.blocks:
+                    result = file.find_by_block(block)
+                    self.assertEqual((result and (result.position, result.number),
+                                      file.find_previous_block(
                         block), file.is_outside(block)), (
                             (at, at + (at > 3)), earlier[-1].blocks[0] if earlier else None,
                             outside[at - 1]), block)
-                self.assertEqual(file.text(one.blocks[-1]), one.text, (at, one))
+                self.assertEqual(file.text(item.blocks[-1]), item.text, (at, item))
             for frame in range(0, 300, 3):
-                due = [at for at, one in own if (one.begin or 0) <= frame < (one.end or 0)]
-                found = file.find_by_frame(frame)
-                self.assertEqual([found.position] if found else [], due, frame)
+                due = [at for at, item in own if (item.begin or 0) <= frame < (item.end or 0)]
+                result = file.find_by_frame(frame)
+                self.assertEqual([result.position] if result else [], due, frame)
             if groups[-1].is_ended:
-                self.assertEqual([one.text for one in stl.read_stored_subtitles(data)],
-                                 [one.text for one in groups])
-                self.assertEqual([(one.index, one.begin, one.end, one.text) for one in
+                self.assertEqual([item.text for item in stl.read_stored_subtitles(data)],
+                                 [item.text for item in groups])
+                self.assertEqual([(item.index, item.begin, item.end, item.text) for item in
                                   stl.decode_subtitles(data)],
-                                 [(at, one.begin, one.end, one.text) for at, one in enumerate(
-                                     groups, 1) if one.begin is not None and one.end != one.begin])
+                                 [(at, item.begin, item.end, item.text) for at, item in enumerate(
+                                     groups, 1) if item.begin is not None
+                                  and item.end != item.begin])
 
     def test_names_the_byte_and_character_at_a_place(self) -> None:
         for byte in {*range(256)} - {0x8F}:
@@ -215,41 +218,44 @@ class Titles(Case):
                 (b"850", b"\x94", b"\xd0", ["ö", "ð"]), (b"437", b"\xe1", b"\xd0", ["ß", "╨"]),
                 (b"860", b"\x84", b"", ["ã"]), (b"863", b"\x84", b"", ["Â"]),
                 (b"865", b"\x9d", b"", ["Ø"]), (b"999", b"\xd0", b"", ["ð"])]
-        for page, first, second, wanted in of_titles:
-            self.assertEqual(read_titles(self.write("one.stl", block(page, first, second))), wanted,
-                             (page, first, second))
+        for page, first, second, expected in of_titles:
+            self.assertEqual(read_titles(self.write("one.stl", block(page, first, second))),
+                             expected, (page, first, second))
         self.assertEqual(read_titles(self.write("one.stl", b"")), [])
 
 
 class Lines(unittest.TestCase):
     NUMBERS = [*range(10, 26), *range(30, 41), 44, 45, *range(50, 58), *range(60, 78), 82]
 
-    def test_knows_the_kind_of_each_fault_number(self) -> None:
+    def test_each_fault_number_has_a_kind(self) -> None:
         kinds = {"stl": listing.STL_FAULTS, "ends": listing.ENDS_READING,
                  "passed": listing.SKIPPED_PACKETS}
         for number in range(100):
-            wanted = {"stl"} if 10 <= number <= 25 or 50 <= number <= 57 else set[str]()
-            wanted |= {"ends"} if number in (30, 31, 32, 44) else set()
-            wanted |= {"passed"} if 33 <= number <= 40 or number in (45, 61) else set()
-            self.assertEqual({kind for kind, some in kinds.items() if number in some}, wanted,
+            expected = {"stl"} if 10 <= number <= 25 or 50 <= number <= 57 else set[str]()
+            expected |= {"ends"} if number in (30, 31, 32, 44) else set()
+            expected |= {"passed"} if 33 <= number <= 40 or number in (45, 61) else set()
+            self.assertEqual({kind for kind, some in kinds.items() if number in some}, expected,
                              number)
         self.assertEqual((listing.EMPTY, listing.EMPTY_TIME, listing.OUT_OF_ORDER,
                           listing.OFF_FRAME, listing.GAP, listing.LOST_PACKETS, listing.CONTENT,
                           listing.CHARACTER, listing.CONTROL, listing.BEGIN, listing.END),
                          (60, 21, 56, 61, 73, 45, 72, 50, 67, 63, 74))
-        self.assertEqual((listing.LETTERS, listing.WITH_CAUSE, listing.LOSSES, listing.UNDECIDED),
+        self.assertEqual((listing.TEXT_FAULTS, listing.FAULTS_WITH_CAUSE, listing.LOSSES,
+                          listing.UNDECIDED),
                          ((50, 51), {63, 72, 74}, {45, 79}, 78))
 
     def test_describes_faults_without_a_number(self) -> None:
-        one = listing.NamedFault("not shown", "words")
-        for fault, place in ((one, ""), (one._replace(block=0), " block 0"), (one._replace(
-                block=7), " block 7"), (one._replace(time="00:00:01:00"), " frame 00:00:01:00")):
+        named_fault = listing.NamedFault("not shown", "words")
+        for fault, place in ((named_fault, ""), (named_fault._replace(block=0), " block 0"),
+                             (named_fault._replace(
+                block=7), " block 7"),
+                             (named_fault._replace(time="00:00:01:00"), " frame 00:00:01:00")):
             self.assertEqual(fault.line, f"refused not shown{place}", (fault, place))
         self.assertEqual({*listing.read_named_meanings()}, {*listing.FAULT_NAMES})
         self.assertTrue(all(map(all, listing.read_named_meanings().values())))
         self.assertEqual(listing.remove_markup("`a` [b c](d#e) f, [g](h)"), "a b c f, g")
 
-    def test_takes_only_a_complete_line(self) -> None:
+    def test_parses_only_complete_lines(self) -> None:
         for line in ("accepted 1 frames 2 transmissions", "trusted frames 00:00:01:00 00:00:02:00",
                      "5 faults", "refused 72 Content frame 00:00:01:00 row 3 column 4",
                      "ended 72 Content frame 00:00:01:00", "refused 50 Character block 3 at 4",
@@ -265,21 +271,22 @@ class Lines(unittest.TestCase):
         for word, number, place in itertools.product(
                 ("refused", "ended", "fault", "usage"), self.NUMBERS, places):
             line = f"{word} {number} Name{place}"
-            found = listing.parse_fault_line(line)
-            assert found
-            self.assertEqual((found.word, found.number, found.name, found.is_fault),
+            fault_line = listing.parse_fault_line(line)
+            assert fault_line
+            self.assertEqual((fault_line.word, fault_line.number, fault_line.name,
+                              fault_line.is_fault),
                              (word, number, "Name", word == "refused"), (word, number, place))
             self.assertEqual(listing.parse_fault_number(line), number if word ==
                              "refused" else None, (word, number, place))
             parts = line.split(" ")
             self.assertEqual(listing.split_line(line), parts[:5] + [" ".join(parts[5:])] * (
                 len(parts) > 5), (word, number, place))
-            if found.time:
-                self.assertEqual(found.frame, listing.parse_place_time(found.time),
+            if fault_line.time:
+                self.assertEqual(fault_line.frame, listing.parse_place_time(fault_line.time),
                                  (word, number, place))
-                self.assertIn(found.frame, (2_159_999, 25, 900_001), (word, number, place))
+                self.assertIn(fault_line.frame, (2_159_999, 25, 900_001), (word, number, place))
             else:
-                self.assertIsNone(found.frame, (word, number, place))
+                self.assertIsNone(fault_line.frame, (word, number, place))
             self.assertTrue(listing.is_check_line(line), (word, number, place))
         for line, is_one in (("5 faults", True), ("accepted 1 frames 2 transmissions", True),
                              ("trusted frames a b", True), ("faults", False), ("", False)):
@@ -290,7 +297,7 @@ class Lines(unittest.TestCase):
 
 
 class Order(unittest.TestCase):
-    def test_agrees_with_a_plain_search_at_each_frame(self) -> None:
+    def test_agrees_with_a_linear_search_at_each_frame(self) -> None:
         of_times: list[list[tuple[int, int]]] = [
             [], [(3, 5)], [(0, 2), (2, 4), (7, 9)], [(1, 2), (4, 9), (9, 12), (15, 16)]]
         for times in of_times:
@@ -298,15 +305,15 @@ class Order(unittest.TestCase):
                       for at, (begin, end) in enumerate(times, 1)]
             programme = SubtitleList(all_of)
             for frame in range(18):
-                begun = [one for one in all_of if one.begin <= frame]
-                due = [one for one in all_of if one.begin <= frame < one.end]
+                begun = [item for item in all_of if item.begin <= frame]
+                due = [item for item in all_of if item.begin <= frame < item.end]
                 self.assertEqual((programme.find_place(frame), programme.count_begun(frame),
                                   programme.subtitle(frame)),
                                  (len(begun) - 1, (len(begun), bool(due)), due[0] if due else None),
                                  frame)
                 for last in range(frame, 18):
                     self.assertEqual(programme.list_cues(frame, last), [
-                        one for pair in times for one in pair if frame < one <= last], last)
+                        item for pair in times for item in pair if frame < item <= last], last)
                 for count in range(1, len(times) + 1):
                     places = list(range(0, len(times), count))
                     self.assertEqual(programme.find_nearest(places, frame), min(
@@ -319,21 +326,21 @@ class Order(unittest.TestCase):
                              times)
             for position, number in itertools.product(range(1, 5), range(7)):
                 more = f" (SN {number})" if number != position else ""
-                self.assertEqual(stl.subtitle_name(position, number), f"subtitle {position}{more}",
-                                 (position, number))
-            self.assertEqual([one.name for one in all_of],
+                self.assertEqual(stl.format_subtitle_name(position, number),
+                                 f"subtitle {position}{more}", (position, number))
+            self.assertEqual([item.name for item in all_of],
                              ["subtitle 1", "subtitle 2", "subtitle 3 (SN 4)",
                               "subtitle 4 (SN 5)"][:len(times)], times)
 
 
 class CodeTable(unittest.TestCase):
     def test_decodes_characters_of_code_table_00(self) -> None:
-        for text, wanted in ((b"", ""), (b"a~ ", "a~ "), (b"\x1f\x7f\x80", "\ufffd" * 3),
-                             (b"\xc1e\xcfz", "èž"), (b"\xc9e", "\ufffde"), (b"\xc2", "\ufffd"),
-                             (b"a\xc2", "a\ufffd"), (b"\xa0\xaf\xb0\xbf", "\xa0↓°¿"),
-                             (b"\xd0\xd7\xd8\xdb\xdc\xe4\xe5\xe6\xef\xf0\xfe\xff",
-                              "—¦\ufffd\ufffd⅛Ħ\ufffdĲŉĸŋ\ufffd"), (b"\xc2e\xc2a!", "éá!")):
-            self.assertEqual(decode_text(text), wanted, text)
+        for text, expected in ((b"", ""), (b"a~ ", "a~ "), (b"\x1f\x7f\x80", "\ufffd" * 3),
+                               (b"\xc1e\xcfz", "èž"), (b"\xc9e", "\ufffde"), (b"\xc2", "\ufffd"),
+                               (b"a\xc2", "a\ufffd"), (b"\xa0\xaf\xb0\xbf", "\xa0↓°¿"),
+                               (b"\xd0\xd7\xd8\xdb\xdc\xe4\xe5\xe6\xef\xf0\xfe\xff",
+                                "—¦\ufffd\ufffd⅛Ħ\ufffdĲŉĸŋ\ufffd"), (b"\xc2e\xc2a!", "éá!")):
+            self.assertEqual(decode_text(text), expected, text)
 
     def test_agrees_with_the_iso_6937_of_iconv(self) -> None:
         if not shutil.which("iconv"):
@@ -344,9 +351,9 @@ class CodeTable(unittest.TestCase):
                   and not 0xC0 <= byte <= 0xCF and byte not in (0xA4, 0xA6, 0xE0, 0xE2)]
         compared = 0
         for text in accented + others:
-            done = subprocess.run(["iconv", "-f", "ISO6937", "-t", "UTF-8"], input=text,
-                                  check=False, capture_output=True)
-            if done.returncode == 0:
+            process = subprocess.run(["iconv", "-f", "ISO6937", "-t", "UTF-8"], input=text,
+                                     check=False, capture_output=True)
+            if process.returncode == 0:
                 compared += 1
-                self.assertEqual(decode_text(text), done.stdout.decode(), text)
+                self.assertEqual(decode_text(text), process.stdout.decode(), text)
         self.assertGreater(compared, 200)

@@ -9,7 +9,7 @@ from typing import Any
 
 from subtitles.common.command_line import counted
 from subtitles.common.program import TOP, read
-from subtitles.common.times import Span, Spans, TICKS, time_of
+from subtitles.common.times import Span, Spans, TICKS, format_frame
 from subtitles.formats.listing import parse_fault_line
 from subtitles.formats.stl import Subtitle
 from subtitles.judging.causes import (
@@ -21,67 +21,70 @@ from subtitles.stream.packets import Packets
 from subtitles.stream.receiver import BLANK_PAGE, Rows, SpanIndex, Timeline
 from .. import DEV
 from .judged import JudgedPair, ProgrammeCase
-from .streams import Shape, make_multiplex, teletext_places
-from .transmissions import CLOSING, HEADER, PAGE, Sent, row_packet
+from .streams import Shape, find_teletext_places, make_multiplex
+from .transmissions import CLOSING, HEADER, PAGE, SentPes, make_numbered_row
 
 BEGIN = 900_000
 TIMES = [(BEGIN + 100 * at, BEGIN + 100 * at + 50) for at in range(6)]
 
 
-def with_page(sent: Sent, frame: int, *rows: bytes) -> Sent:
+def insert_page(sent: SentPes, frame: int, *rows: bytes) -> SentPes:
     """Replace the Teletext packets in a frame with a page that has these rows."""
     pts = frame * TICKS
-    return sorted([*(one for one in sent if one[0] != pts), (pts, [HEADER, *rows, CLOSING])])
+    return sorted([*(item for item in sent if item[0] != pts), (pts, [HEADER, *rows, CLOSING])])
 
 
 class SenderFaults(ProgrammeCase):
     due = TIMES
 
-    def with_pages(self, *pages: tuple[int, tuple[bytes, ...]]) -> JudgedPair:
+    def judge_pages(self, *pages: tuple[int, tuple[bytes, ...]]) -> JudgedPair:
         sent = self.sent
         for frame, rows in pages:
-            sent = with_page(sent, BEGIN + frame, *rows)
+            sent = insert_page(sent, BEGIN + frame, *rows)
         return self.judge(sent)
 
     def causes(self, told: JudgedPair) -> list[tuple[Any, ...]]:
-        return [(one["name"], one["subtitle"]["number"], one["line"])
-                for one in told.result["causes"]]
+        return [(item["name"], item["subtitle"]["number"], item["line"])
+                for item in told.result["causes"]]
 
-    def test_names_another_text_in_a_pause(self) -> None:
-        wrong = (row_packet(22, b"Others"),)
+    def test_reports_an_unexpected_text_in_a_pause(self) -> None:
+        wrong = (make_numbered_row(22, b"Others"),)
         for number, frame, time in ((1, 60, "10:00:02:10"), (3, 270, "10:00:10:20")):
-            reported = self.with_pages((frame, wrong))
+            reported = self.judge_pages((frame, wrong))
             words = f"another text was sent in a pause, at {time}"
             self.must(f"{frame}", self.causes(reported) == [
                 ("another text in a pause", number, f'{words}; received "Others"')] and
                 reported.verdict.sentence == f'Refused: {words}: "Others".' and
                 reported.lines("cause: ") == [f'{words}; received "Others"'], reported.said)
-        reported = self.with_pages((60, wrong), (270, wrong))
+        reported = self.judge_pages((60, wrong), (270, wrong))
         self.must("two",
                   reported.verdict.sentence == "Refused: another text was sent in 2 pauses, the "
                   "first at 10:00:02:10.", reported.verdict.sentence)
-        reported = self.with_pages((60, wrong), (130, wrong))
+        reported = self.judge_pages((60, wrong), (130, wrong))
         self.must("a wrong text",
                   reported.result["cause_counts"]["another text in a pause"] == 1 and
                   reported.result["cause_counts"]["wrong text"] == 1, reported.said)
 
-    def test_a_text_of_the_file_is_no_other_text(self) -> None:
-        reported = self.with_pages((60, (row_packet(22, b"Number 1"),)))
+    def test_never_names_an_own_text_as_a_foreign_one(self) -> None:
+        reported = self.judge_pages((60, (make_numbered_row(22, b"Number 1"),)))
         self.must("ours",
-                  "another text in a pause" not in [one[0] for one in self.causes(reported)],
+                  "another text in a pause" not in [cause[0] for cause in self.causes(reported)],
                   reported.said)
 
     def test_names_an_extra_row(self) -> None:
-        own = next(some[1] for pts, some in self.sent if pts == TICKS * (BEGIN + 100))
-        for rows, words in (((own, row_packet(11, b"Share prices")), "an additional row: 11"),
-                            ((row_packet(3, b"A"), row_packet(11, b"B"), own),
+        own = next(packets[1] for pts, packets in self.sent if pts == TICKS * (BEGIN + 100))
+        for rows, words in (((own, make_numbered_row(11, b"Share prices")),
+                            "an additional row: 11"),
+                            ((make_numbered_row(3, b"A"), make_numbered_row(11, b"B"), own),
                              "additional rows: 3 and "
                              "11"),
-                             ((row_packet(11, b"Share prices"), row_packet(22, b"Number 9")), "")):
-            reported = self.with_pages((100, rows))
-            found = reported.result["causes"][0]
-            self.must(words, found["name"] == "wrong text" and words in found["line"] and
-                      ("additional" in found["line"]) == bool(words), reported.said)
+                             ((make_numbered_row(11, b"Share prices"),
+                               make_numbered_row(22, b"Number 9")), "")):
+            reported = self.judge_pages((100, rows))
+            first_cause = reported.result["causes"][0]
+            self.must(words, first_cause["name"] == "wrong text"
+                      and words in first_cause["line"] and
+                      ("additional" in first_cause["line"]) == bool(words), reported.said)
             self.must(f"{words}: "
                       "sentence", (f"has the wrong text ({words}): "
                                              "expected " if words else
@@ -89,9 +92,9 @@ class SenderFaults(ProgrammeCase):
                                              "expected ") in reported.verdict.sentence,
                       reported.verdict.sentence)
 
-    def test_names_a_header_without_rows(self) -> None:
+    def test_reports_a_header_without_rows(self) -> None:
         for frame, time in ((10, "10:00:00:10"), (330, "10:00:13:05")):
-            judged = self.with_pages((frame, ()))
+            judged = self.judge_pages((frame, ()))
             self.must(f"{frame}", self.causes(judged) == [(
                 "erased", frame // 100 + 1, f"erased: by a header without rows, at {time}")] and
                 "was erased before its TCO (by a header without rows, at" in
@@ -101,16 +104,18 @@ class SenderFaults(ProgrammeCase):
         pts, packets = sent[at]
         sent[at:at + 1] = [(pts, packets[:1]), (pts + 2 * TICKS, packets[1:])]
         judged = self.judge(sent)
-        self.must("rows later", [one[0] for one in self.causes(judged)] == ["unknown"] and
+        self.must("rows later", [cause[0] for cause in self.causes(judged)] == ["unknown"] and
                   "it disappears at 10:00:01:00" in self.causes(judged)[0][2], judged.said)
 
     def test_names_a_subtitle_whose_transmissions_are_lost(self) -> None:
-        made = make_multiplex(self.pes, Shape(100))
-        for frames, wanted in (((200, 225), [("not received", 3)]), ((225,), [])):
-            missing = {teletext_places(made, (BEGIN + frame) * TICKS)[0] for frame in frames}
-            judged = self.judge_stream(one for at, one in enumerate(made) if at not in missing)
-            names = [(one["name"], one["subtitle"]["number"]) for one in judged.result["causes"]]
-            self.must(f"{frames}", judged.word == "refused" and names == wanted, judged.said)
+        multiplex = make_multiplex(self.pes, Shape(100))
+        for frames, expected in (((200, 225), [("not received", 3)]), ((225,), [])):
+            missing = {find_teletext_places(multiplex, (BEGIN + frame) * TICKS)[0]
+                       for frame in frames}
+            judged = self.judge_stream(item
+                                       for at, item in enumerate(multiplex) if at not in missing)
+            names = [(item["name"], item["subtitle"]["number"]) for item in judged.result["causes"]]
+            self.must(f"{frames}", judged.word == "refused" and names == expected, judged.said)
 
     def test_the_manual_lists_each_cause(self) -> None:
         rows = read(os.path.join(TOP, "docs", "manual", "refusals.md")) or ""
@@ -122,13 +127,13 @@ class SenderFaults(ProgrammeCase):
 # Test random causes: each row of dev/vectors/causes.tsv has subtitles, decoded pages, and the
 # causes found when the row was last reviewed.
 
-VECTORS = os.path.join(DEV, "vectors", "causes.tsv")
+CAUSES_FILE = os.path.join(DEV, "vectors", "causes.tsv")
 COUNT = 500  # number of rows
-BY = (-260, -30, -3, -1, 1, 1, 2, 3, 5, 8, 30, 240, 260)  # frames by which cues are moved
+FRAME_SHIFTS = (-260, -30, -3, -1, 1, 1, 2, 3, 5, 8, 30, 240, 260)  # frames by which cues are moved
 END = 1600  # end of the examined range of frames
 
 
-def page_of(name: str) -> Rows:
+def make_page_named(name: str) -> Rows:
     """Return the page that a name describes.
 
     A letter stands for a page with two lines, and `-` for the blank page. A second letter after a
@@ -157,7 +162,7 @@ def steady(decoded: Timeline) -> None:
 
 def fake_answer(spans: list[tuple[int, int]], *edges: tuple[int, int]) -> Any:
     """Return output of `check` with refused content in the frames `spans`, and other faults."""
-    firsts = {number: parse_fault_line(f"refused {number} Edge frame {time_of(frame)}")
+    firsts = {number: parse_fault_line(f"refused {number} Edge frame {format_frame(frame)}")
               for number, frame in edges}
     return SimpleNamespace(first_faults=firsts, fault_spans={72: Spans(spans)})
 
@@ -175,7 +180,8 @@ class RandomRow:
         texts = [chance.choice("abcdefgh") for _ in times]
         self.programme = ExpectedPages(
             [Subtitle(at, at + (number % 7 == 0), begin, end, 20, 2, b"")
-             for at, (begin, end) in enumerate(times, 1)], [page_of(text) for text in texts])
+             for at, (begin, end) in enumerate(times, 1)],
+             [make_page_named(text) for text in texts])
         due = {0: "-"}
         for (begin, end), text in zip(times, texts):
             due |= {begin: text, end: "-"}
@@ -195,19 +201,20 @@ class RandomRow:
         chance = self.chance
         frame = chance.choice(list(due)[1:] or list(due))
         text, kind = due[frame], chance.randrange(9)
-        left = {at: one for at, one in due.items() if at != frame}
+        left = {at: item for at, item in due.items() if at != frame}
         if kind < 3:
-            return {**left, frame + chance.choice(BY): text}
+            return {**left, frame + chance.choice(FRAME_SHIFTS): text}
         if kind == 3:
             return left or due
         if kind == 8:
-            return {at: one for at, one in due.items() if at <= frame}
+            return {at: item for at, item in due.items() if at <= frame}
         if kind == 4:
             return {**due, frame: chance.choice(texts)}
         if kind == 5 and text != "-":
             return {**due, frame: f"{text[0]},{chance.choice('tarmp')}"}
         if kind == 6:
-            return {at + chance.choice(BY) * (at >= frame): one for at, one in due.items()}
+            return {at + chance.choice(FRAME_SHIFTS) * (at >= frame): item for at, item in due.
+                    items()}
         return {**due, frame + chance.choice((1, 3, 10, 40)): chance.choice([*texts, "z", "-"])}
 
     def decode(self) -> Timeline:
@@ -215,9 +222,9 @@ class RandomRow:
         chance, decoded = self.chance, empty(self.within)
         decoded.first = chance.choice((0, 0, self.programme.begins[0] - 20))
         for frame, text in self.sent:
-            decoded.note_page(frame, page_of(text))
+            decoded.record_page(frame, make_page_named(text))
             for at in (frame, frame + chance.choice((0, 0, 1, 4))) * (text != "-"):
-                decoded.note_opening(at)
+                decoded.record_opening(at)
         decoded.last = chance.choice((END, END, self.sent[-1][0] + 10))
         if chance.randrange(4) == 0:
             begin = chance.randrange(600)
@@ -234,7 +241,7 @@ class RandomRow:
     def row(self) -> str:
         """Return the text of the row: subtitles, sent pages, and causes."""
         decoded, chance, begin = self.held, self.chance, self.programme.begins[0]
-        lost = [Span(one, one + 30) for one in (begin - 10, begin + 200)
+        lost = [Span(item, item + 30) for item in (begin - 10, begin + 200)
                 if chance.randrange(5) == 0]
         reach = Span(begin - chance.choice((2, 3, 4, 300)), decoded.last + chance.choice((0, 30))) \
             if chance.randrange(2) else None
@@ -247,17 +254,17 @@ class RandomRow:
             if self.chance.randrange(3) == 0 else []
         begins = [frame for frame in wrong if frame - 1 not in wrong]
         ends = [frame for frame in wrong if frame + 1 not in wrong]
-        causes.classify_all(fake_answer([*zip(begins, ends)], *edges))
+        causes.classify_faults(fake_answer([*zip(begins, ends)], *edges))
         pages = {page: text for text in [*(text for _, text in self.sent), "-"]
-                 if (page := page_of(text))}
-        printed = [f"{one.subtitle_index} {one.name} {one.frames} {one.other_index} "
-                f"{'' if one.sent_page is None else pages.get(one.sent_page, 'due')} "
-                f"{one.final_frame} {one.details}"
-                for one in causes.list_causes()]
-        known = [one and one.subtitle_index
-                 for one in (causes.find_cause(63, 0), causes.find_cause(74, 0), *(
+                 if (page := make_page_named(text))}
+        printed = [f"{item.subtitle_index} {item.name} {item.frames} {item.other_index} "
+                f"{'' if item.sent_page is None else pages.get(item.sent_page, 'due')} "
+                f"{item.final_frame} {item.details}"
+                for item in causes.list_causes()]
+        known = [item and item.subtitle_index
+                 for item in (causes.find_cause(63, 0), causes.find_cause(74, 0), *(
             causes.find_cause(72, frame) for frame in begins[:3]))]
-        delays = [[measure_delay(one, page, decoded, is_complete) for one, page in zip(
+        delays = [[measure_delay(item, page, decoded, is_complete) for item, page in zip(
             self.programme.subtitles, self.programme.pages)] for is_complete in (False, True)]
         sent = " ".join(f"{frame}:{text}" for frame, text in self.sent)
         about = f"{self.within} {decoded.first} {decoded.last} {lost} {reach} {known}"
@@ -267,7 +274,7 @@ class RandomRow:
 
 class StoredRows(unittest.TestCase):
     def test_finds_the_causes_of_each_row(self) -> None:
-        with open(VECTORS, encoding="utf-8") as file:
+        with open(CAUSES_FILE, encoding="utf-8") as file:
             rows = file.read().splitlines()
         self.assertEqual(len(rows), COUNT)
         for number, row in enumerate(rows):
@@ -276,7 +283,7 @@ class StoredRows(unittest.TestCase):
 
 # Subtitles, decoded pages with their first frames, and the expected causes (index of the subtitle,
 # name, frames, index of another subtitle, sent page).
-BY_HAND: list[tuple[str, str, list[tuple[int, str, int | None, int | None, str | None]]]] = [
+ROWS_BY_HAND: list[tuple[str, str, list[tuple[int, str, int | None, int | None, str | None]]]] = [
     ("100-150 a", "0:- 100:a 150:-", []), ("100-150 a", "0:- 103:a 150:-", [
         (0, "late", 3, None, "a")]),
     # All subtitles are moved, or one is sent at the time of another subtitle.
@@ -356,66 +363,67 @@ BY_HAND: list[tuple[str, str, list[tuple[int, str, int | None, int | None, str |
     ("100-150 a", "0:- 100:a", [(0, "not erased", None, None, "a")])]
 
 
-class WorkedRows(unittest.TestCase):
-    def test_finds_the_causes_that_were_worked_by_hand(self) -> None:
-        for subtitles, sent, wanted in BY_HAND:
-            times = [[int(frame) for frame in one.split()[0].split("-")]
-                     for one in subtitles.split(";")]
+class CausesByHand(unittest.TestCase):
+    def test_finds_the_causes_derived_by_hand(self) -> None:
+        for subtitles, sent, expected in ROWS_BY_HAND:
+            times = [[int(frame) for frame in item.split()[0].split("-")]
+                     for item in subtitles.split(";")]
             programme = ExpectedPages(
                 [Subtitle(at, at, begin, end, 20, 2, b"") for at, (begin, end) in
-                 enumerate(times, 1)], [page_of(one[-1]) for one in subtitles.split(";")])
+                 enumerate(times, 1)], [make_page_named(item[-1]) for item in subtitles.split(";")])
             decoded, pages = empty(), dict[Rows, str]()
-            for frame, _, name in (one.partition(":") for one in sent.split() if ":" in one):
-                decoded.note_page(int(frame), page_of(name))
-                pages[page_of(name)] = name
+            for frame, _, name in (item.partition(":") for item in sent.split() if ":" in item):
+                decoded.record_page(int(frame), make_page_named(name))
+                pages[make_page_named(name)] = name
             decoded.first, decoded.last = 0, 999
             decoded.uncertain_spans, decoded.pauses = (
-                [Span(*map(int, one[1:].split("-"))) for one in sent.split() if one[0] == mark]
+                [Span(*map(int, item[1:].split("-"))) for item in sent.split() if item[0] == mark]
                 for mark in "?!")
             steady(decoded)
-            decoded.stray_rows = [(Span(int(one[1:]), int(one[1:])),
+            decoded.stray_rows = [(Span(int(item[1:]), int(item[1:])),
                                    ((19, programme.pages[0][18]),))
-                                  for one in sent.split() if one[0] == "@"]
+                                  for item in sent.split() if item[0] == "@"]
             causes = Causes(programme, decoded)
             faulty = [frame for frame in range(500) if not causes.finder.is_expected_page(frame)]
-            causes.classify_all(fake_answer([(begin, next(last for last in range(begin, 501)
+            causes.classify_faults(fake_answer([(begin, next(last for last in range(begin, 501)
                                            if last + 1 not in faulty))
                               for begin in faulty if begin - 1 not in faulty]))
             for begin in faulty:
-                one = causes.find_cause(72, begin)
-                self.assertTrue(one and one.subtitle_index in [place for place, *_ in wanted], sent)
+                item = causes.find_cause(72, begin)
+                self.assertTrue(item
+                                and item.subtitle_index in [place for place, *_ in expected], sent)
             with self.subTest(subtitles=subtitles, sent=sent):
-                self.assertEqual([(one.subtitle_index, one.name, one.frames, one.other_index,
-                                   None if one.sent_page is None
-                                   else pages.get(one.sent_page, "due"))
-                                  for one in causes.list_causes()], wanted)
+                self.assertEqual([(item.subtitle_index, item.name, item.frames, item.other_index,
+                                   None if item.sent_page is None
+                                   else pages.get(item.sent_page, "due"))
+                                  for item in causes.list_causes()], expected)
 
     def test_extends_the_recording_by_its_pcr(self) -> None:
-        for reach, wanted in ((None, (10, 20)), ((5, 30), (5, 30)), ((12, 18), (10, 20)),
-                              ((5, 18), (5, 20)), ((12, 30), (10, 30))):
+        for reach, expected in ((None, (10, 20)), ((5, 30), (5, 30)), ((12, 18), (10, 20)),
+                                ((5, 18), (5, 20)), ((12, 30), (10, 30))):
             decoded = empty()
             decoded.first, decoded.last = 10, 20
             causes = Causes(ExpectedPages([], []), decoded, reach and Span(*reach))
-            self.assertEqual(causes.find_covered_span(), wanted, reach)
+            self.assertEqual(causes.find_covered_span(), expected, reach)
 
     def test_looks_around_the_first_and_last_frame(self) -> None:
-        for held_from, first, last, wanted in (
+        for held_from, first, last, expected in (
                 (100, 100, 149, (0, None)), (101, 97, 149, (0, None)), (101, 98, 149, (None, None)),
                 (101, 98, 150, (None, 0)), (101, 98, 151, (None, 0)), (90, 103, 150, (0, 0))):
             programme, decoded = ExpectedPages([Subtitle(1, 1, 100, 150, 20, 2, b"")],
-                                            [page_of("a")]), \
+                                            [make_page_named("a")]), \
                 empty()
             for frame, name in ((held_from, "-"), (103, "a"), (155, "-")):
-                decoded.note_page(frame, page_of(name))
+                decoded.record_page(frame, make_page_named(name))
             decoded.first, decoded.last = 103, 140
             causes = Causes(programme, decoded, Span(first, last))
-            causes.classify_all(fake_answer([], (63, 103), (74, 140)))
-            found = tuple(one and one.subtitle_index
-                          for one in (causes.find_cause(63, 103), causes.find_cause(74, 140)))
-            self.assertEqual(found, wanted, (held_from, first, last))
+            causes.classify_faults(fake_answer([], (63, 103), (74, 140)))
+            result = tuple(item and item.subtitle_index
+                           for item in (causes.find_cause(63, 103), causes.find_cause(74, 140)))
+            self.assertEqual(result, expected, (held_from, first, last))
 
     def test_describes_a_cause_as_values_and_as_text(self) -> None:
-        pages = [page_of(name) for name in "abc"]
+        pages = [make_page_named(name) for name in "abc"]
         programme = ExpectedPages([Subtitle(at, at + 5, 100 * at, 100 * at + 50, 20, 2, b"")
                                    for at in (1, 2, 3)], pages)
         wording = CauseDescriber(Causes(programme, empty()), "english")
@@ -429,8 +437,9 @@ class WorkedRows(unittest.TestCase):
                 (OTHER_TEXT, None, "c", 2, "",
                  f"another subtitle's text at its time; received \"{other}\" of subtitle 3 (SN "
                  "8)")):
-            one = Cause(0, name, frames, None if sent is None else page_of(sent), of, words, 0)
-            known = wording.make_json(one)
+            cause = Cause(0, name, frames, None if sent is None else make_page_named(sent), of,
+                          words, 0)
+            known = wording.make_json(cause)
             self.assertEqual(
                 (known["name"], known["frames"], known["expected_text"], known["decoded_text"],
                  known["other_number"], known["other_position"], known["line"], known["subtitle"]),
@@ -438,7 +447,7 @@ class WorkedRows(unittest.TestCase):
                  printed,
                  {"position": 1, "number": 6, "begin": "00:00:04:00", "end": "00:00:06:00"}),
                              (name, frames, sent))
-            self.assertEqual(wording.format_line(one), "cause: subtitle 1 (SN 6) at 00:00:04:00, "
+            self.assertEqual(wording.format_line(cause), "cause: subtitle 1 (SN 6) at 00:00:04:00, "
                              f'"{due}": {printed}', (name, frames, sent))
 
     def test_counts_causes_of_all_parts_by_name(self) -> None:
@@ -446,14 +455,15 @@ class WorkedRows(unittest.TestCase):
         for count in (1, 1, 2, 2, 3, 3, 4):
             names = [chance.choices(CAUSE_NAMES[:4], k=chance.choice((0, 1, 2, 5)))
                      for _ in range(count)]
-            several: Any = [SimpleNamespace(by_index={at: SimpleNamespace(name=name) for at, name in
+            several: Any = [SimpleNamespace(cause_by_index={at: SimpleNamespace(name=name)
+                                                            for at, name in
                                                    enumerate(some)}) for some in names]
             together = [name for some in names for name in some]
-            wanted = ", ".join(f"{together.count(name)} {name}" for name in CAUSE_NAMES
-                               if name in together)
+            expected = ", ".join(f"{together.count(name)} {name}" for name in CAUSE_NAMES
+                                 if name in together)
             self.assertEqual((list_cause_counts(several), format_cause_counts(several),
                               count_causes(several)), (
-                wanted, f"causes of faults in {counted(len(together), 'subtitle')}: {wanted}",
+                expected, f"causes of faults in {counted(len(together), 'subtitle')}: {expected}",
                 {name: together.count(name) for name in CAUSE_NAMES}), count)
 
 

@@ -11,10 +11,10 @@ from unittest import mock
 
 from developing.pes import make_pes_packet
 from developing.stl import make_gsi_block, make_tti_block
-from subtitles.cli.batch import FolderWatch, Sighting
+from subtitles.cli.batch import FolderState, FolderWatch
 from subtitles.clock.origin import OriginEstimate
 from subtitles.clock.start import Clock, RECORDING, START, TimedPart
-from subtitles.common.times import Between, Span, TICKS
+from subtitles.common.times import FrameRange, Span, TICKS
 from subtitles.formats.stl import Subtitle, SubtitleFile
 from subtitles.judging.part import choose_parts, refuse_missing_subtitles
 from subtitles.judging.timing import add_delay, make_unclear_origin
@@ -24,13 +24,14 @@ from subtitles.recording.notices import (
 from subtitles.request.lines import find_folder_pairs, make_line_request
 from subtitles.request.request import Unclear
 from subtitles.results.files import find_hint
-from subtitles.results.schema import REQUEST, add_known
+from subtitles.results.schema import REQUEST, add_numbers_if_known
 from subtitles.stream.packets import Packets
-from subtitles.stream.receiver import BLANK_PAGE, FEW, Rows, Timeline
+from subtitles.stream.receiver import BLANK_PAGE, PACKETS_PER_PAUSE, Rows, Timeline
 from subtitles.stream.survey import Announced
 from .bench import Case
-from .parts import request_for, call_arguments, default_options, survey_packets, decode_packets
-from .transmissions import CLOSING, HEADER, PAGE, row_packet
+from .parts import (
+    make_example_request, list_call_arguments, make_default_options, survey_packets, decode_packets)
+from .transmissions import CLOSING, HEADER, PAGE, make_numbered_row
 
 
 class Results(Case):
@@ -38,18 +39,19 @@ class Results(Case):
         of_numbers: list[tuple[list[int | None], int | None]] = [
             ([], None), ([3], 3), ([None], None), ([3, 4, 5], 12), ([None, 4, 5], None),
             ([3, None, 5], None), ([3, 4, None], None), ([0], 0)]
-        for numbers, wanted in of_numbers:
-            self.must(f"{numbers}", add_known(numbers) == wanted, add_known(numbers))
+        for numbers, expected in of_numbers:
+            self.must(f"{numbers}", add_numbers_if_known(numbers) == expected,
+                      add_numbers_if_known(numbers))
 
-    def test_takes_the_hint_of_the_named_fault(self) -> None:
+    def test_shows_the_hint_of_the_named_fault(self) -> None:
         hints = ["5: of none", "7: of none", "72: of the content", "72: once more", "6: of none"]
-        for line, wanted in (
+        for line, expected in (
                 ("refused 72 Content frame 1", "of the content"), ("refused 70 Repeat", ""),
                 ("waived: refused 72 Content", "of the content"), ("refused 7 Other", "of none"),
                 ("accepted 72 frames", ""), (None, ""),
                 ("not accepted, since TS packets are lost: waived: refused 5 X", "of none")):
-            found = find_hint({"worst_fault": line, "hints": hints})
-            self.must(f"{line}", found == wanted, found)
+            hint = find_hint({"worst_fault": line, "hints": hints})
+            self.must(f"{line}", hint == expected, hint)
         self.must("no hints", find_hint({"worst_fault": "refused 72 Content", "hints": []}) == "")
 
     def test_a_request_survives_conversion_to_arguments(self) -> None:
@@ -60,14 +62,14 @@ class Results(Case):
                    ["--allow-lost"]]
         every = [word for one in options if one[0] != "--start" for word in one]
         for words in [list[str](), *options, every]:
-            request = request_for("one.stl", "one.pes", *words)
-            again = make_line_request(call_arguments(request), default_options())
+            request = make_example_request("one.stl", "one.pes", *words)
+            again = make_line_request(list_call_arguments(request), make_default_options())
             self.must(f"{words}", REQUEST.to_json(again) == REQUEST.to_json(request), again)
 
 
 class Folders(Case):
     def test_pairs_files_by_name_in_any_case(self) -> None:
-        for files, wanted in (
+        for files, expected in (
                 (["a.stl", "a.ts"], ["a"]), (["a.STL", "A.pes"], ["a"]), (["a.stl"], ["a?"]),
                 (["a.ts"], ["a?"]), (["a.stl", "a.ts", "a.pes"], ["a?"]),
                 (["a.stl", "A.stl", "a.ts", "A.ts"], ["A", "a"]),
@@ -80,10 +82,11 @@ class Folders(Case):
             os.mkdir(folder)
             for file in files:
                 self.write(f"{name}/{file}", b"")
-            items = find_folder_pairs(folder, default_options())
-            found = [item.name + "?" * (item.request is None) for item in items]
-            self.must(name, [one.lower() if wanted == ["a"] else one for one in found] == wanted,
-                      found)
+            items = find_folder_pairs(folder, make_default_options())
+            result = [item.name + "?" * (item.request is None) for item in items]
+            self.must(name, [element.lower() if expected == ["a"] else element
+                             for element in result] == expected,
+                      result)
 
     def test_pairs_only_regular_files(self) -> None:
         for number, (first, second, is_pair) in enumerate([
@@ -104,11 +107,11 @@ class Folders(Case):
                     self.write("a file", b"")
                     os.symlink({"to file": self.path("a file"), "to folder": folder}.get(
                         kind, "nowhere"), path)
-            [item] = find_folder_pairs(folder, default_options())
+            [item] = find_folder_pairs(folder, make_default_options())
             self.must(f"{first} {second}", (item.request is not None) == is_pair, item)
-        wrong = default_options("--origin", "5")
+        wrong = make_default_options("--origin", "5")
         wrong.start = "tcp"
-        for options in (default_options(), wrong):
+        for options in (make_default_options(), wrong):
             [item] = find_folder_pairs(self.path("0"), options)
             self.must("files", ((item.request is None) == (options is wrong), {*item.files} -
                                 {None})
@@ -122,14 +125,14 @@ class Folders(Case):
 
         def due(clock: Callable[[], float]) -> list[str]:
             with mock.patch("time.monotonic", clock):
-                return [item.name for item in watch.ready_items(
-                    find_folder_pairs(self.path("in"), default_options()))]
+                return [item.name for item in watch.find_ready_items(
+                    find_folder_pairs(self.path("in"), make_default_options()))]
 
-        for now, wanted in ((100, []), (109, []), (110, ["one"]), (111, []), (150, [])):
-            self.must(f"at {now}", due(lambda: now) == wanted)
+        for now, expected in ((100, []), (109, []), (110, ["one"]), (111, []), (150, [])):
+            self.must(f"at {now}", due(lambda: now) == expected)
         self.write("in/one.ts", b"12")
-        for now, wanted in ((200, []), (205, []), (210, ["one"]), (230, [])):
-            self.must(f"changed, at {now}", due(lambda: now) == wanted)
+        for now, expected in ((200, []), (205, []), (210, ["one"]), (230, [])):
+            self.must(f"changed, at {now}", due(lambda: now) == expected)
         self.write("in/one.stl", b"12")
         self.must("changed once more", due(lambda: 300) == [] and due(lambda: 310) == ["one"])
         self.write("in/two.ts", b"2")
@@ -141,7 +144,7 @@ class Folders(Case):
         times = iter([400.0, 409.0, 418.0, 419.0])  # one search takes nine seconds
         self.must("from when it was seen", [due(lambda: next(times)) for _ in range(3)] ==
                   [[], [], ["two"]])
-        self.must("what was seen", isinstance(watch.seen["one"], Sighting))
+        self.must("what was seen", isinstance(watch.seen["one"], FolderState))
 
     def test_reports_an_incomplete_pair_once(self) -> None:
         os.mkdir(self.path("in"))
@@ -150,7 +153,8 @@ class Folders(Case):
         def errors(now: float) -> int:
             with contextlib.redirect_stderr(io.StringIO()) as errors:
                 with mock.patch("time.monotonic", lambda: now):
-                    watch.ready_items(find_folder_pairs(self.path("in"), default_options()))
+                    watch.find_ready_items(find_folder_pairs(self.path("in"),
+                                                             make_default_options()))
             return len(errors.getvalue().splitlines())
 
         self.write("in/one.stl", b"1")
@@ -169,8 +173,8 @@ def subtitle(index: int, begin: int) -> Subtitle:
 class SubtitleFiles(Case):
     def test_warns_unless_subtitles_in_the_language_are_announced(self) -> None:
         stl = self.write("one.stl", make_gsi_block(b"", 0, 0, language=b"09"))
-        request = request_for(stl, "one.ts")
-        for kinds, languages, wanted in (
+        request = make_example_request(stl, "one.ts")
+        for kinds, languages, expected in (
                 ((2,), ("eng",), []), ((1,), ("eng",), ["type"]), ((1, 5), ("eng", "eng"), []),
                 ((5, 1), ("ger", "eng"), []), ((2, 2), ("ger", "fre"), ["language", "option"]),
                 ((1, 3), ("ger", "ger"), ["type", "language", "option"]),
@@ -178,43 +182,47 @@ class SubtitleFiles(Case):
                 ((2, 2), ("ger", "mul"), []), ((2,), ("GER",), ["language", "option"]),
                 ((2,), ("pol",), ["language", "option"])):
             own = [Announced(PAGE, language, kind) for kind, language in zip(kinds, languages)]
-            found = [warned.kind for warned in find_page_notices(own, request)]
-            self.must(f"{kinds} {languages}", found == wanted, found)
+            result = [warned.kind for warned in find_page_notices(own, request)]
+            self.must(f"{kinds} {languages}", result == expected, result)
 
     def test_warns_of_another_character_set(self) -> None:
         for region, option, more in itertools.product((None, 0, 1), (None, 0, 4), (0, 1)):
             sets = [(28, 0, region, option), *[(29, 4, 0, 1)] * more]
-            packets, request = Packets(0, character_sets=sets), request_for("one.stl", "one.ts")
+            packets, request = Packets(0, character_sets=sets), make_example_request("one.stl",
+                                                                                     "one.ts")
             reported = ["unreadable" if None in (region, option) else
                     f"{option:03b} of region {region:04b}"] * ((region, option) != (0, 0))
             reported += ["001 of region 0000"] * more
-            found = [one.line for one in find_character_set_notices(packets, request)]
-            self.assertEqual(len(found), len(reported), found)
-            self.assertTrue(all(map(str.__contains__, found, reported)), found)
+            result = [character_set_notice.line
+                      for character_set_notice in find_character_set_notices(packets, request)]
+            self.assertEqual(len(result), len(reported), result)
+            self.assertTrue(all(map(str.__contains__, result, reported)), result)
 
     def test_warns_of_missing_counts_in_the_gsi_block(self) -> None:
         data = make_gsi_block(b"", 0, 0) + make_tti_block(1, 25, 45, 20, 2, b"a")
-        found = [one.kind for one in find_count_notices(SubtitleFile(self.write("one.stl", data)))]
-        self.must("both", found == ["blocks", "subtitles"], found)
+        result = [count_notice.kind
+                  for count_notice in find_count_notices(SubtitleFile(self.write("one.stl", data)))]
+        self.must("both", result == ["blocks", "subtitles"], result)
 
 
 class EstimatedOrigins(Case):
     def test_rounds_a_delay_to_the_nearest_frame(self) -> None:
         clock = Clock(5, START)
-        for away, status, wanted, printed in (
+        for away, status, expected, printed in (
                 (0, 0, 0, None), (3 * TICKS, 0, 3, "3 frames late"),
                 (-TICKS, 0, -1, "1 frame early"), (TICKS - 1, 0, 1, "3599 ticks late"),
                 (TICKS // 2 - 1, 0, 0, "1799 ticks late"),
                 (5 - 2 * TICKS, 0, -2, "1 frame and 3595 ticks early"), (TICKS, 1, None, None),
                 (None, 0, None, None)):
-            found, lines = add_delay(clock, OriginEstimate(status, ticks_late=away,
-                                                           printed=["--origin 5"]))
-            self.must(f"{away} {status}", found == clock._replace(delay_frames=wanted) and lines ==
-                      ([f"all subtitles are {printed}"] if printed else []), (found, lines))
+            result, lines = add_delay(clock, OriginEstimate(status, ticks_late=away,
+                                                            printed=["--origin 5"]))
+            self.must(f"{away} {status}", result == clock._replace(delay_frames=expected)
+                      and lines ==
+                      ([f"all subtitles are {printed}"] if printed else []), (result, lines))
         for away, is_whole in ((0, True), (2 * TICKS, True), (2 * TICKS + 1, False)):
-            found, _ = add_delay(clock, OriginEstimate(0, ticks_late=away, matches_every_cue=True,
-                                                       printed=["--origin 5"]))
-            self.check(f"{away}: whole frames", found.is_delay_of_all, is_whole)
+            result, _ = add_delay(clock, OriginEstimate(0, ticks_late=away, matches_every_cue=True,
+                                                        printed=["--origin 5"]))
+            self.check(f"{away}: whole frames", result.is_delay_of_all, is_whole)
 
     def test_reports_which_subtitles_are_delayed(self) -> None:
         for has_all_cues, shifted, printed, words in (
@@ -229,7 +237,7 @@ class EstimatedOrigins(Case):
             self.must(words, add_delay(Clock(5, START), origin)[1] ==
                       [f"{words} subtitles are 1 frame late"])
 
-    def test_asks_about_a_delay_as_long_as_to_another_picture(self) -> None:
+    def test_asks_about_a_delay_of_a_picture_distance(self) -> None:
         for away, is_asked in ((TICKS, True), (TICKS + 5, False), (2 * TICKS, False)):
             printed = add_delay(Clock(5, START, picture_offset=1),
                                 OriginEstimate(0, ticks_late=away, printed=["one"]))[1]
@@ -249,61 +257,63 @@ class DecodedPages(Case):
         return decode_packets(self, data)
 
     def test_a_page_must_be_closed_before_its_tco(self) -> None:
-        one = Subtitle(1, 1, 100, 150, 20, 2, b"a")
-        for closed, wanted in ((100, 0), (101, 1), (149, 49), (150, None), (170, None)):
+        subtitle = Subtitle(1, 1, 100, 150, 20, 2, b"a")
+        for closed, expected in ((100, 0), (101, 1), (149, 49), (150, None), (170, None)):
             data = make_pes_packet(TICKS * 100,
-                                   [HEADER, row_packet(20, b"a"), *[CLOSING] * (closed == 100)])
+                                   [HEADER, make_numbered_row(20, b"a"),
+                                    *[CLOSING] * (closed == 100)])
             more = [make_pes_packet(TICKS * closed, [CLOSING])] * (closed > 100)
             decoded = self.decode(make_pes_packet(0, [CLOSING]) + data + b"".join(more))
-            for is_complete, frames in ((True, wanted), (False, 0)):
-                found = measure_delay(one, decoded.page_at(100), decoded, is_complete)
-                self.must(f"{closed} {is_complete}", found == frames, found)
+            for is_complete, frames in ((True, expected), (False, 0)):
+                delay = measure_delay(subtitle, decoded.get_page_at(100), decoded, is_complete)
+                self.must(f"{closed} {is_complete}", delay == frames, delay)
 
     def test_finds_the_first_frame_with_a_closed_page(self) -> None:
         data = b"".join(make_pes_packet(TICKS * frame, units) for frame, units in (
-            (10, [HEADER, row_packet(20, b"a")]), (20, [CLOSING]), (30, [HEADER]), (40, [CLOSING])))
+            (10, [HEADER, make_numbered_row(20, b"a")]), (20, [CLOSING]), (30, [HEADER]),
+            (40, [CLOSING])))
         decoded = self.decode(data)
-        for frame, wanted in ((5, 5), (9, 9), (10, 20), (15, 20), (20, 20), (25, 25), (30, 40),
-                              (39, 40), (40, 40), (99, 99)):
-            self.check(f"from {frame}", decoded.find_closed_frame(frame), wanted)
+        for frame, expected in ((5, 5), (9, 9), (10, 20), (15, 20), (20, 20), (25, 25), (30, 40),
+                                (39, 40), (40, 40), (99, 99)):
+            self.check(f"from {frame}", decoded.find_closed_frame(frame), expected)
         decoded = self.decode(data[:len(data) // 2 + 1])
         self.must("open and closed once",
                   (decoded.find_closed_frame(15), decoded.find_closed_frame(20)) == (20, 20))
 
     def test_shows_a_page_once_a_header_ends_it(self) -> None:
-        old, new = row_packet(20, b"old"), row_packet(20, b"new")
+        old, new = make_numbered_row(20, b"old"), make_numbered_row(20, b"new")
         rows: list[tuple[list[bytes], bytes | None]] = [
             ([], None), ([new], None), ([HEADER], None), ([HEADER, new], None),
             ([CLOSING], b"old"), ([CLOSING, HEADER, new], b"old"), ([new, CLOSING], b"new"),
             ([HEADER, new, CLOSING], b"new"), ([HEADER, CLOSING], b""),
             ([HEADER, CLOSING, HEADER, new], b""), ([CLOSING, HEADER, CLOSING], b"")]
-        for units, wanted in rows:
+        for units, expected in rows:
             screen = self.decode(make_pes_packet(0, [HEADER, old]) +
                                  make_pes_packet(TICKS * 10, units)).states[-1].screen
             text = screen and screen[0][19].strip(b"\x0b ")
-            self.must(f"{units}", text == wanted, text)
+            self.must(f"{units}", text == expected, text)
         packets = survey_packets(self, make_pes_packet(0, [HEADER, old]) + make_pes_packet(
             TICKS, [CLOSING, HEADER, new]))
         self.must("tuned in later", Timeline(packets, PAGE, 0, 0, (1, 1)).states[-1].screen is None)
 
-    def test_doubts_frames_around_unreadable_packets(self) -> None:
+    def test_frames_around_unreadable_packets_are_doubtful(self) -> None:
         good = [make_pes_packet(TICKS * frame, [HEADER, CLOSING]) for frame in range(0, 100, 10)]
-        broken = [one[:45] + b"\x20" + one[46:] for one in good]
+        broken = [item[:45] + b"\x20" + item[46:] for item in good]
         of_doubts: list[tuple[tuple[int, ...], list[Span]]] = [
             ((), []), ((3,), [Span(20, 40)]), ((3, 4), [Span(20, 50)]),
             ((3, 7), [Span(20, 40), Span(60, 80)]), ((0,), [Span(0, 10)]), ((9,), [])]
-        for numbers, wanted in of_doubts:
-            decoded = self.decode(b"".join(broken[at] if at in numbers else one
-                                      for at, one in enumerate(good)))
-            self.must(f"{numbers}", decoded.uncertain_spans == wanted, decoded.uncertain_spans)
+        for numbers, expected in of_doubts:
+            decoded = self.decode(b"".join(broken[at] if at in numbers else item
+                                      for at, item in enumerate(good)))
+            self.must(f"{numbers}", decoded.uncertain_spans == expected, decoded.uncertain_spans)
             for first, last in ((0, 15), (15, 25), (30, 30), (65, 66), (85, 90)):
-                is_seen = not any(one.first <= last and first <= one.last for one in wanted)
+                is_seen = not any(item.first <= last and first <= item.last for item in expected)
                 self.must(f"{numbers}: {first} to {last}", decoded.was_received(first, last) ==
                           is_seen)
 
     def test_decodes_only_the_requested_range(self) -> None:
         data = b"".join(make_pes_packet(TICKS * 10 * at, [
-            HEADER, row_packet(20, b"%d" % at), *[row_packet(22, b"x")] * (at % 3),
+            HEADER, make_numbered_row(20, b"%d" % at), *[make_numbered_row(22, b"x")] * (at % 3),
             CLOSING]) for at in range(9))
         packets = survey_packets(self, data)
         for first, last in ((0, 8), (0, 3), (2, 5), (8, 8)):
@@ -311,7 +321,7 @@ class DecodedPages(Case):
             self.must(f"{first} to {last}", list(decoded.frames) ==
                       [*range(10 * first, 10 * last + 1, 10)], decoded.frames)
 
-    def test_takes_the_last_page_of_a_frame(self) -> None:
+    def test_uses_the_last_page_of_a_frame(self) -> None:
         a, b = (((text.ljust(40),) * 24) for text in (b"a", b"b"))
         rows: list[tuple[list[tuple[int, Rows]], list[int], list[Rows]]] = [
             ([(5, a), (10, b)], [5, 10], [a, b]), ([(5, a), (10, a)], [5], [a]),
@@ -321,41 +331,42 @@ class DecodedPages(Case):
         for changes, frames, pages in rows:
             decoded = Timeline(Packets(0), PAGE, 0)
             for frame, page in changes:
-                decoded.note_page(frame, page)
+                decoded.record_page(frame, page)
             self.must(f"{frames}", (list(decoded.frames), decoded.pages) == (frames, pages),
                       decoded.frames)
             self.check(f"{frames}: when", {page: list(some) for page,
                                            some in decoded.page_frames.items()},
                        {
-                page: [frame for frame, one in zip(frames, pages) if one == page]
+                page: [frame for frame, item in zip(frames, pages) if item == page]
                 for page in pages})
             for begin, end in itertools.combinations(range(4, 14), 2):
                 numbers = [at for at, frame in enumerate(frames) if frame < end and
                            begin < [*frames, 99][at + 1]]
-                self.must(f"{begin} {end}", [*decoded.page_numbers(begin, end)] == numbers and
-                          decoded.page_at(begin) == (BLANK_PAGE if begin < 5
-                                                     else pages[numbers[0]]))
+                self.must(f"{begin} {end}", [*decoded.list_page_numbers(begin, end)] == numbers and
+                          decoded.get_page_at(begin) == (BLANK_PAGE if begin < 5
+                                                         else pages[numbers[0]]))
 
     def test_finds_pauses_of_a_regular_stream(self) -> None:
         steady = [*range(90), *range(93, 120), *range(124, 200)]
-        for frames, wanted in (([*range(50), *range(52, 99)], []), (steady, [Span(90, 92),
+        for frames, expected in (([*range(50), *range(52, 99)], []), (steady, [Span(90, 92),
                                                                             Span(120, 123)])):
             decoded = self.decode(b"".join(make_pes_packet(TICKS * frame, [HEADER, CLOSING])
                                            for frame in frames))
-            self.must(f"{wanted}", decoded.pauses == wanted, decoded.pauses)
+            self.must(f"{expected}", decoded.pauses == expected, decoded.pauses)
         for frame, pause in ((89, None), (90, 0), (92, 0), (93, None), (119, None), (120, 1),
                              (123, 1), (124, None)):
-            self.must(f"{frame}", decoded.pause_at(frame) == (None if pause is None else
+            self.must(f"{frame}", decoded.find_pause(frame) == (None if pause is None else
                                                            decoded.pauses[pause]))
-        for decoded.count, is_steady in ((2 * FEW, True), (2 * FEW - 1, False)):
-            self.must(f"{is_steady}", (decoded.pause_at(91) is not None) == is_steady)
+        for decoded.count, is_steady in ((2 * PACKETS_PER_PAUSE, True),
+                                         (2 * PACKETS_PER_PAUSE - 1, False)):
+            self.must(f"{is_steady}", (decoded.find_pause(91) is not None) == is_steady)
 
-    def test_forgets_pages_before_a_step_back(self) -> None:
+    def test_drops_pages_before_a_step_back(self) -> None:
         for frames, pages, is_lost in (
                 ([100, 200, 310, 350], 4, False), ([200, 250, 150, 310, 350], 3, False),
                 ([200, 310, 305, 350], 2, True), ([310, 350, 320], 2, True)):
             packets = survey_packets(self, b"".join(make_pes_packet(TICKS * frame, [
-                HEADER, row_packet(20, b"%d" % frame), CLOSING]) for frame in frames))
+                HEADER, make_numbered_row(20, b"%d" % frame), CLOSING]) for frame in frames))
             decoded = Timeline(packets, PAGE, 0, begin=300)
             self.must(f"{frames}",
                       (len(decoded.pages), decoded.halt is not None) == (pages, is_lost),
@@ -365,7 +376,7 @@ class DecodedPages(Case):
                       == [True, not is_lost])
 
 
-class PartedSubtitles(Case):
+class SubtitlesInParts(Case):
     FOUND = TimedPart(0, 9, Clock(7, START), (3, 5))
 
     def test_each_subtitle_is_in_one_part(self) -> None:
@@ -374,7 +385,7 @@ class PartedSubtitles(Case):
         left, both = (f"{count} of one.stl would be in no part, " for count in (
             "1 subtitle", "2 subtitles"))
         other = "the parts of one.stl would have other subtitles than the file"
-        for name, subtitles, parts, wanted in (
+        for name, subtitles, parts, expected in (
                 ("as they are", nine, three, ""),
                 ("parts that adjoin", nine, [(0, 9), (9, 18), (18, 27)], ""),
                 ("the last goes later", [*nine[:-1], replace(nine[-1], end=99)], three, ""),
@@ -385,17 +396,17 @@ class PartedSubtitles(Case):
                 ("one in two", nine, [(0, 10), (9, 12), (18, 21)], other),
                 ("one in two, one missing", nine, [(0, 10), (9, 12), (18, 20)], other),
                 ("another order", nine, three[::-1], other)):
-            found = [self.FOUND._replace(begin=begin, end=end) for begin, end in parts]
-            made = choose_parts(found, self.FOUND)
-            self.must(f"{name}: frames", [(one[:4], one.between) for one in made] == [
-                (one[:4], Between(*one[:2])) for one in found])
+            result = [self.FOUND._replace(begin=begin, end=end) for begin, end in parts]
+            chosen_parts = choose_parts(result, self.FOUND)
+            self.must(f"{name}: frames", [(item[:4], item.between) for item in chosen_parts] == [
+                (item[:4], FrameRange(*item[:2])) for item in result])
             reason = ""
             try:
-                refuse_missing_subtitles(made, subtitles, "one.stl")
+                refuse_missing_subtitles(chosen_parts, subtitles, "one.stl")
             except Unclear as unclear:
                 reason = unclear.reason
-            self.must(name, reason.startswith(wanted) and bool(reason) == bool(wanted), reason)
+            self.must(name, reason.startswith(expected) and bool(reason) == bool(expected), reason)
         whole = TimedPart(2, 90, Clock(5, RECORDING))
-        for one in (self.FOUND, self.FOUND._replace(begin=5, end=7)):
-            self.must("a single one", choose_parts([one], whole) == [
-                whole._replace(clock=one.clock, packets=(3, 5))])
+        for item in (self.FOUND, self.FOUND._replace(begin=5, end=7)):
+            self.must("a single one", choose_parts([item], whole) == [
+                whole._replace(clock=item.clock, packets=(3, 5))])

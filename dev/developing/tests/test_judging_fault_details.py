@@ -8,7 +8,7 @@ from unittest import mock
 
 from developing.pes import make_pes_packet
 from developing.stl import make_gsi_block, make_tti_block
-from subtitles.common.times import CLOCK, TICKS, time_of
+from subtitles.common.times import CLOCK, TICKS, format_frame
 from subtitles.formats.listing import NamedFault, read_meanings, remove_markup
 from subtitles.formats.stl import Subtitle
 from subtitles.judging import faults as judging_faults
@@ -21,10 +21,12 @@ from subtitles.judging.subtitles import AT_MIDNIGHT
 from subtitles.judging.transmissions import ExpectedPages
 from subtitles.stream.receiver import BLANK_PAGE, HIT, OLD
 from .bench import Case
-from .parts import make_answer, request_for, fault_of, survey_packets, make_part, decode_packets
-from .transmissions import CLOSING, HEADER, ORIGIN, write_programme, row_packet
-from .test_judging_faults import BEFORE, NO_C4, cause
-from .test_judging_verdicts import verdict_of
+from .parts import (
+    make_answer, make_example_request, parse_single_fault, survey_packets, make_part,
+    decode_packets)
+from .transmissions import CLOSING, HEADER, ORIGIN, write_programme, make_numbered_row
+from .test_judging_faults import NO_C4, ORIGIN_BEFORE_WRAP, cause
+from .test_judging_verdicts import make_part_verdict
 
 
 class FaultDetails(Case):
@@ -42,28 +44,29 @@ class FaultDetails(Case):
         programme = ExpectedPages([Subtitle(at, at, frame, frame + 20, 22, 2, b"") for at, frame in
                                    enumerate(frames, 1)], [(b"[".ljust(40), *BLANK_PAGE[1:])] * 6)
         causes = Causes(programme, decode_packets(self, b""))
-        causes.by_index = {at: cause(at, NEVER) for at in range(len(frames))}
-        causes.by_end_fault = {63: number, 74: number + 1}
-        made = make_part(25 * number, 25 * number + 24, 0, make_answer(lines, path=self.path(
-            f"list{number}")), number, request=request_for("one.stl", "one.pes", "--from", times[0],
+        causes.cause_by_index = {at: cause(at, NEVER) for at in range(len(frames))}
+        causes.frames_by_end_fault = {63: number, 74: number + 1}
+        result = make_part(25 * number, 25 * number + 24, 0, make_answer(lines, path=self.path(
+            f"list{number}")), number,
+                           request=make_example_request("one.stl", "one.pes", "--from", times[0],
                                                          "--to", times[1]),
-                         causes=causes if kind == "r" else None)
-        made.names.program_stl = stl
-        return made
+                           causes=causes if kind == "r" else None)
+        result.names.program_stl = stl
+        return result
 
     def test_lists_the_faults_of_each_part_in_order(self) -> None:
         stl = write_programme(self, [(25 * at, 25 * at + 20) for at in range(1, 7)])
         severity = Severity(self.write("severity", b"others warning\nnot shown error\n63 error\n"))
         for kinds in itertools.chain(*(itertools.product("ars", repeat=count) for count in range(
                 1, 4))):
-            verdict = verdict_of([self.part(kind, number, stl)
-                                  for number, kind in enumerate(kinds, 1)], severity)
-            verdict.request = request_for("one.stl", "one.pes", "--option", "german")
+            verdict = make_part_verdict([self.part(kind, number, stl)
+                                         for number, kind in enumerate(kinds, 1)], severity)
+            verdict.request = make_example_request("one.stl", "one.pes", "--option", "german")
             last = len(kinds)
             verdict.named_faults = [NamedFault("never sent", "a", f"00:00:0{last}:07",
                                                "00:00:09:00",
                                                part=last), NamedFault("not shown", "b", block=2)]
-            wanted: list[tuple[Any, ...]] = [
+            expected: list[tuple[Any, ...]] = [
                 (last, None, "warning", last, "00:00:09:00", None, None),
                 (1, None, "error", 2, None, None, None)]
             for number, kind in enumerate(kinds, 1):
@@ -74,15 +77,15 @@ class FaultDetails(Case):
                     (number, 72, "warning", number, f"00:00:0{number}:03", None, number),
                     (number, 72, "warning", number, None, None, number),
                     (number, 74, "warning", number, None, None, number + 2)]}
-                wanted += some[kind]
-            found = [(one["part"], one["number"], one["severity"],
-                      one["subtitle"] and one["subtitle"]["position"], one["last_time"],
-                      one["last_pes"], one["cause"] and one["cause"]["subtitle"]["position"])
-                     for one in make_faults(verdict)]
-            self.assertEqual(found, wanted, kinds)
-            self.assertLessEqual({one["cause"]["expected_text"] for one in make_faults(verdict)
-                                  if one["cause"]}, {"\u00c4"}, kinds)
-        self.assertEqual([one["line"] for one in make_faults(verdict)][:2], [
+                expected += some[kind]
+            result = [(fault["part"], fault["number"], fault["severity"],
+                       fault["subtitle"] and fault["subtitle"]["position"], fault["last_time"],
+                       fault["last_pes"], fault["cause"] and fault["cause"]["subtitle"]["position"])
+                      for fault in make_faults(verdict)]
+            self.assertEqual(result, expected, kinds)
+            self.assertLessEqual({fault["cause"]["expected_text"] for fault in make_faults(verdict)
+                                  if fault["cause"]}, {"\u00c4"}, kinds)
+        self.assertEqual([fault["line"] for fault in make_faults(verdict)][:2], [
             "refused never sent frame 00:00:03:07", "refused not shown block 2"])
 
     def test_describes_the_case_instead_of_the_number(self) -> None:
@@ -110,39 +113,41 @@ class FaultDetails(Case):
                                                                       [NO_C4, CLOSING])),
                          pes=(0, 0), drawing_differences="drawn otherwise")
         part.names.program_stl = stl
-        verdict = verdict_of([part])
+        verdict = make_part_verdict([part])
         firsts = {line[:2]: means or do for line, means, do in reversed(rows)}
         self.assertEqual(list(list_hints(verdict)), [
             f"{number}: {words or 'a byte of the page has even parity'}"
             for number in dict.fromkeys(line[:2] for line, _, _ in rows)
             for words in [firsts[number]]])
-        self.assertEqual([(one["byte"], one["character"]) for one in make_faults(verdict)][:3], [
+        self.assertEqual([(fault["byte"], fault["character"])
+                          for fault in make_faults(verdict)][:3], [
             (None, None), ("C8", "\u00e4"), (None, None)])
-        found = [(one["meaning"], one["remedy"]) for one in make_faults(verdict)]
-        self.assertEqual(found, [
+        result = [(fault["meaning"], fault["remedy"]) for fault in make_faults(verdict)]
+        self.assertEqual(result, [
             (means or remove_markup(known[int(line[:2])].meaning), do or
              remove_markup(known[int(line[:2])].remedy))
             for line, means, do in rows])
 
     def test_gives_pes_packet_and_time_of_each_fault(self) -> None:
         lines = [*(f"refused 38 UnitLength pes {at}" for at in range(3)), *(
-            f"refused 68 Parity frame {time_of(frame)} packet 0" for frame in (0, 75, 150)),
+            f"refused 68 Parity frame {format_frame(frame)} packet 0" for frame in (0, 75, 150)),
                  "refused 73 Gap frame 00:00:00:10", "7 faults"]
-        wanted = [(at, 75 * at) for at in (0, 1, 2, 0, 1, 2)]
-        for origin in (0, ORIGIN, BEFORE):
+        expected = [(at, 75 * at) for at in (0, 1, 2, 0, 1, 2)]
+        for origin in (0, ORIGIN, ORIGIN_BEFORE_WRAP):
             pts = [(origin + TICKS * frame) % CLOCK for frame in (0, 75, 150)]
             part = make_part(0, 150, origin, make_answer(lines, path=self.path("list")), pes=(0, 2),
                              packets=survey_packets(self,
-                                                    b"".join(make_pes_packet(one, [HEADER, CLOSING])
-                                                             for one in pts)))
+                                                    b"".join(make_pes_packet(item,
+                                                                             [HEADER, CLOSING])
+                                                             for item in pts)))
             part.names.program_stl = write_programme(self, [(0, 50)])
-            found = [(one["pes"], one["pes_pts"], one["pes_time"], bool(one["subtitle"]))
-                     for one in make_faults(verdict_of([part]))]
-            self.assertEqual(found, [*((at, pts[at], time_of(frame), place == 3) for place, (
-                at, frame) in enumerate(wanted)), (None, None, None, True)], origin)
+            result = [(item["pes"], item["pes_pts"], item["pes_time"], bool(item["subtitle"]))
+                      for item in make_faults(make_part_verdict([part]))]
+            self.assertEqual(result, [*((at, pts[at], format_frame(frame), place == 3) for place, (
+                at, frame) in enumerate(expected)), (None, None, None, True)], origin)
 
     def test_gives_the_expected_and_the_decoded_cell(self) -> None:
-        data = make_pes_packet(25 * TICKS, [HEADER, row_packet(20, b"\x01xyz"), CLOSING])
+        data = make_pes_packet(25 * TICKS, [HEADER, make_numbered_row(20, b"\x01xyz"), CLOSING])
         due = (*BLANK_PAGE[:19], b"  [b".ljust(40), *BLANK_PAGE[20:])
         lines = [f"refused 72 Content frame 00:00:01:00 row 20 column {at}" for at in (2, 3, 4)]
         for within, (option, letter) in itertools.product((0, 3), (
@@ -152,15 +157,17 @@ class FaultDetails(Case):
                              expected_pages=lambda: ExpectedPages(
                                  [Subtitle(1, 1, 25, 50, 20, 2, b"")], [due]))
             part.names.program_stl = write_programme(self, [(25, 50)])
-            verdict = verdict_of([part])
-            verdict.request = request_for("one.stl", "one.pes", "--within", str(within), "--option",
+            verdict = make_part_verdict([part])
+            verdict.request = make_example_request("one.stl", "one.pes", "--within", str(within),
+                                                   "--option",
                                         option)
-            self.assertEqual([[(one[name]["code"], one[name]["character"]) for name in (
-                "expected", "decoded")] for one in make_faults(verdict)], [
+            self.assertEqual([[(fault[name]["code"], fault[name]["character"]) for name in (
+                "expected", "decoded")] for fault in make_faults(verdict)], [
                     [("5B", letter), ("01", None)], [("62", "b"), ("78", "x")],
                     [("20", " "), ("79", "y")]], (within, option, letter))
             part = dataclasses.replace(part, pes=None)  # the cause is unknown for an unread part
-            self.assertEqual(describe_first_hint(fault_of("refused 67 X frame 00:00:01:00"), part,
+            self.assertEqual(describe_first_hint(parse_single_fault("refused 67 X frame "
+                                                                    "00:00:01:00"), part,
                                                  verdict),
                              "", (within, option, letter))
         cells = (bytes([0x41, HIT, OLD, 0x01]).ljust(40), *BLANK_PAGE[1:])
@@ -182,11 +189,11 @@ class FaultDetails(Case):
         for (hit, words), (frame, whose) in itertools.product(rows, (
                 (24, "the page"), (25, 'subtitle 1, "Ab  c",'),
                 (50, "the page after subtitle 1"))):
-            fault = fault_of(f"refused 68 Parity frame {time_of(frame)} packet 1")
+            fault = parse_single_fault(f"refused 68 Parity frame {format_frame(frame)} packet 1")
             cells = bytes(HIT if at in hit else code for at, code in enumerate(pages[21]))
             decoded = FaultPlace(None, None, (*pages[:21], cells, *pages[22:]))
             printed = words if frame == 25 or not hit else "a byte (a space)"
-            for place, wanted in ((decoded, f"{printed} of {whose} has even parity"),
-                                  (decoded._replace(rows=None), "")):
+            for place, expected in ((decoded, f"{printed} of {whose} has even parity"),
+                                    (decoded._replace(rows=None), "")):
                 with mock.patch.object(judging_faults, "find_fault_place", return_value=place):
-                    self.assertEqual(describe_parity_fault(fault, part), wanted, (hit, frame))
+                    self.assertEqual(describe_parity_fault(fault, part), expected, (hit, frame))

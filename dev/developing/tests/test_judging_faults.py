@@ -26,11 +26,12 @@ from subtitles.stream.packets import PacketRun, Packets
 from subtitles.stream.receiver import BLANK_PAGE, SpanIndex
 from .bench import Case
 from .judged import LineRecorder
-from .parts import make_answer, request_for, survey_packets, make_part, shell_script, decode_packets
-from .transmissions import CLOSING, HEADER, ORIGIN, row_packet
-from .test_judging_verdicts import verdict_of
+from .parts import (
+    make_answer, make_example_request, survey_packets, make_part, make_shell_script, decode_packets)
+from .transmissions import CLOSING, HEADER, ORIGIN, make_numbered_row
+from .test_judging_verdicts import make_part_verdict
 
-BEFORE = CLOCK - 60 * TICKS  # origin one minute before the PTS wrap
+ORIGIN_BEFORE_WRAP = CLOCK - 60 * TICKS  # origin one minute before the PTS wrap
 NO_C4 = make_packet(0, 0, [8, 8, 0, 0, 0, 8, 1, 0], b" " * 32)
 
 
@@ -38,19 +39,20 @@ def cause(place: int, name: str, frames: int | None = None, words: str = "") -> 
     return Cause(place, name, frames, None, None, words, 0)
 
 
-def causes_of(*several: Cause, count: int = 9, text: bytes = b"text") -> Any:
+def make_causes(*several: Cause, count: int = 9, text: bytes = b"text") -> Any:
     """Return the causes `several`, in a programme of `count` subtitles with the same text."""
     subtitles = [SimpleNamespace(begin=25 * at, end=25 * at + 20, name=f"subtitle {at + 1}")
                  for at in range(count)]
     page = (b" " * 40,) * 19 + (text.ljust(40),) + (b" " * 40,) * 4
     return SimpleNamespace(expected=SimpleNamespace(subtitles=subtitles, pages=[page] * count),
-                           list_causes=lambda: list(several), by_index=dict(enumerate(several)),
-                           by_end_fault={}, first_wrong_frames={})
+                           list_causes=lambda: list(several),
+                           cause_by_index=dict(enumerate(several)), frames_by_end_fault={},
+                           first_wrong_frames={})
 
 
 class Descriptions(Case):
-    def test_leads_with_the_worst_cause(self) -> None:
-        for several, wanted in (
+    def test_reports_the_worst_cause_first(self) -> None:
+        for several, expected in (
                 ([cause(2, LATE, 3)], 'subtitle 3 at 00:00:02:00, "text", appeared 3 frames late'),
                 ([cause(2, EARLY, 1)], 'subtitle 3 at 00:00:02:00, "text", appeared 1 frame early'),
                 ([cause(0, NEVER, None, "why")],
@@ -93,19 +95,19 @@ class Descriptions(Case):
                  "another text was sent in 2 pauses, the first at 10:02"),
                 ([cause(8, WRONG_ATTRIBUTE)],
                  'subtitle 9 at 00:00:08:00, "text", has a wrong colour or attribute')):
-            self.assertEqual(describe_causes(causes_of(*several), "english"), wanted, several)
+            self.assertEqual(describe_causes(make_causes(*several), "english"), expected, several)
         wrong = cause(0, WRONG_TEXT)._replace(sent_page=(b"]".ljust(40),) + BLANK_PAGE[1:])
         part = make_part(0, 9, 0, make_answer(["refused 72 X frame 00:00:00:00", "1 faults"]),
-                         causes=causes_of(wrong, text=b"["))
-        verdict = verdict_of([part])
-        verdict.request = request_for("one.stl", "one.pes", "--option", "german")
+                         causes=make_causes(wrong, text=b"["))
+        verdict = make_part_verdict([part])
+        verdict.request = make_example_request("one.stl", "one.pes", "--option", "german")
         self.assertEqual(verdict.sentence, 'Refused: subtitle 1 at 00:00:00:00 has the wrong text: '
                          'expected "Ä", received "Ü".')
 
     def test_lists_other_faults_after_a_cause(self) -> None:
         content = parse_fault_line("refused 72 Content frame 00:00:01:00 row 1 column 1")
-        several = causes_of(cause(2, LATE, 3))
-        for numbers, wanted in (
+        several = make_causes(cause(2, LATE, 3))
+        for numbers, expected in (
                 ({72: 9}, ""), ({72: 9, 68: 1}, "; also 68 Name"), ({63: 1, 72: 9, 74: 1}, ""),
                 ({73: 2, 68: 1, 72: 9}, "; also 68 Name and 73 Name (2)"),
                 ({79: 1, 69: 1, 68: 1, 67: 1}, "; also 67 Name, 68 Name, 79 Name and 69 Name"),
@@ -117,15 +119,15 @@ class Descriptions(Case):
                 "refused", 9, content, True, 9, [FaultCount(number, "Name", count)
                                                  for number, count in numbers.items()],
                 causes=several))
-            self.must(f"{numbers}", words == describe_causes(several, "english") + wanted, words)
+            self.must(f"{numbers}", words == describe_causes(several, "english") + expected, words)
 
     def test_counts_faults_without_a_cause(self) -> None:
-        for counts, wanted in (([FaultCount(68, "Parity", 3)], "; 3 faults in all"),
-                               ([FaultCount(73, "Gap", 1), FaultCount(68, "Parity", 2)],
-                                "; 3 faults in all: 68 Parity (2) and 73 Gap")):
+        for counts, expected in (([FaultCount(68, "Parity", 3)], "; 3 faults in all"),
+                                 ([FaultCount(73, "Gap", 1), FaultCount(68, "Parity", 2)],
+                                  "; 3 faults in all: 68 Parity (2) and 73 Gap")):
             words = describe_faults(Facts("refused", 9, parse_fault_line(
                 "refused 68 Parity frame 00:00:01:00 packet 1"), False, 3, counts, "a letter"))
-            self.must(wanted, words == f"at 00:00:01:00, a letter{wanted}", words)
+            self.must(expected, words == f"at 00:00:01:00, a letter{expected}", words)
 
     def test_ignores_frames_with_losses(self) -> None:
         data = b"".join(make_pes_packet(TICKS * frame, [HEADER, CLOSING]) for frame in (0, 50, 100))
@@ -151,16 +153,16 @@ class Descriptions(Case):
                 ("refused 38 UnitLength pes 3", 0, 3)):
             packets, fault = survey_packets(self, data), parse_fault_line(line)
             assert fault
-            found = find_fault_place(fault, packets, decode_packets(self, data, 0, within))
-            self.must(f"{line} {within}", found.pes == pes, found)
-        data = b"".join(make_pes_packet(10 * TICKS, [HEADER, row_packet(20, text)])
+            fault_place = find_fault_place(fault, packets, decode_packets(self, data, 0, within))
+            self.must(f"{line} {within}", fault_place.pes == pes, fault_place)
+        data = b"".join(make_pes_packet(10 * TICKS, [HEADER, make_numbered_row(20, text)])
                         for text in (b"a", b"b"))
         fault, decoded = parse_fault_line(
             "refused 72 X frame 00:00:00:10 row 20 column 2"), decode_packets(
             self, data)
         assert fault
         for number in (0, 1):  # number of the last PES packet that changes the cell
-            due = decoded.state_after(1 - number).rows
+            due = decoded.get_state_after(1 - number).rows
             self.must(f"{number}",
                       find_fault_place(fault, decoded.packets, decoded, due).pes == number)
         decoded = decode_packets(self, make_pes_packet(0, [HEADER]) + make_pes_packet(9, [CLOSING]),
@@ -177,7 +179,7 @@ class Descriptions(Case):
             part = make_part(0, 9, 0, packets=packets, pes=(0, last))
             self.assertEqual(describe_pid_end(part), words, last)
 
-    def test_names_the_longest_gap_if_all_is_known(self) -> None:
+    def test_reports_the_longest_gap_without_losses(self) -> None:
         each = tuple(range(0, 1001, 100))
         less, begins = (*each[:5], *each[6:]), [(frame, frame + 9) for frame in each]
         rows: list[tuple[tuple[int, ...], int, int, set[int], list[tuple[int, int]], str]] = [
@@ -190,15 +192,16 @@ class Descriptions(Case):
             (each, 1100, 100, {73}, [], "101 frames (usually 100)"),
             (each, 1098, 99, {73}, [], "100 frames"), ((0, 101), 101, 100, {73}, [], "101 frames"),
             ((), 5, 1, {73}, [], "")]
-        for frames, last, every, numbers, times, wanted in rows:
+        for frames, last, every, numbers, times, expected in rows:
             for origin, off in ((ORIGIN, 0), (CLOCK - 60 * TICKS, 0), (ORIGIN, 5), (ORIGIN, -5)):
                 headers, ends = ([(origin + TICKS * frame + off) % CLOCK for frame in some]
                                  for some in (frames, (last,)))
-                request = request_for("one.stl", "one.pes", "--every", str(every), "--within",
+                request = make_example_request("one.stl", "one.pes", "--every", str(every),
+                                               "--within",
                                   str(abs(off)))
-                found = describe_longest_gap((headers, ends), origin, request, numbers, times)
-                self.must(f"{frames} {numbers} {origin} {off}", found ==
-                          (wanted and f"the page had no header for up to {wanted}"), found)
+                result = describe_longest_gap((headers, ends), origin, request, numbers, times)
+                self.must(f"{frames} {numbers} {origin} {off}", result ==
+                          (expected and f"the page had no header for up to {expected}"), result)
 
     def test_gives_a_hint_for_the_first_fault_of_each_number(self) -> None:
         data = b"".join(
@@ -210,16 +213,16 @@ class Descriptions(Case):
                  "refused 73 Gap frame 00:00:03:00",
                  "refused 72 Content frame 00:00:04:00 row 1 column 1", "4 faults"]
         good = ["accepted 1 frames 1 transmissions"]
-        wanted = ["67: C4 (erase page) is clear: a repeat that does not erase",
-                  "73: the page had no header for up to 225 frames"]
+        expected = ["67: C4 (erase page) is clear: a repeat that does not erase",
+                    "73: the page had no header for up to 225 frames"]
         parts = [make_part(0, 99, ORIGIN, make_answer(some, path=self.path(f"list{at}")), at,
                            packets=survey_packets(self, data), pes=(0, 4),
-                           request=request_for("one.stl", "one.pes"))
+                           request=make_example_request("one.stl", "one.pes"))
                  for at, some in enumerate((lines, good, [lines[2], "1 faults"]), 1)]
-        verdict = verdict_of(parts)
+        verdict = make_part_verdict(parts)
         verdict.request.every = 100
         self.must("of each", list(list_hints(verdict)) == [
-            *wanted, wanted[1]], list(list_hints(verdict)))
+            *expected, expected[1]], list(list_hints(verdict)))
         verdict.parts = parts[1:2]
         self.must("none", not list(list_hints(verdict)))
 
@@ -230,11 +233,12 @@ class Descriptions(Case):
                 recorder.print_list_line(f"{at}")
             recorder.end_list(f"{count - 1}")
             more = [f".. {count - 41} more lines"] * (count > 41)
-            wanted = [*map(str, range(min(count, 40))), *more, *[f"{count - 1}"] * (count > 40)]
-            self.must(f"{count}", recorder.lines == wanted, recorder.lines)
+            expected = [*map(str, range(min(count, 40))), *more, *[f"{count - 1}"] * (count > 40)]
+            self.must(f"{count}", recorder.lines == expected, recorder.lines)
             recorder.print_command("next")
             recorder.print_list_line("first")
-            self.must(f"{count}: another list", recorder.lines[len(wanted):] == ["+ next", "first"])
+            self.must(f"{count}: another list",
+                      recorder.lines[len(expected):] == ["+ next", "first"])
         with contextlib.redirect_stdout(io.StringIO()) as out:
             printer = Printer(Progress())
             for line in ("a", "b"):
@@ -245,7 +249,7 @@ class Descriptions(Case):
         self.must("the verdict last", (out.getvalue(), printer.last_line) ==
                   ("a\nb\nGood.\nb\n", "b"), out.getvalue())
         with mock.patch("subtitles.judging.part.CauseDescriber") as wording:
-            wording.return_value.format_line = lambda one: f"cause {one}"
+            wording.return_value.format_line = lambda item: f"cause {item}"
             for count in (0, 40, 41, 45):
                 recorder = LineRecorder()
                 causes: Any = SimpleNamespace(list_causes=lambda: list(range(count)))
@@ -257,27 +261,27 @@ class Descriptions(Case):
 
 
 class ProgramCalls(Case):
-    def test_takes_no_answer_from_a_failed_call(self) -> None:
+    def test_ignores_the_output_of_a_failed_call(self) -> None:
         rows: list[tuple[list[str], int, bool]] = [
             (["a", "b"], 0, True), ([], 0, True), (["refused 82 NoSubtitles"], 1, True),
             (["refused 50 Character block 1 at 6"], 1, False), (["a"], 1, False), ([], 2, False),
             (["a"], -9, False), (["refused 82 NoSubtitles", "b"], 1, False)]
         for lines, status, is_right in rows:
-            path = self.write_program("program", f"#!/bin/sh\n{shell_script(lines, status)}")
+            path = self.write_program("program", f"#!/bin/sh\n{make_shell_script(lines, status)}")
             try:
-                found: list[str] | None = run_program(path, "schedule", "x")
+                result: list[str] | None = run_program(path, "schedule", "x")
             except Unclear as reason:
-                found = None
+                result = None
                 self.must("why", reason.reason == "schedule gave no result: "
                           f"{''.join(lines[-1:])}", reason.reason)
-            self.must(f"{lines} {status}", found == (lines if is_right else None), found)
+            self.must(f"{lines} {status}", result == (lines if is_right else None), result)
 
 
 class Versions(Case):
     def test_finds_the_prover_line_of_this_program(self) -> None:
         os.makedirs(self.path("top/bin"))
         good = "program 5\ncrate other 1 logic=proved 1\ncrate subttx 2 logic=proved 3 of 3\n"
-        for name, text, wanted in (
+        for name, text, expected in (
                 ("top/bin/PROVED", good, "logic=proved 3 of 3"),
                 ("top/PROVED", good, "logic=proved 3 of 3"), ("PROVED", good, None),
                 ("top/bin/PROVED", good.replace("program 5", "program 55"), None),
@@ -285,7 +289,7 @@ class Versions(Case):
                 ("top/bin/PROVED", "program 5\n", None)):
             path = self.write(name, text.encode())
             self.must(f"{name} {text}", find_proved_line(self.path("top/bin/subttx"), "5") ==
-                      wanted)
+                      expected)
             os.unlink(path)
 
     def test_updates_the_progress_line_five_times_a_second(self) -> None:

@@ -22,58 +22,61 @@ from subtitles.judging.pages import describe_row_difference
 from subtitles.stream.layout import find_sent_subtitles
 from .bench import BENCH, Case
 from .judged import JudgedPair, judge_files
-from .streams import Shape, make_multiplex, stream_bytes, with_loss
+from .streams import Shape, join_packets, make_multiplex, remove_packets_at
 from .parts import decode_packets
-from .transmissions import CLOSING, HEADER, Sent, pes_file, row_packet, schedule_pages
-from .test_stream_layouts import HOUSES, line
+from .transmissions import (
+    CLOSING, HEADER, SentPes, join_pes_packets, make_numbered_row, schedule_pages)
+from .test_stream_layouts import BROADCASTER_LAYOUTS, line
 
-FIRST, EACH, LASTS = 3000, 60, 45  # first TCI, interval between TCIs, and duration, in frames
+# first TCI, interval between TCIs, and duration, in frames
+FIRST_TCI, DISTANCE, DURATION = 3000, 60, 45
 DSC = slice(11, 12)
 FAULTS = [
     ("left=40", "left=40 is not valid: left takes 0 to 39"), ("fit,fit", "fit is given twice"),
     ("fit=1", "fit=1 is not valid: fit takes no value"), ("pitch=1", "pitch=1 is an unknown item"),
     ("", "an empty word is an unknown item"), ("fit,", "an empty word is an unknown item"),
     ("up,after=0E", "after=0E is not valid: after takes up to 4 codes 01 to 0D"), ("fit,up", None)]
-def file_of(case: Case, texts: list[tuple[bytes, int]], name: str, dsc: bytes = b"1") -> str:
+def write_texts(case: Case, texts: list[tuple[bytes, int]], name: str, dsc: bytes = b"1") -> str:
     """Write a subtitle file with these texts and justification codes. Return its path."""
     blocks = b"".join(make_subtitle_blocks(
-        at, FIRST + EACH * at, FIRST + EACH * at + LASTS, 18, justify, text)
+        at, FIRST_TCI + DISTANCE * at, FIRST_TCI + DISTANCE * at + DURATION, 18, justify, text)
                       for at, (text, justify) in enumerate(texts))
-    gsi = bytearray(make_gsi_block(b"As sent", len(blocks) // 128, len(texts), FIRST))
+    gsi = bytearray(make_gsi_block(b"As sent", len(blocks) // 128, len(texts), FIRST_TCI))
     gsi[DSC] = dsc
     return case.write(name, bytes(gsi) + blocks)
 
 
-def texts_of(some: random.Random, has_codes: bool, between: bytes, count: int
-             ) -> list[tuple[bytes, int]]:
+def make_random_texts(chance: random.Random, has_codes: bool, between: bytes, count: int
+                      ) -> list[tuple[bytes, int]]:
     """Return `count` random texts of one or two lines, each with a justification code.
 
     `has_codes` adds control codes to the lines. `between` separates the lines.
     """
-    return [(between.join(line(some, has_codes) for _ in range(some.choice([1, 2, 2]))),
-             some.choice([2, 2, 2, 1, 3, 0])) for _ in range(count)]
+    return [(between.join(line(chance, has_codes) for _ in range(chance.choice([1, 2, 2]))),
+             chance.choice([2, 2, 2, 1, 3, 0])) for _ in range(count)]
 
 
 class OtherLayouts(Case):
-    def judge(self, texts: list[tuple[bytes, int]], drawn: str, *words: str,
+    def judge(self, texts: list[tuple[bytes, int]], drawn: str, *args: str,
               sent: list[tuple[bytes, int]] | None = None) -> JudgedPair:
         """Judge a file of `texts` with a recording of `sent`, by default `texts`, in a layout."""
         number = str(len(os.listdir(self.folder)))
-        stl = file_of(self, texts, f"{number}.stl")
-        other = file_of(self, sent or texts, f"{number}.sent.stl")
+        stl = write_texts(self, texts, f"{number}.stl")
+        other = write_texts(self, sent or texts, f"{number}.sent.stl")
         layout = ["--layout", drawn] if drawn else []
         pes = self.schedule(other, f"{number}.pes", "--every", "20", *layout)
-        return judge_files(self, stl, pes, *words)
+        return judge_files(self, stl, pes, *args)
 
     def test_names_the_differing_cells_but_no_layout(self) -> None:
         some = random.Random(85)
-        texts = texts_of(some, False, b"\x8a", 30)
-        found = self.judge(texts, "after=0A", "-o", self.path("out"))
+        texts = make_random_texts(some, False, b"\x8a", 30)
+        judged_pair = self.judge(texts, "after=0A", "-o", self.path("out"))
         words = "subtitle 1 (SN 0) and 29 more subtitles have the right text in another layout: " \
             "row 18, 0A after the text instead of 0A 0A"
-        self.must("told", found.word == "refused" and found.result["hints"] == [f"72: {words}"]
-                  and f"72: {words}" in found.said
-                  and found.result["faults"][0]["remedy"] == words, found.said)
+        self.must("told", judged_pair.word == "refused"
+                  and judged_pair.result["hints"] == [f"72: {words}"]
+                  and f"72: {words}" in judged_pair.said
+                  and judged_pair.result["faults"][0]["remedy"] == words, judged_pair.said)
         self.must("report", words.encode() in self.read("out/one.html"))
         texts[7] = b"Hi there", 2
         sent = [*texts[:7], (b"Hi thEre", 2), *texts[8:]]
@@ -82,21 +85,23 @@ class OtherLayouts(Case):
 
 
 class DecodedPages(Case):
-    def test_takes_the_page_that_lasts_longest(self) -> None:
-        for begin, end, pages, wanted in (
+    def test_chooses_the_page_that_lasts_longest(self) -> None:
+        for begin, end, pages, expected in (
                 (0, 50, ((0, 18), (10, 20)), [20]), (0, 30, ((0, 18), (20, 20)), [18]),
                 (50, 80, ((0, 18), (60, 20)), [20]), (0, 50, ((0, 18), (25, 20)), [18]),
                 (0, 50, ((0, 18), (5, 19), (20, 20), (30, 21)), [21]),
                 (0, 50, ((0, 18), (10, None)), [18]), (0, 50, ((50, 18),), [])):
             pes = [make_pes_packet(TICKS * frame,
-                                   [HEADER, *[row_packet(number or 1, b"ab" if number else b"c"
+                                   [HEADER,
+                                    *[make_numbered_row(number or 1, b"ab" if number else b"c"
                                                             )], CLOSING])
                    for frame, number in (*pages, (200, None))]
-            one = Subtitle(1, 0, begin, end, 18, 2, b"ab")
-            found = find_sent_subtitles([one], decode_packets(self, b"".join(pes)), ENGLISH)
-            rows = [number for sent in found for number, cells in enumerate(sent.rows, 1)
+            subtitle = Subtitle(1, 0, begin, end, 18, 2, b"ab")
+            sent_subtitles = find_sent_subtitles([subtitle], decode_packets(self, b"".join(pes)),
+                                                 ENGLISH)
+            rows = [number for sent in sent_subtitles for number, cells in enumerate(sent.rows, 1)
                     if cells.strip()]
-            self.must(f"{begin} {end} {pages}", rows == wanted, rows)
+            self.must(f"{begin} {end} {pages}", rows == expected, rows)
 
 
 class LayoutMessages(Case):
@@ -105,13 +110,13 @@ class LayoutMessages(Case):
             self.must(text, find_layout_fault(text) == fault and (parse_layout(text) is None) ==
                       bool(fault), find_layout_fault(text))
 
-    def test_reports_what_replaces_auto(self) -> None:
-        done = self.tool("qc", "one.stl", "one.ts", "--layout", "auto")
-        self.must("auto", done.status == 2 and len(done.told) == 1 and
-                  "find the layout of your inserter with `--measure" in done.told[0], done)
+    def test_reports_the_option_chosen_by_auto(self) -> None:
+        process = self.tool("qc", "one.stl", "one.ts", "--layout", "auto")
+        self.must("auto", process.status == 2 and len(process.told) == 1 and
+                  "find the layout of your inserter with `--measure" in process.told[0], process)
 
     def test_names_the_cells_in_which_pages_differ(self) -> None:
-        for text, wanted in (
+        for text, expected in (
                 ("row=1", "row 19 instead of 18"), ("after=0A", "row 18, 0A after the text "
                  "instead of 0A 0A"), ("after=", "row 18, column 18 instead of 17, nothing after "
                  "the text instead of 0A 0A"),
@@ -121,15 +126,15 @@ class LayoutMessages(Case):
                          (PLAIN, parse_layout(text)) if layout and
                          not isinstance(lines := draw_text(b"Hi", 18, 2, layout, ENGLISH),
                                         TextFault))
-            self.must(text, describe_row_difference(due, sent) == wanted,
+            self.must(text, describe_row_difference(due, sent) == expected,
                       describe_row_difference(due, sent))
-        for first, second, wanted in (
+        for first, second, expected in (
                 (b"Hi Ho", b"Hi\x8aHo", "2 rows instead of 1"),
                 (b"H i", b"H\x02i", "row 18, other codes within the text"),
                 (b"Hi\x8aH o", b"Hi\x8aH\x02o", "row 19, other codes within the text")):
             due, sent = (make_page_rows(lines) for text in (first, second) if not isinstance(
                 lines := draw_text(text, 18, 2, PLAIN, ENGLISH), TextFault))
-            self.must(f"{second!r}", describe_row_difference(due, sent) == wanted,
+            self.must(f"{second!r}", describe_row_difference(due, sent) == expected,
                       describe_row_difference(due, sent))
 
 
@@ -137,7 +142,7 @@ class OpenSubtitles(Case):
     def test_judges_open_subtitles_with_the_advised_option(self) -> None:
         texts = [(b"Number %d\x0a" % at, 2) for at in range(12)]  # 0A may hide text
         for dsc, kind in ((b"0", "0 (open subtitles)"), (b" ", "blank"), (b"3", None)):
-            stl = file_of(self, texts, "open.stl", dsc)
+            stl = write_texts(self, texts, "open.stl", dsc)
             alone = judge_files(self, stl)
             hint = f"its DSC is {kind}: --open accepts it"
             self.must(f"{kind}: 13", alone.result["line"] == "refused 13 Display block 0"
@@ -150,11 +155,11 @@ class OpenSubtitles(Case):
                 continue
             self.must(f"{kind}: a file", judge_files(self, stl, "--open").word == "accepted")
             pes = self.schedule(stl, "open.pes", "--open", "--every", "20", "--layout", "after=0A")
-            found = judge_files(self, stl, pes, "--open", "--layout", "after=0A", "-o",
-                                self.path("out"))
-            self.must(f"{kind}: a pair", found.word == "accepted" and
-                      found.result["request"]["open"]
-                      and b"12 subtitles" in self.read("out/one.html"), found.said)
+            judged_pair = judge_files(self, stl, pes, "--open", "--layout", "after=0A", "-o",
+                                      self.path("out"))
+            self.must(f"{kind}: a pair", judged_pair.word == "accepted" and
+                      judged_pair.result["request"]["open"]
+                      and b"12 subtitles" in self.read("out/one.html"), judged_pair.said)
             late = judge_files(self, stl, pes, "--open")
             self.must(f"{kind}: causes", late.word == "refused"
                       and len(late.result["causes"]) == 12, late.said)
@@ -163,11 +168,11 @@ class OpenSubtitles(Case):
 # Seeds of the programmes that are always judged.
 GATE = (3, 5, 11, 17, 24, 31, 42, 50, 57, 68, 77, 89, 101, 123, 150, 171, 200, 217, 260, 299)
 UNSEEN = "not checked: whether"
-WRONG = [HEADER, row_packet(20, b"Nobody wrote this"), CLOSING]
-Said = tuple[bytes, int]  # subtitle text and justification code
+WRONG = [HEADER, make_numbered_row(20, b"Nobody wrote this"), CLOSING]
+FileText = tuple[bytes, int]  # subtitle text and justification code
 
 
-def altered(printed: Said, kind: int) -> Said:
+def alter_text(printed: FileText, kind: int) -> FileText:
     """Return a text with a difference in codes, characters, lines or justification (`kind`)."""
     text, justify = printed
     return [(b"\x03" + text, justify), (b"\x08" + text, justify), (b"\x0d" + text, justify),
@@ -180,8 +185,8 @@ class Programme(NamedTuple):
     """A random pair: texts in the file, texts sent and their layout, losses and other faults."""
 
     text: str
-    file: list[Said]
-    sent: list[Said]
+    file: list[FileText]
+    sent: list[FileText]
     step: int  # maximum number of frames between PES packets; if 0, only page changes send them
     place: int  # number of the first lost PES packet
     lost: int
@@ -195,46 +200,47 @@ class Programme(NamedTuple):
 
     @property
     def layout(self) -> Layout:
-        found = parse_layout(self.text) if self.text else PLAIN
-        assert found is not None
-        return found
+        result = parse_layout(self.text) if self.text else PLAIN
+        assert result is not None
+        return result
 
-    def page(self, printed: Said) -> object:
+    def page(self, printed: FileText) -> object:
         """Return the rows that the layout draws for a text, or a `TextFault` for a faulty text."""
         lines = draw_text(printed[0], 18, printed[1], self.layout, ENGLISH)
         return lines if isinstance(lines, TextFault) else make_page_rows(lines)
 
     def is_right(self) -> bool:
         """Return whether each page is sent as expected, and at the expected time."""
-        pages = [(self.page(one), self.page(other)) for one, other in zip(self.file, self.sent)]
+        pages = [(self.page(item), self.page(other)) for item, other in zip(self.file, self.sent)]
         return not self.has_wrong and self.early is None and self.missing is None and \
-            all(one == other for one, other in pages)
+            all(item == other for item, other in pages)
 
 
-def programme_of(seed: int) -> Programme:
+def make_seeded_programme(seed: int) -> Programme:
     some = random.Random(seed)
-    has_codes, leaves_room, text = some.choice(HOUSES)
+    has_codes, leaves_room, text = some.choice(BROADCASTER_LAYOUTS)
     between = b"\x8a\x8a" if leaves_room else b"\x8a"
     count = some.choice((12, 40, 60, 90))
-    found = Programme(text, [], [], some.choice((0, 1, 1, 1, 2)), some.randrange(100, count * 20),
-                      some.choice((0, 1, 2, 3, 5, 15, 16, 17, 32, 48)), some.random() < 0.6,
-                      some.random() < 0.3, some.random() < 0.6)
-    while len(found.file) < count:
+    programme = Programme(text, [], [], some.choice((0, 1, 1, 1, 2)),
+                          some.randrange(100, count * 20),
+                          some.choice((0, 1, 2, 3, 5, 15, 16, 17, 32, 48)), some.random() < 0.6,
+                          some.random() < 0.3, some.random() < 0.6)
+    while len(programme.file) < count:
         printed = between.join(line(some, has_codes) for _ in range(some.choice([1, 2, 2]))), \
             some.choice([2, 2, 2, 1, 3, 0])
-        if not isinstance(found.page(printed), TextFault):
-            found.file.append(printed)
-    found.sent.extend(found.file)
+        if not isinstance(programme.page(printed), TextFault):
+            programme.file.append(printed)
+    programme.sent.extend(programme.file)
     kind = some.randrange(8)
     for at in some.sample(range(count), some.choice((0, 0, 0, 1, 1, 2, 5, 9))):
-        printed = altered(found.file[at], kind)
-        if not isinstance(found.page(printed), TextFault):
-            found.file[at] = printed
+        printed = alter_text(programme.file[at], kind)
+        if not isinstance(programme.page(printed), TextFault):
+            programme.file[at] = printed
     # Draw these values last, so that each seed still makes the same programme as before.
     kind = some.randrange(4)
-    lost = found.lost if kind == 0 else 0  # a programme has a loss or another fault, not both
-    return found._replace(
-        lost=lost, has_wrong=found.has_wrong and lost > 0,
+    lost = programme.lost if kind == 0 else 0  # a programme has a loss or another fault, not both
+    return programme._replace(
+        lost=lost, has_wrong=programme.has_wrong and lost > 0,
         early=some.randrange(1, count) if kind == 1 else None,
         missing=some.randrange(1, count) if kind == 2 else None,
         profile=some.choice(("", "", "--keeping\n", "--within 2\n",
@@ -242,20 +248,20 @@ def programme_of(seed: int) -> Programme:
         is_known=some.random() < 0.5)
 
 
-def with_fault(one: Programme, sent: Sent) -> Sent:
+def insert_fault(programme: Programme, sent: SentPes) -> SentPes:
     """Send the subtitle `early` a frame early, and the subtitle `missing` without its last row."""
-    made = []
+    result = []
     for pts, some in sent:
-        place, rest = divmod(pts // TICKS - FIRST, EACH)
-        if place == one.early and rest == 0:
+        place, rest = divmod(pts // TICKS - FIRST_TCI, DISTANCE)
+        if place == programme.early and rest == 0:
             pts -= TICKS
-        if place == one.missing and rest < LASTS and len(some) > 2:
+        if place == programme.missing and rest < DURATION and len(some) > 2:
             some = [*some[:-2], some[-1]]
-        made.append((pts, some))
-    return made
+        result.append((pts, some))
+    return result
 
 
-def with_empty_packets(sent: Sent, step: int) -> Sent:
+def insert_empty_packets(sent: SentPes, step: int) -> SentPes:
     """Insert PES packets without Teletext into every `step`-th frame."""
     if not step:
         return sent
@@ -265,57 +271,58 @@ def with_empty_packets(sent: Sent, step: int) -> Sent:
             if (frame - begin) % step == 0 or frame * TICKS in known]
 
 
-def recording_of(one: Programme, sent: Sent) -> bytes:
+def make_layout_recording(programme: Programme, sent: SentPes) -> bytes:
     """Return the recording as a transport stream or PES file, without the lost packets."""
-    place = min(one.place, max(len(sent) - 60, len(sent) // 2))
-    if one.has_wrong:
+    place = min(programme.place, max(len(sent) - 60, len(sent) // 2))
+    if programme.has_wrong:
         sent = [*sent[:place], (sent[place][0], WRONG), *sent[place + 1:]]
-    if not one.is_stream:
-        return pes_file(sent[:place] + sent[place + min(one.lost, 9):])
-    made = make_multiplex([make_pes_packet(pts, some) for pts, some in sent], Shape(150))
-    return stream_bytes(with_loss(made, sent[place][0], one.lost, one.is_announced))
+    if not programme.is_stream:
+        return join_pes_packets(sent[:place] + sent[place + min(programme.lost, 9):])
+    multiplex = make_multiplex([make_pes_packet(pts, packets) for pts, packets in sent], Shape(150))
+    return join_packets(remove_packets_at(multiplex, sent[place][0], programme.lost,
+                                          programme.is_announced))
 
 
 def judge(case: Case, seed: int) -> tuple[Programme, JudgedPair]:
     """Make the programme with this seed, judge it, and return the programme and the judged pair."""
-    one = programme_of(seed)
-    stl = file_of(case, one.file, f"{seed}.stl")
-    other = file_of(case, one.sent, f"{seed}.sent.stl")
-    layout = ["--layout", one.text] if one.text else []
-    sent = with_empty_packets(with_fault(one, schedule_pages(case, other, *layout)), one.step)
+    item = make_seeded_programme(seed)
+    stl = write_texts(case, item.file, f"{seed}.stl")
+    other = write_texts(case, item.sent, f"{seed}.sent.stl")
+    layout = ["--layout", item.text] if item.text else []
+    sent = insert_empty_packets(insert_fault(item, schedule_pages(case, other, *layout)), item.step)
     profile = case.write(f"{seed}.profile", (
-        f"--layout {quote_argument(one.text)}\n" * bool(one.text) + one.profile).encode())
-    name = f"{seed}.ts" if one.is_stream else f"{seed}.pes"
-    path = case.write(name, recording_of(one, sent))
-    return one, judge_files(case, stl, path, "--profile", profile,
-                            *["--origin", "0"] * one.is_known)
+        f"--layout {quote_argument(item.text)}\n" * bool(item.text) + item.profile).encode())
+    name = f"{seed}.ts" if item.is_stream else f"{seed}.pes"
+    path = case.write(name, make_layout_recording(item, sent))
+    return item, judge_files(case, stl, path, "--profile", profile,
+                             *["--origin", "0"] * item.is_known)
 
 
-def is_correct(one: Programme, told: JudgedPair) -> bool:
+def is_correct(programme: Programme, told: JudgedPair) -> bool:
     """Return whether the verdict is correct.
 
     A correct recording without losses must be accepted. A faulty recording must be refused, or
     accepted with a note.
     """
     if told.word not in ("accepted", "waived"):
-        return bool(one.lost) or not one.is_right()
-    return one.is_right() or any(UNSEEN in note for note in told.result["notes"])
+        return bool(programme.lost) or not programme.is_right()
+    return programme.is_right() or any(UNSEEN in note for note in told.result["notes"])
 
 
 class RandomProgrammes(Case):
     """Tests of random programmes, one method for each seed in `GATE`."""
 
 
-def test_of(seed: int) -> Callable[[RandomProgrammes], None]:
+def make_test(seed: int) -> Callable[[RandomProgrammes], None]:
     def test(self: RandomProgrammes) -> None:
-        one, judged = judge(self, seed)
-        self.must(f"seed {seed}", is_correct(one, judged), (one, judged.said))
+        item, judged = judge(self, seed)
+        self.must(f"seed {seed}", is_correct(item, judged), (item, judged.said))
 
     return test
 
 
 for _seed in GATE:
-    setattr(RandomProgrammes, f"test_{_seed:03}", test_of(_seed))
+    setattr(RandomProgrammes, f"test_{_seed:03}", make_test(_seed))
 
 
 def main(program: str, first: int, end: int) -> None:
@@ -324,12 +331,12 @@ def main(program: str, first: int, end: int) -> None:
     case, wrong = RandomProgrammes(f"test_{GATE[0]:03}"), list[int]()
     case.setUp()
     for seed in range(first, end):
-        one, judged = judge(case, seed)
-        if not is_correct(one, judged):
+        item, judged = judge(case, seed)
+        if not is_correct(item, judged):
             wrong.append(seed)
-        print(seed, one.text or "-", one.step, one.lost, "ts" if one.is_stream else "pes",
-              "right" if one.is_right() else "wrong", judged.word, judged.parts("pace"),
-              "" if is_correct(one, judged) else "UNSOUND", flush=True)
+        print(seed, item.text or "-", item.step, item.lost, "ts" if item.is_stream else "pes",
+              "right" if item.is_right() else "wrong", judged.word, judged.parts("pace"),
+              "" if is_correct(item, judged) else "UNSOUND", flush=True)
     print(f"{end - first} programmes, {len(wrong)} accepted of which a wrong cell was sent, or not "
           f"accepted though right and whole: {wrong}")
 

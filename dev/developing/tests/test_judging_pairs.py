@@ -7,32 +7,33 @@ from unittest import mock
 from developing.pes import (
     DATA, GAP_MARKER, UNIT, decode_pts, encode_pts, make_pes_packet, reverse_bits)
 from subtitles.clock.start import Clock, GIVEN, TimedPart
-from subtitles.common.times import ALL_DAY, Between, CLOCK, TICKS, time_of
+from subtitles.common.times import ALL_DAY, CLOCK, FrameRange, TICKS, format_frame
 from subtitles.formats.listing import NamedFault, NEVER_SENT, NOT_SHOWN
 from subtitles.judging import pair
 from subtitles.judging.pair import PairJudge
 from subtitles.recording.notices import NeverSent
 from subtitles.request.commands import CommandPaths, OutputNames
-from .bench import Case, example, example_bytes
+from .bench import Case, get_example_path, read_example_file
 from .judged import FEW, ProgrammeCase, judge_files
-from .parts import request_for, make_part
+from .parts import make_example_request, make_part
 from .results import check_schema
 from .transmissions import (
-    ORIGIN, Sent, pes_file, delay_subtitle, packets, write_programme, random_subtitles,
+    ORIGIN, SentPes, join_pes_packets, delay_subtitle, packets, write_programme, make_random_stl,
     write_subtitle_file,
     subtitle_times)
-from .test_judging_verdicts import verdict_of
+from .test_judging_verdicts import make_part_verdict
 
-STORY, HELLO, ACCENT = example("story.stl"), example("hello.stl"), example("accent.stl")
+STORY, HELLO = get_example_path("story.stl"), get_example_path("hello.stl")
+ACCENT = get_example_path("accent.stl")
 UNREAD = "none of the recording was read, and --severity makes all faults warnings"
-EVERY = ["--every", "40"]  # frames; allows the loss of two page transmissions
+EVERY_OPTION = ["--every", "40"]  # frames; allows the loss of two page transmissions
 BITS = {33: (6, 0xC0), 34: (7, 0x80), 35: (8, 1), 36: (13, 1), 37: (DATA - 1, 0x30),
         38: (DATA + UNIT + 1, 1), 39: (DATA + UNIT + 3, 1), 40: (DATA + UNIT + 2, 0x0F)}
 NAMES = {33: "Flags", 34: "NoTime", 35: "HeaderLength", 36: "Time", 37: "DataId",
          38: "UnitLength", 39: "Framing", 40: "LineOrder", 61: "OffFrame", 45: "Lost"}
 
 
-def broken(packet: bytes, number: int) -> bytes:
+def damage_packet(packet: bytes, number: int) -> bytes:
     """Return a PES packet with damage for which `check` reports this fault number."""
     if number == 61:
         return packet[:9] + encode_pts(decode_pts(packet) + 90) + packet[14:]
@@ -45,46 +46,47 @@ class UnreadablePackets(ProgrammeCase):
 
     def setUp(self) -> None:
         super().setUp()
-        self.frames = [(decode_pts(one) - ORIGIN) // TICKS for one in self.pes]
+        self.frames = [(decode_pts(item) - ORIGIN) // TICKS for item in self.pes]
 
-    def test_judges_what_follows_unreadable_pes_packets(self) -> None:
+    def test_judges_subtitles_after_unreadable_pes_packets(self) -> None:
         runs = [(number, 5 * at + 1, 5 * at + 2) for at, number in enumerate([*BITS, 61])]
         runs += [(33, 48, 48), (34, 49, 49), (45, 55, 56), (45, 60, 60)]
         some = list(self.pes)
         for number, first, last in runs:
             for at in range(first, last + 1):
-                some[at] = GAP_MARKER if number == 45 else broken(some[at], number)
-        found = judge_files(self, self.stl, self.write("one.pes", b"".join(some)), *EVERY,
-                            "--origin",
+                some[at] = GAP_MARKER if number == 45 else damage_packet(some[at], number)
+        judged_pair = judge_files(self, self.stl, self.write("one.pes", b"".join(some)),
+                                  *EVERY_OPTION, "--origin",
                        str(ORIGIN))
         listed = [f"{word} {number} {NAMES[number]} pes {at}" for number, first, last in runs
                   for word, at in (("refused", first), *[("ended", last)] * (last > first))]
-        self.must("the list", [line for line in found.listed if " pes " in line] == listed,
-                  found.said)
-        self.must("the result", [(one["number"], one["pes"], one["last_pes"])
-                                 for one in found.result["faults"] if one["pes"] is not None
-                                 and one["number"] in NAMES] ==
+        self.must("the list", [line for line in judged_pair.listed if " pes " in line] == listed,
+                  judged_pair.said)
+        self.must("the result", [(item["number"], item["pes"], item["last_pes"])
+                                 for item in judged_pair.result["faults"] if item["pes"] is not None
+                                 and item["number"] in NAMES] ==
                   [(number, first, last if last > first else None)
-                   for number, first, last in runs], found.result["faults"])
-        self.must("the verdict", found.said[-1] == "refused 33 Flags pes 1", found.said)
-        check_schema(self, found.result)
+                   for number, first, last in runs], judged_pair.result["faults"])
+        self.must("the verdict", judged_pair.said[-1] == "refused 33 Flags pes 1", judged_pair.said)
+        check_schema(self, judged_pair.result)
 
-    def test_trusts_frames_around_two_gap_markers(self) -> None:
+    def test_frames_around_two_gap_markers_are_clean(self) -> None:
         some = [*self.pes[:22], GAP_MARKER, *self.pes[24:61], GAP_MARKER, *self.pes[62:]]
-        found = judge_files(self, self.stl, self.write("one.pes", b"".join(some)), *EVERY,
-                            "--origin",
+        judged_pair = judge_files(self, self.stl, self.write("one.pes", b"".join(some)),
+                                  *EVERY_OPTION, "--origin",
                        str(ORIGIN))
         stretches = [(0, 21, 1), (24, 60, 1), (62, len(self.pes) - 1, 0)]
-        self.must("trusted", [(one["part"], one["from"], one["to"])
-                              for one in found.result["trusted_frames"]] ==
-                  [(1, time_of(self.frames[first]), time_of(self.frames[last] - less))
-                   for first, last, less in stretches], found.result["trusted_frames"])
-        self.must("lost", [(one["number"], one["pes"]) for one in found.result["faults"]] ==
-                  [(45, 22), (45, 60)] and [(one["from"], one["to"]) for one in
-                                            found.result["losses"]] ==
-                  [(time_of(self.frames[before]), time_of(self.frames[after]))
-                   for before, after in ((21, 24), (60, 62))], found.result["losses"])
-        reported = [line for line in found.told if "between" in line or "record" in line]
+        self.must("trusted", [(item["part"], item["from"], item["to"])
+                              for item in judged_pair.result["trusted_frames"]] ==
+                  [(1, format_frame(self.frames[first]), format_frame(self.frames[last] - less))
+                   for first, last, less in stretches], judged_pair.result["trusted_frames"])
+        self.must("lost",
+                  [(item["number"], item["pes"]) for item in judged_pair.result["faults"]] ==
+                  [(45, 22), (45, 60)] and [(item["from"], item["to"]) for item in
+                                            judged_pair.result["losses"]] ==
+                  [(format_frame(self.frames[before]), format_frame(self.frames[after]))
+                   for before, after in ((21, 24), (60, 62))], judged_pair.result["losses"])
+        reported = [line for line in judged_pair.told if "between" in line or "record" in line]
         self.must("told",
                   len(reported) == 3 and reported[2] == "record that part again: the missing "
                                                         "frames were not checked", reported)
@@ -94,75 +96,77 @@ class UnreadablePackets(ProgrammeCase):
             (["--allow-lost"], "waived"), (["--severity", severity], "waived"),
             (["--severity", others], "refused"), ([], "refused")]
         for words, word in rows:
-            found = judge_files(self, self.stl, self.path("one.pes"), *EVERY, *words)
-            self.must(f"{words}", found.word == word, found.said)
+            judged_pair = judge_files(self, self.stl, self.path("one.pes"), *EVERY_OPTION, *words)
+            self.must(f"{words}", judged_pair.word == word, judged_pair.said)
 
     def test_is_not_judged_if_nothing_could_be_read(self) -> None:
-        unread = b"".join(broken(one, 37) for one in packets(example_bytes("hello.pes")))
+        unread = b"".join(damage_packet(item, 37)
+                          for item in packets(read_example_file("hello.pes")))
         pes = self.write("unread.pes", unread)
         every = self.write("warnings", b"others warning\n")
-        one = self.write("one", b"52 warning\n")
+        item = self.write("one", b"52 warning\n")
         for words, severity, word in (
-                ([ACCENT, example("recording.ts")], every, "not judged"),
-                ([HELLO, pes], every, "not judged"), ([HELLO, pes], one, "refused"),
-                ([ACCENT], every, "waived"), ([ACCENT], one, "refused"),
-                ([ACCENT, example("recording.ts")], one, "refused")):
-            found = judge_files(self, *words, "--severity", severity)
+                ([ACCENT, get_example_path("recording.ts")], every, "not judged"),
+                ([HELLO, pes], every, "not judged"), ([HELLO, pes], item, "refused"),
+                ([ACCENT], every, "waived"), ([ACCENT], item, "refused"),
+                ([ACCENT, get_example_path("recording.ts")], item, "refused")):
+            judged_pair = judge_files(self, *words, "--severity", severity)
             is_unread = word == "not judged"
-            self.must(f"{words} {severity}", found.word == word and found.told[-1:] ==
-                      [UNREAD] * is_unread or not is_unread, found.said)
-            self.must(f"{words} {severity}: result", (found.result["line"] is None) == is_unread
-                      and found.result["faults"] and found.result["reason"] ==
-                      (UNREAD if is_unread else None), found.result)
+            self.must(f"{words} {severity}", judged_pair.word == word and judged_pair.told[-1:] ==
+                      [UNREAD] * is_unread or not is_unread, judged_pair.said)
+            self.must(f"{words} {severity}: result",
+                      (judged_pair.result["line"] is None) == is_unread
+                      and judged_pair.result["faults"] and judged_pair.result["reason"] ==
+                      (UNREAD if is_unread else None), judged_pair.result)
 
 
-class Steps(Case):
-    def pair(self, *words: str, count: int = 0) -> PairJudge:
-        """Return a `PairJudge` for a pair with the options `words` and `count` judged parts."""
-        verdict, nothing = verdict_of([make_part(0, 9, 0, number=number)
-                                       for number in range(1, count + 1)]), mock.Mock()
-        verdict.request = request_for("one.stl", "one.pes", *words)
+class PtsSteps(Case):
+    def pair(self, *args: str, count: int = 0) -> PairJudge:
+        """Return a `PairJudge` for a pair with the options `args` and `count` judged parts."""
+        verdict, nothing = make_part_verdict([make_part(0, 9, 0, number=number)
+                                              for number in range(1, count + 1)]), mock.Mock()
+        verdict.request = make_example_request("one.stl", "one.pes", *args)
         return PairJudge(verdict, CommandPaths("tools/qc", self.bench.program), OutputNames(
             "one", self.folder, None), nothing, False)
 
     def test_gives_each_part_its_subtitles_and_files(self) -> None:
-        found = [TimedPart(at, at + 9, Clock(0, GIVEN), None, Between(at, at + 10))
-                 for at in (10, 20, 30)]
+        result = [TimedPart(at, at + 9, Clock(0, GIVEN), None, FrameRange(at, at + 10))
+                  for at in (10, 20, 30)]
         for count in (1, 2, 3):
-            one, recording, programme = self.pair("--every", "30"), mock.Mock(), mock.Mock()
-            with mock.patch.object(pair, "choose_parts", return_value=found[:count]), \
+            item, recording, programme = self.pair("--every", "30"), mock.Mock(), mock.Mock()
+            with mock.patch.object(pair, "choose_parts", return_value=result[:count]), \
                     mock.patch.object(pair, "refuse_missing_subtitles") as refuse:
-                made = one.parts_in(recording, found, programme, [])
+                new_parts = item.make_parts(recording, result, programme, [])
             self.must(f"{count}: refused", refuse.call_args_list == [
-                mock.call(found[:count], [], "one.stl")] * (count > 1))
+                mock.call(result[:count], [], "one.stl")] * (count > 1))
             self.must(f"{count}", [(part.number, part.names.name, part.alignment, part.recording)
-                                   for part in made] == [
+                                   for part in new_parts] == [
                 (number, f"one.{number}" if count > 1 else "one", alignment, recording)
-                for number, alignment in enumerate(found[:count], 1)], made)
+                for number, alignment in enumerate(result[:count], 1)], new_parts)
             self.must(f"{count}: subtitles", [(part.request.between, part.request.every)
-                                              for part in made] == (
-                [(alignment.between, 30) for alignment in found[:count]] if count > 1
-                else [(ALL_DAY, 30)]), made)
+                                              for part in new_parts] == (
+                [(alignment.between, 30) for alignment in result[:count]] if count > 1
+                else [(ALL_DAY, 30)]), new_parts)
 
     def test_requests_expected_pages_with_the_options_of_the_part(self) -> None:
-        of_part = request_for("one.stl", "one.pes",
-                              *"--page 150 --option german --from 00:00:01:00 "
+        of_part = make_example_request("one.stl", "one.pes",
+                                       *"--page 150 --option german --from 00:00:01:00 "
                             "--to 00:00:02:00 --layout double".split())
         with mock.patch.object(pair, "schedule_pages") as due:
             self.pair().make_expected_pages(of_part, [])
         due.assert_called_once_with(self.bench.program, "", [], (1, 0x50), "german",
-                                    Between(25, 50), of_part.schedule_arguments())
+                                    FrameRange(25, 50), of_part.list_schedule_arguments())
 
     def test_adds_a_fault_for_a_page_never_sent(self) -> None:
         hidden, never = NamedFault(NOT_SHOWN, "hidden"), NamedFault(NEVER_SENT, "never")
-        one, recording = self.pair(), mock.Mock()
+        item, recording = self.pair(), mock.Mock()
         recording.survey.lines.return_value = ["one", "two"]
-        one.verdict.named_faults, one.recording = [hidden], recording
-        with one.catch_missing_page():
+        item.verdict.named_faults, item.recording = [hidden], recording
+        with item.catch_missing_page():
             raise NeverSent("never")
-        self.must("both", one.verdict.named_faults == [hidden, never] and
-                  one.verdict.recording is recording.file, one.verdict.named_faults)
-        listener: Any = one.listener
+        self.must("both", item.verdict.named_faults == [hidden, never] and
+                  item.verdict.recording is recording.file, item.verdict.named_faults)
+        listener: Any = item.listener
         listener.print_line.assert_has_calls([mock.call("one"), mock.call("two")])
 
 
@@ -170,14 +174,14 @@ class Sentences(ProgrammeCase):
     due, first = subtitle_times(20), 50
 
     def test_counts_late_subtitles(self) -> None:
-        def moved(places: Sequence[int], by: int = 7) -> Sent:
+        def moved(places: Sequence[int], by: int = 7) -> SentPes:
             sent = self.sent
             for place in places:
                 sent = delay_subtitle(place, by)(sent)
             return sent
 
-        missing = [one for one in self.sent if not 301 * TICKS <= one[0] < 350 * TICKS]
-        rows: list[tuple[Sent, list[str], str]] = [
+        missing = [item for item in self.sent if not 301 * TICKS <= item[0] < 350 * TICKS]
+        rows: list[tuple[SentPes, list[str], str]] = [
             (moved(range(2, 21)), [], "Refused: 19 of 20 subtitles appeared 7 frames late (the "
              "first at 00:00:08:00, the last at 00:01:20:00)."),
             (moved(range(4, 8)), [], "Refused: 4 of 20 subtitles appeared 7 frames late (the "
@@ -200,124 +204,134 @@ class Sentences(ProgrammeCase):
              "had no header for up to 50 frames (usually 25)."),
             (self.sent, ["--every", "20"], "Refused: from 00:00:04:20 on, the page had no header "
              "for up to 25 frames; 59 faults in all.")]
-        for sent, words, wanted in rows:
-            found = self.judge(sent, *words)
-            self.must(wanted, found.said[-2].startswith(wanted) and
-                      found.result["sentence"] == wanted, found.said)
+        for sent, words, expected in rows:
+            judged_pair = self.judge(sent, *words)
+            self.must(expected, judged_pair.said[-2].startswith(expected) and
+                      judged_pair.result["sentence"] == expected, judged_pair.said)
 
     def test_names_a_subtitle_by_its_place_and_number(self) -> None:
-        found = self.judge(delay_subtitle(3, 7)(self.sent))
+        judged_pair = self.judge(delay_subtitle(3, 7)(self.sent))
         place = {"position": 3, "number": 52, "begin": "00:00:12:00", "end": "00:00:14:10"}
-        causes, faults = found.result["causes"], found.result["faults"]
-        check_schema(self, found.result)
-        self.must("result", [one["subtitle"] for one in (*causes, *faults)] == [place, place] and
-                  [one["position"] for one in found.result["subtitles"]] == [*range(1, 21)], causes)
+        causes, faults = judged_pair.result["causes"], judged_pair.result["faults"]
+        check_schema(self, judged_pair.result)
+        self.must("result", [item["subtitle"] for item in (*causes, *faults)] == [place, place] and
+                  [item["position"] for item in judged_pair.result["subtitles"]] == [*range(1, 21)],
+                  causes)
         self.must("cause", faults[0]["cause"] == {name: value for name, value in causes[0].items()
                                                   if name != "part"}
                   and (causes[0]["name"], causes[0]["frames"], causes[0]["expected_text"]) ==
                   ("late", 7, "Number 52"), causes)
 
-    def test_names_another_subtitles_text(self) -> None:
+    def test_reports_another_subtitles_text(self) -> None:
         rows: list[tuple[int, list[str]]] = [(5, []), (1, []), (5, ["--from", "00:00:08:00"])]
         for number, words in rows:
-            other = next(some for pts, some in self.sent if pts == 100 * number * TICKS)
-            found = self.judge([(pts, other if 300 * TICKS <= pts < 360 * TICKS else some)
-                                for pts, some in self.sent], *words)
-            causes, text = found.result["causes"], f"Number {number + 49}"
+            other = next(packets for pts, packets in self.sent if pts == 100 * number * TICKS)
+            judged_pair = self.judge([(pts, other if 300 * TICKS <= pts < 360 * TICKS else packets)
+                                      for pts, packets in self.sent], *words)
+            causes, text = judged_pair.result["causes"], f"Number {number + 49}"
             self.must(f"{number} {words}", [
-                (one["name"], one["expected_text"], one["decoded_text"], one["other_number"],
-                 one["other_position"], one["line"]) for one in causes] == [
+                (cause["name"], cause["expected_text"], cause["decoded_text"],
+                 cause["other_number"], cause["other_position"], cause["line"])
+                for cause in causes] == [
                 ("another subtitle's text", "Number 52", text, number + 49, number,
                  f"another subtitle's text at its time; received \"{text}\" of subtitle {number} "
                  f"(SN {number + 49})")] and
-                found.result["cause_counts"]["another subtitle's text"] == 1 and
-                "1 subtitle: 1 another subtitle's text" in found.lines("causes of faults in "),
+                judged_pair.result["cause_counts"]["another subtitle's text"] == 1 and
+                "1 subtitle: 1 another subtitle's text" in judged_pair.lines("causes of faults "
+                                                                             "in "),
             causes)
 
     def test_reports_where_reading_stops(self) -> None:
-        early = [(pts - 3000 * TICKS, some) for pts, some in self.sent[-1:]]
+        early = [(pts - 3000 * TICKS, packets) for pts, packets in self.sent[-1:]]
         doubt = list(self.sent)
         broken_at = next(at for at, (pts, _) in enumerate(doubt) if pts == 300 * TICKS)
-        pes = [make_pes_packet(pts % CLOCK, some) for pts, some in doubt]
-        pes[broken_at] = broken(pes[broken_at], 37)
-        found = judge_files(self, self.stl, self.write("one.pes", b"".join(pes)), "--origin", "0")
-        self.must("can't be read", [one["name"] for one in found.result["causes"]] == ["unknown"]
+        pes = [make_pes_packet(pts % CLOCK, packets) for pts, packets in doubt]
+        pes[broken_at] = damage_packet(pes[broken_at], 37)
+        judged_pair = judge_files(self, self.stl, self.write("one.pes", b"".join(pes)),
+                                  "--origin", "0")
+        self.must("can't be read",
+                  [item["name"] for item in judged_pair.result["causes"]] == ["unknown"]
                   and "some of the PES packets at that time cannot "
-                      "be read" in "".join(found.said), found.said)
+                      "be read" in "".join(judged_pair.said), judged_pair.said)
         back = [((1 << 33) - at * TICKS, early[0][1]) for at in (200, 150, 100, 50)]
-        found = self.judge([*back, *delay_subtitle(3, 4)(self.sent)])
-        self.must("of another clock", found.lines("cause: ") == [
+        judged_pair = self.judge([*back, *delay_subtitle(3, 4)(self.sent)])
+        self.must("of another clock", judged_pair.lines("cause: ") == [
             'subtitle 3 (SN 52) at 00:00:12:00, "Number 52": late by 4 frames'] and
-            found.parts("pes") == [(f"4-{len(self.sent) + 3}",)], found.said)
+            judged_pair.parts("pes") == [(f"4-{len(self.sent) + 3}",)], judged_pair.said)
 
-    def test_judges_by_a_given_clock_what_cannot_be_estimated(self) -> None:
-        others = self.write("two.stl", random_subtitles(7)[0])
+    def test_a_given_clock_replaces_an_unclear_estimate(self) -> None:
+        others = self.write("two.stl", make_random_stl(7)[0])
         self.schedule(others, "two.pes")
         three = write_programme(self, subtitle_times(3), name="three.stl")
         for clock, word in (("", "not judged"), (f"--origin {679_065 * TICKS}", "refused")):
-            found = judge_files(self, three, self.path("two.pes"), *clock.split())
-            self.must(clock, found.word == word, found.said)
-        twice = [*self.sent, *((pts + 6000 * TICKS, some) for pts, some in self.sent)]
-        path, last = self.write("one.pes", pes_file(twice)), len(self.sent) - 1
+            result = judge_files(self, three, self.path("two.pes"), *clock.split())
+            self.must(clock, result.word == word, result.said)
+        twice = [*self.sent, *((pts + 6000 * TICKS, packets) for pts, packets in self.sent)]
+        path, last = self.write("one.pes", join_pes_packets(twice)), len(self.sent) - 1
         for words, word, origin, pes in (
                 ("", "not judged", None, None), ("--origin 0", "not judged", None, None),
                 (f"--pes 0-{last}", "accepted", 0, f"0-{last}"),
                 (f"--pes {last + 1}-99999", "accepted", 6000 * TICKS,
                  f"{last + 1}-{2 * last + 1}"),
                 ("--pes 99990-99999", "not judged", None, None)):
-            found = judge_files(self, self.stl, path, *words.split())
-            self.must(f"{words}", found.word == word and found.parts("origin", "pes") ==
-                      [(origin, pes)] * (origin is not None), found.said)
-            typed = [line for line in found.told if line.startswith(("try: ", "or: "))]
+            result = judge_files(self, self.stl, path, *words.split())
+            self.must(f"{words}", result.word == word and result.parts("origin", "pes") ==
+                      [(origin, pes)] * (origin is not None), result.said)
+            typed = [line for line in result.told if line.startswith(("try: ", "or: "))]
             self.must(f"{words}: as before", words[:5] == "--pes" or
-                      all(words in line for line in typed), found.said)
+                      all(words in line for line in typed), result.said)
             self.must(f"{words}: to type", words[:5] == "--pes" or [
-                line.split()[-2:] for line in typed] == [["--pes", "I-J"]], found.said)
+                line.split()[-2:] for line in typed] == [["--pes", "I-J"]], result.said)
 
     def test_reports_the_delay_of_all_subtitles(self) -> None:
         for by, words in ((0, None), (2, "all subtitles are 2 frames late"),
                           (-1, "all subtitles are 1 frame early")):
             blank = [(300 * TICKS, self.sent[-1][1])]
-            sent = [(pts + by * TICKS, some) for pts, some in [*blank, *self.sent]]
-            found = self.judge(sent)
-            self.must(f"{by}", [one for one in found.told if "all subtitles" in one] ==
-                      [words] * bool(words) and found.result["parts"][0]["clock"] == {
-                          "origin": 0, "source": "given", "delay_frames": by}, found.said)
-            self.must(f"{by}: noted", found.result["notes"][:-1] == [words] * bool(words)
-                      and found.result["notes"][-1].endswith(FEW), found.result["notes"])
+            sent = [(pts + by * TICKS, packets) for pts, packets in [*blank, *self.sent]]
+            judged_pair = self.judge(sent)
+            self.must(f"{by}", [item for item in judged_pair.told if "all subtitles" in item] ==
+                      [words] * bool(words) and judged_pair.result["parts"][0]["clock"] == {
+                          "origin": 0, "source": "given", "delay_frames": by}, judged_pair.said)
+            self.must(f"{by}: noted", judged_pair.result["notes"][:-1] == [words] * bool(words)
+                      and judged_pair.result["notes"][-1].endswith(FEW),
+                      judged_pair.result["notes"])
 
     def test_gives_hints_for_the_first_faults(self) -> None:
         whole = "use --option swedish, italian, french, spanish or czech, which have all " \
             "the characters in the file"
-        found = judge_files(self, ACCENT)
-        self.must("list", "1 faults" in found.said, found.said)
-        self.must("letter", found.result["hints"] == [f"50: {whole}"] and found.said[-3::2] == [
+        judged_pair = judge_files(self, ACCENT)
+        self.must("list", "1 faults" in judged_pair.said, judged_pair.said)
+        self.must("letter", judged_pair.result["hints"] == [f"50: {whole}"]
+                  and judged_pair.said[-3::2] == [
             f"50: {whole}", "refused 50 Character block 1 at 6"] and
-            [one["remedy"] for one in found.result["faults"]] == [whole] and any(
-                '"Café" (block 1), the national option lacks' in one
-                for one in found.lines("Refused: ")),
-            found.said)
-        found = judge_files(self, write_programme(self, subtitle_times(1), text=b"\xa35"),
-                            "--option", "german")
-        self.must("by the option", found.result["hints"][0].startswith(
+            [item["remedy"] for item in judged_pair.result["faults"]] == [whole] and any(
+                '"Café" (block 1), the national option lacks' in item
+                for item in judged_pair.lines("Refused: ")),
+            judged_pair.said)
+        judged_pair = judge_files(self, write_programme(self, subtitle_times(1), text=b"\xa35"),
+                                  "--option", "german")
+        self.must("by the option", judged_pair.result["hints"][0].startswith(
             "50: use --option english or ") and [
-                (one["text_offset"], one["byte"]) for one in found.result["faults"]] == [(0, "A3")],
-                  found.result)
-        data = bytearray(example_bytes("hello.pes"))
+                (item["text_offset"], item["byte"])
+                for item in judged_pair.result["faults"]] == [(0, "A3")],
+                  judged_pair.result)
+        data = bytearray(read_example_file("hello.pes"))
         at = DATA + 4 + 2 + 7  # offset of C11 to C14 in the first header of the file
         data[at:at + 1] = reverse_bits(b"\xd0")  # code word of 8, which selects German
-        found = judge_files(self, HELLO, self.write("one.pes", data))
+        judged_pair = judge_files(self, HELLO, self.write("one.pes", data))
         words = "the header is German, but --option is english"
-        self.must("header", found.result["hints"] == [f"67: {words}"] and found.said[-3::2] == [
+        self.must("header", judged_pair.result["hints"] == [f"67: {words}"]
+                  and judged_pair.said[-3::2] == [
             f"67: {words}", "refused 67 Control frame 10:00:00:00 packet 0"] and
-            found.result["faults"][0]["meaning"] == words, found.said)
+            judged_pair.result["faults"][0]["meaning"] == words, judged_pair.said)
 
     def test_judges_by_each_option(self) -> None:
         stl = write_subtitle_file(self,
                                   [(90_000, 90_050, b"Gr\xc8u\xfbe"), (90_100, 90_150, b"Ja")],
                             "two.stl", language=b"08")
         self.schedule(stl, "two.pes", "--page", "1A9", "--option", "german", "--origin", "4242")
-        two, no_end, five = self.path("two.pes"), example("no-end.pes"), example("five-faults.pes")
+        two, no_end = self.path("two.pes"), get_example_path("no-end.pes")
+        five = get_example_path("five-faults.pes")
         faults = b"".join(b"%d warning\n" % number for number in (67, 68, 69, 72, 73))
         rows: list[tuple[list[str], bytes, str, str]] = [*((*row, "") for row in (
             ([stl, two, "--page", "1a9", "--option", "german"], b"", "accepted"),
@@ -334,7 +348,7 @@ class Sentences(ProgrammeCase):
                 (b"others warning\n72 error\n", "refused", "refused 72 ")))]
         for words, text, word, last in rows:
             more = ["--severity", self.write("severity", text)] if text else []
-            found = judge_files(self, *words, *more)
-            self.must(f"{words} {text!r}", found.word == word, found.said)
-            self.must(f"{words} {text!r}: last line", found.said[-1].startswith(last),
-                      found.said[-1])
+            result = judge_files(self, *words, *more)
+            self.must(f"{words} {text!r}", result.word == word, result.said)
+            self.must(f"{words} {text!r}: last line", result.said[-1].startswith(last),
+                      result.said[-1])

@@ -12,24 +12,25 @@ from subtitles.common.times import TICKS
 from subtitles.judging.sentence import FAULT_CLAUSES
 from .bench import BENCH, Case
 from .judged import ProgrammeCase, judge_files
-from .streams import mpeg_2_picture, with_pictures
-from .planted import FIRST, Programme, plant_fault
-from .transmissions import Sent, pes_file, write_subtitle_file
+from .streams import add_pictures, make_mpeg_2_picture
+from .planted import FIRST_TCI, Programme, plant_fault
+from .transmissions import SentPes, join_pes_packets, write_subtitle_file
 
 JPEG_2000 = 0x21  # stream_type of a video format that is not supported
-ADVICE = ("--within", "--keeping", "--no-complete", "--allow-lost", "--severity", "--pace")
+ADVICE_OPTIONS = ("--within", "--keeping", "--no-complete", "--allow-lost", "--severity", "--pace")
 
 
-def off_grid(sent: Sent, every: int, first: int, ticks: int) -> Sent:
+def shift_pts_off_frames(sent: SentPes, every: int, first: int, ticks: int) -> SentPes:
     """Shift the PTS of each `every`-th PES packet from packet `first` on by `ticks`."""
     return [(pts + ticks * (at >= first and (at - first) % every == 0), some)
             for at, (pts, some) in enumerate(sent)]
 
 
 class OffFramePts(ProgrammeCase):
-    due = [(FIRST + 100 * at, FIRST + 100 * at + (100 if at % 3 else 60)) for at in range(10)]
+    due = [(FIRST_TCI + 100 * at, FIRST_TCI + 100 * at + (100 if at % 3 else 60))
+           for at in range(10)]
 
-    def test_leads_with_off_frame_pts(self) -> None:
+    def test_reports_off_frame_pts_first(self) -> None:
         rows = {"each second, a tick": (2, 1, 1, "1 tick (0.01 ms)"),
                 "each second, behind the first": (2, 0, 1, "1 tick (0.01 ms)"),
                 "each third, 10 ms": (3, 0, 900, "900 ticks (10.00 ms)"),
@@ -37,56 +38,56 @@ class OffFramePts(ProgrammeCase):
                 "the last of all alone": (1000, 36, 7, "7 ticks (0.08 ms)"),
                 "one cue alone": (1000, 8, 90, "90 ticks (1.00 ms)")}
         for name, (every, first, ticks, words) in rows.items():
-            sent = off_grid(self.sent, every, first, ticks)
-            found = self.judge(sent, "--every", "25")
-            sentence = found.verdict.sentence
+            sent = shift_pts_off_frames(self.sent, every, first, ticks)
+            judged_pair = self.judge(sent, "--every", "25")
+            sentence = judged_pair.verdict.sentence
             self.check(f"{name}: leads", sentence.startswith("Refused: from PES packet ") and
                        f" on, PTS differ from the times of their frames by up to {words}" in
                        sentence, True)
-            self.check(f"{name}: advice", [word for word in ADVICE if word in "".join(
-                [sentence, *found.result["hints"]])], [])
+            self.check(f"{name}: advice", [word for word in ADVICE_OPTIONS if word in "".join(
+                [sentence, *judged_pair.result["hints"]])], [])
             self.check(f"{name}: within 1", self.judge(
                 sent, "--every", "26", "--within", "1").word, "accepted")
 
-    def test_leads_with_a_text_that_was_never_sent(self) -> None:
+    def test_reports_a_never_sent_text_first(self) -> None:
         begin, end = (3600 * frame for frame in self.due[6])
-        sent = [one for one in self.sent if not begin <= one[0] < end]
-        found = self.judge(off_grid(sent, 1000, 2, 9), "--every", "25")
-        self.check("sentence", "subtitle 7" in found.verdict.sentence and
-                   "was never sent" in found.verdict.sentence, True)
+        sent = [item for item in self.sent if not begin <= item[0] < end]
+        result = self.judge(shift_pts_off_frames(sent, 1000, 2, 9), "--every", "25")
+        self.check("sentence", "subtitle 7" in result.verdict.sentence and
+                   "was never sent" in result.verdict.sentence, True)
 
 
 class EarlyFirstSubtitle(ProgrammeCase):
-    due = [(FIRST + 100 * at, FIRST + 100 * at + 60) for at in range(10)]
+    due = [(FIRST_TCI + 100 * at, FIRST_TCI + 100 * at + 60) for at in range(10)]
 
     def test_refuses_and_names_an_early_first_subtitle(self) -> None:
         pts, page = self.sent[0]
         early, blank = (pts - 25 * TICKS, page), (pts - 26 * TICKS, [page[0], page[-1]])
-        several: list[Sent] = [[], [blank]]
+        several: list[SentPes] = [[], [blank]]
         for ticks in (0, TICKS // 2, TICKS):
             for before in several:
                 sent = [part for at, some in [*before, early, *self.sent] for part in (
                     [(at, some[:1]), (at + ticks, some[1:])] if ticks and len(some) > 2
                     else [(at, some)])]
-                found = self.judge(sent, "--every", "27", "--within", "1")
+                result = self.judge(sent, "--every", "27", "--within", "1")
                 sentence = 'Refused: subtitle 1 at 10:00:00:00, "Number 1", appeared 25 frames ' \
                            'early.'
                 self.check(f"rows {ticks} ticks later, {len(before)} blank", (
-                    found.word, found.verdict.sentence == sentence), ("refused", ticks < TICKS))
+                    result.word, result.verdict.sentence == sentence), ("refused", ticks < TICKS))
 
 
 class NoClock(ProgrammeCase):
     words = ("--every", "25")
 
-    def test_advises_only_what_works_for_the_recording(self) -> None:
-        first, pes = TICKS * 40, pes_file(self.sent)
-        pictures = with_pictures(pes, first).data
-        of_other = with_pictures(pes, first, JPEG_2000, mpeg_2_picture()).data
+    def test_advises_only_options_that_work(self) -> None:
+        first, pes = TICKS * 40, join_pes_packets(self.sent)
+        pictures = add_pictures(pes, first).data
+        of_other = add_pictures(pes, first, JPEG_2000, make_mpeg_2_picture()).data
         for name, data, is_start in (("PES packets", pes, False), ("MPEG-2", pictures, True),
                                      ("JPEG 2000", of_other, False)):
-            found = judge_files(self, self.stl, self.write("one", data), *self.words)
-            advice = found.verdict.sentence.partition(" was not checked: ")[2]
-            self.check(name, (found.verdict.word, "--start" in advice, "--origin" in advice),
+            result = judge_files(self, self.stl, self.write("one", data), *self.words)
+            advice = result.verdict.sentence.partition(" was not checked: ")[2]
+            self.check(name, (result.verdict.word, "--start" in advice, "--origin" in advice),
                        ("relative", is_start, True))
 
 
@@ -101,9 +102,9 @@ class Blocks(Case):
             stl = write_subtitle_file(self,
                                       [(100, 150, b"One"), (200, 250, text), (300, 350, b"Three")],
                                 first=7)
-            found = judge_files(self, stl)
+            result = judge_files(self, stl)
             begin = f'Refused: in subtitle 2 (SN 8) at 00:00:08:00, "{shown}" (block 2), {words}'
-            self.check(name, found.verdict.sentence[:len(begin)], begin)
+            self.check(name, result.verdict.sentence[:len(begin)], begin)
         stl = self.write("none.stl", b"no file of subtitles")
         self.check("of no block", judge_files(self, stl).verdict.sentence.startswith(
             "Refused: in block 0, "), True)
@@ -112,44 +113,45 @@ class Blocks(Case):
 class Advice(ProgrammeCase):
     def test_never_advises_an_option_that_accepts_the_fault(self) -> None:
         for number, words in FAULT_CLAUSES.items():
-            self.check(f"{number}", [one for one in ADVICE if one in words and number != 79], [])
+            self.check(f"{number}",
+                       [item for item in ADVICE_OPTIONS if item in words and number != 79], [])
 
 
 COUNT, NAMED = 100, 95  # number of programmes, and minimum number of named faults
 
 
-def sentence_of(case: Case, made: Programme) -> str:
+def judge_for_sentence(case: Case, programme: Programme) -> str:
     """Judge a programme with --origin, and return the sentence about its verdict."""
-    path = case.write("planted.pes", pes_file(made.sent()))
-    return judge_files(case, made.stl, path, "--origin", "0",
-                  *made.inserter.options()).verdict.sentence
+    path = case.write("planted.pes", join_pes_packets(programme.sent()))
+    return judge_files(case, programme.stl, path, "--origin", "0",
+                  *programme.inserter.options()).verdict.sentence
 
 
 class PlantedFaults(Case):
-    def test_names_at_least_95_of_100_planted_faults(self) -> None:
+    def test_finds_at_least_95_of_100_planted_faults(self) -> None:
         others = list[tuple[int, object, str]]()
         for number in range(COUNT):
-            made = plant_fault(self, number)
-            sentence = sentence_of(self, made)
+            result = plant_fault(self, number)
+            sentence = judge_for_sentence(self, result)
             self.check(f"{number}: refused", sentence[:8], "Refused:")
-            if not made.is_named(sentence):
-                others.append((number, made.fault, sentence))
+            if not result.is_named(sentence):
+                others.append((number, result.fault, sentence))
         self.must(f"{NAMED} of {COUNT} are named", COUNT - len(others) >= NAMED, others)
 
 
 def main(program: str, first: int, last: int) -> None:
     """Print each planted fault that qc does not report, and the numbers of faults."""
     BENCH.chosen = program
-    case = PlantedFaults("test_names_at_least_95_of_100_planted_faults")
+    case = PlantedFaults("test_finds_at_least_95_of_100_planted_faults")
     counts = collections.Counter[str]()
     case.setUp()
     for number in range(first, last):
-        made = plant_fault(case, number)
-        sentence, kind = sentence_of(case, made), made.fault.kind if made.fault else ""
-        is_named = made.is_named(sentence)
+        result = plant_fault(case, number)
+        sentence, kind = judge_for_sentence(case, result), result.fault.kind if result.fault else ""
+        is_named = result.is_named(sentence)
         counts[kind if is_named else f"{kind}, not named"] += 1
         if not is_named:
-            print(number, made.inserter.name, made.fault, sentence, flush=True)
+            print(number, result.inserter.name, result.fault, sentence, flush=True)
     print(dict(sorted(counts.items())), flush=True)
 
 

@@ -15,14 +15,14 @@ from unittest import mock
 
 from developing.every_place import due as defined
 from developing.every_place.arguments import parse_options
-from developing.multiplex import BEGINS, PACKET, PAYLOAD, make_head
+from developing.multiplex import PACKET, PAYLOAD, PAYLOAD_START, make_packet_header
 from developing.stl import make_gsi_block, make_tti_block
 from subtitles.cli.collection import make_pair_row, format_summary
 from subtitles.common.command_line import counted
-from subtitles.common.times import ALL_DAY, Between
+from subtitles.common.times import ALL_DAY, FrameRange
 from subtitles.formats.listing import parse_fault_line
 from subtitles.formats.stl import NamedSubtitle, Subtitle, SubtitleFile
-from subtitles.formats.teletext import BY_WORD, OPTIONS, has_characters
+from subtitles.formats.teletext import OPTIONS, OPTION_BY_WORD, has_characters
 from subtitles.judging import subtitles
 from subtitles.judging.pair import PairJudge
 from subtitles.judging.subtitles import (
@@ -30,67 +30,72 @@ from subtitles.judging.subtitles import (
     has_valid_subtitles)
 from subtitles.request.commands import OutputNames
 from subtitles.results.files import make_row
-from subtitles.stream.receiver import national_option
-from .bench import Case, example_bytes
+from subtitles.stream.receiver import read_national_option
+from .bench import Case, read_example_file
 from .judged import JudgedPair, judge_files
-from .parts import make_answer, fault_of
+from .parts import make_answer, parse_single_fault
 from .transmissions import (
-    Shown, pes_file, delayed, with_new_pts, packets, schedule_pages, subtitle_times)
-from .test_judging_pairs import UNREAD, broken
+    ShownSubtitle, join_pes_packets, make_delay, replace_pts, packets, schedule_pages,
+    subtitle_times)
+from .test_judging_pairs import UNREAD, damage_packet
 from .test_judging_reasons import KEEPING_HEADER
-from .test_judging_verdicts import verdict_of
+from .test_judging_verdicts import make_part_verdict
 
 BAD = b"\xe6: no letter"
-CURE = "replace it (it needs another region, or packets X/26, which are refused with fault 70)"
+REPLACE_ADVICE = "replace it (it needs another region, or packets X/26, which are refused with " \
+    "fault 70)"
 WORDS = "--origin", "0", "--every", "100"
 PAGE = 0, 0x88
 
 
-def stl_of(blocks: Sequence[Shown], changes: dict[int, dict[int, int]] | None = None) -> bytes:
+def make_stl_of_blocks(blocks: Sequence[ShownSubtitle],
+                       changes: dict[int, dict[int, int]] | None = None) -> bytes:
     """Return a subtitle file; `changes` maps block numbers to bytes changed in the block."""
-    made = []
+    result = []
     for number, (begin, end, text) in enumerate(blocks, 1):
-        one = bytearray(make_tti_block(number, begin, end, 22, 2, text))
+        item = bytearray(make_tti_block(number, begin, end, 22, 2, text))
         for at, byte in (changes or {}).get(number, {}).items():
-            one[at] = byte
-        made.append(bytes(one))
-    return make_gsi_block(b"Beside", len(blocks), len(blocks)) + b"".join(made)
+            item[at] = byte
+        result.append(bytes(item))
+    return make_gsi_block(b"Beside", len(blocks), len(blocks)) + b"".join(result)
 
 
 class RefusedSubtitles(Case):
     def setUp(self) -> None:
         super().setUp()
-        self.blocks: list[Shown] = [(begin, end, b"Number %d" % number)
-                                    for number, (begin, end) in enumerate(subtitle_times(10), 1)]
-        self.stl = self.write("good.stl", stl_of(self.blocks))
+        self.blocks: list[ShownSubtitle] = [(begin, end, b"Number %d" % number)
+                                            for number,
+                                            (begin, end) in enumerate(subtitle_times(10), 1)]
+        self.stl = self.write("good.stl", make_stl_of_blocks(self.blocks))
         self.sent = schedule_pages(self, self.stl)
-        self.pes = self.write("one.pes", pes_file(self.sent))
+        self.pes = self.write("one.pes", join_pes_packets(self.sent))
 
     def write_stl(self, *bad: int) -> str:
         """Write the subtitle file, with an unsupported character in the subtitles `bad`."""
-        return self.write("bad.stl", stl_of([
+        return self.write("bad.stl", make_stl_of_blocks([
             (begin, end, BAD if number in bad else text)
             for number, (begin, end, text) in enumerate(self.blocks, 1)]))
 
-    def judge(self, stl: str, *words: str) -> JudgedPair:
-        return judge_files(self, stl, *words, *WORDS)
+    def judge(self, stl: str, *args: str) -> JudgedPair:
+        return judge_files(self, stl, *args, *WORDS)
 
-    def test_counts_judged_and_names_refused_subtitles(self) -> None:
+    def test_counts_judged_and_lists_refused_subtitles(self) -> None:
         first = "subtitle 3 at 00:00:12:00 has fault 50 Character (\u0132): no national option " \
-            f"has \u0132: {CURE}"
-        slow = self.write("slow.pes", pes_file(delayed(5, 3600 * 600, 3600 * 650)(self.sent)))
+            f"has \u0132: {REPLACE_ADVICE}"
+        slow = self.write("slow.pes",
+                          join_pes_packets(make_delay(5, 3600 * 600, 3600 * 650)(self.sent)))
         for pes, end in ((self.pes, "all have the right text from the first frame to the last"),
                          (slow, 'subtitle 6 at 00:00:24:00, "Number 6", appeared 5 frames late')):
-            found = self.judge(self.write_stl(3), pes)
-            self.must(pes, found.word == "refused" and found.verdict.sentence ==
+            result = self.judge(self.write_stl(3), pes)
+            self.must(pes, result.word == "refused" and result.verdict.sentence ==
                       f"Refused: {first}; 9 other subtitles were judged: {end}.",
-                      found.verdict.sentence)
-            self.must(f"{pes}: line", found.said[-1] == "refused 50 Character block 3 at 0" and
-                      found.verdict.status == 1 and found.lines("undecided: ") == [
+                      result.verdict.sentence)
+            self.must(f"{pes}: line", result.said[-1] == "refused 50 Character block 3 at 0" and
+                      result.verdict.status == 1 and result.lines("undecided: ") == [
                           first.replace(" has fault", ", until 00:00:14:10, has fault", 1)],
-                      found.said)
-            self.must(f"{pes}: list", found.listed[0] == found.said[-1] and
-                      "refused 78 Undecided frame 00:00:10:10" in found.listed, found.listed)
+                      result.said)
+            self.must(f"{pes}: list", result.listed[0] == result.said[-1] and
+                      "refused 78 Undecided frame 00:00:10:10" in result.listed, result.listed)
         for bad, words, more in (((3, 5), "2 of 10 subtitles have faults: subtitle 3 at ", ""),
                                  (range(2, 6), "4 of 10 subtitles have faults: ", " and 1 more; 6"),
                                  (range(2, 9), "7 of 10 subtitles have ", " and 4 more; 3 other")):
@@ -101,20 +106,20 @@ class RefusedSubtitles(Case):
     def test_writes_both_counts_into_all_results(self) -> None:
         files = {"--json": self.path("x.json"), "--csv": self.path("x.csv"),
                  "--junit": self.path("x.xml")}
-        found = self.judge(self.write_stl(3, 7), self.pes, *(
+        judged_pair = self.judge(self.write_stl(3, 7), self.pes, *(
             word for option in files.items() for word in option))
         known = json.loads(self.read("x.json"))
         self.must("result", known["subtitle_counts"] == {"judged": 8, "refused": 2} ==
-                  found.result["subtitle_counts"] and known["fault_count"] == 4, known)
-        self.must("faults", [(one["number"], one["subtitle"] and one["subtitle"]["position"],
-                              one["character"]) for one in known["faults"]] == [
+                  judged_pair.result["subtitle_counts"] and known["fault_count"] == 4, known)
+        self.must("faults", [(item["number"], item["subtitle"] and item["subtitle"]["position"],
+                              item["character"]) for item in known["faults"]] == [
             (50, 3, "\u0132"), (50, 7, "\u0132"), (78, None, None), (78, None, None)],
             known["faults"])
         verdicts = ["wrong" if position in (3, 7) else "right" for position in range(1, 11)]
-        found_verdicts = [one["verdict"] for one in known["subtitles"]]
+        found_verdicts = [item["verdict"] for item in known["subtitles"]]
         self.must("subtitles", found_verdicts == verdicts, found_verdicts)
         rows = list(csv.DictReader(self.read("x.csv").decode().splitlines()))
-        self.must("table", [one["verdict"] for one in rows] == ["refused", *verdicts], rows)
+        self.must("table", [item["verdict"] for item in rows] == ["refused", *verdicts], rows)
         words, case = "8 subtitles judged, 2 refused", tree.fromstring(self.read("x.xml"))
         self.must("case", words in "".join(case.itertext()))
         row = make_row(known, "one")
@@ -125,32 +130,37 @@ class RefusedSubtitles(Case):
                              ((self.write_stl(3),), None)):
             result = judge_files(self, *more).result
             self.must(f"{more}", result["subtitle_counts"] == counts, result)
-        found = self.judge(self.write("near.stl", stl_of(self.blocks, {4: {7: 14}})), self.pes)
-        self.must("overlapped", [one["verdict"] for one in found.result["subtitles"]][1:5] ==
-                  ["right", "not known", "wrong", "right"], found.said)
+        judged_pair = self.judge(self.write("near.stl", make_stl_of_blocks(self.blocks,
+                                                                           {4: {7: 14}})), self.pes)
+        self.must("overlapped",
+                  [item["verdict"] for item in judged_pair.result["subtitles"]][1:5] ==
+                  ["right", "not known", "wrong", "right"], judged_pair.said)
 
-    def test_waives_faults_of_the_subtitle_file_and_78_by_number(self) -> None:
-        slow = self.write("slow.pes", pes_file(delayed(5, 3600 * 600, 3600 * 650)(self.sent)))
+    def test_waives_file_faults_and_fault_78_by_number(self) -> None:
+        slow = self.write("slow.pes",
+                          join_pes_packets(make_delay(5, 3600 * 600, 3600 * 650)(self.sent)))
         for text, pes, word in ((b"50 warning\n78 warning\n", self.pes, "waived"),
                                 (b"50 warning\n", self.pes, "refused"),
                                 (b"78 warning\n", self.pes, "refused"),
                                 (b"50 warning\n78 warning\n", slow, "refused"),
                                 (b"50 warning\n78 warning\n72 warning\n", slow, "waived"),
                                 (b"others warning\n", self.pes, "waived")):
-            found = self.judge(self.write_stl(3), pes, "--severity", self.write("severity", text))
-            self.must(f"{text!r} {pes}", found.word == word, found.said)
+            judged_pair = self.judge(self.write_stl(3), pes, "--severity",
+                                     self.write("severity", text))
+            self.must(f"{text!r} {pes}", judged_pair.word == word, judged_pair.said)
             self.must(f"{text!r} {pes}: each", {
-                (one["number"], one["severity"]) for one in found.result["faults"]} >= {
-                    (50, "error" if text[:2] == b"78" else "warning")}, found.result["faults"])
-            self.must(f"{text!r} {pes}: said", pes == slow or found.verdict.sentence.endswith(
+                (item["number"], item["severity"]) for item in judged_pair.result["faults"]} >= {
+                    (50, "error" if text[:2] == b"78" else "warning")},
+                      judged_pair.result["faults"])
+            self.must(f"{text!r} {pes}: said", pes == slow or judged_pair.verdict.sentence.endswith(
                 "9 other subtitles were judged: all have the right text from the first frame to "
-                "the last."), found.verdict.sentence)
+                "the last."), judged_pair.verdict.sentence)
         unread = self.write("unread.pes", b"".join(
-            broken(one, 33) for one in packets(self.read("one.pes"))))
-        found = self.judge(self.write_stl(3), unread, "--severity",
-                           self.write("severity", b"others warning\n"))
-        self.must("nothing was read", found.word == "not judged" and
-                  found.verdict.unjudged_reason == UNREAD, found.said)
+            damage_packet(item, 33) for item in packets(self.read("one.pes"))))
+        judged_pair = self.judge(self.write_stl(3), unread, "--severity",
+                                 self.write("severity", b"others warning\n"))
+        self.must("nothing was read", judged_pair.word == "not judged" and
+                  judged_pair.verdict.unjudged_reason == UNREAD, judged_pair.said)
 
     def test_ignores_refused_subtitles_outside_the_range(self) -> None:
         for words, word, counts in (
@@ -158,30 +168,33 @@ class RefusedSubtitles(Case):
                 (("--to", "00:00:12:00"), "accepted", (2, 0)),
                 (("--to", "00:00:24:00"), "refused", (4, 1)),
                 (("--from", "00:00:20:00", "--to", "00:00:10:00"), "not judged", None)):
-            found = self.judge(self.write_stl(3), self.pes, *words)
-            self.must(f"{words}", found.word == word and found.verdict.subtitle_counts == (
-                counts and SubtitleCounts(*counts)), found.said)
+            result = self.judge(self.write_stl(3), self.pes, *words)
+            self.must(f"{words}", result.word == word and result.verdict.subtitle_counts == (
+                counts and SubtitleCounts(*counts)), result.said)
         self.must("none is left", " has no subtitle with a TCI at " in
-                  found.told[0], found.told)
+                  result.told[0], result.told)
 
     def test_judges_each_part_with_refused_subtitles(self) -> None:
-        two = [(pts + 3600 * 500 * (pts >= 3600 * 480), some) for pts, some in self.sent]
-        kept = [(pts, [KEEPING_HEADER, *some[1:]] if at in (2, 40) else some)
-                for at, (pts, some) in enumerate(two)]
+        two = [(pts + 3600 * 500 * (pts >= 3600 * 480), packets) for pts, packets in self.sent]
+        kept = [(pts, [KEEPING_HEADER, *packets[1:]] if at in (2, 40) else packets)
+                for at, (pts, packets) in enumerate(two)]
         for bad, sent, printed in (((7,), two, "all have the right text"),
                                 ((2, 7), two, "all have the right text"),
                                 ((2, 7), kept, " headers; 2 faults in all.")):
-            found = judge_files(self, self.write_stl(*bad), self.write("two.pes", pes_file(sent)),
+            judged_pair = judge_files(self, self.write_stl(*bad),
+                                      self.write("two.pes", join_pes_packets(sent)),
                            "--breaks",
                            "1", "--every", "100")
             self.must(f"{bad} {printed}",
-                      found.word == "refused" and printed in found.verdict.sentence
-                      and len(found.result["parts"]) == 2 and
-                      found.verdict.subtitle_counts == SubtitleCounts(10 - len(bad), len(bad)),
-                      found.said)
+                      judged_pair.word == "refused" and printed in judged_pair.verdict.sentence
+                      and len(judged_pair.result["parts"]) == 2 and
+                      judged_pair.verdict.subtitle_counts == SubtitleCounts(10 - len(bad),
+                                                                            len(bad)),
+                      judged_pair.said)
 
     def test_lists_refused_and_late_subtitles_in_the_report(self) -> None:
-        slow = self.write("slow.pes", pes_file(delayed(5, 3600 * 600, 3600 * 650)(self.sent)))
+        slow = self.write("slow.pes",
+                          join_pes_packets(make_delay(5, 3600 * 600, 3600 * 650)(self.sent)))
         for number, (bad, pes) in enumerate((((3,), self.pes), ((3, 4, 9), slow))):
             out, stl = self.path(f"out{number}"), self.write_stl(*bad)
             self.judge(stl, pes, "-o", out)
@@ -194,9 +207,9 @@ class RefusedSubtitles(Case):
                 self.must(f"{bad} {name}: links", links <= {*names, "n78"}, links - {*names})
                 rows = dict(re.findall(r'<tr id="s(\d+)" class="([^"]+)"', page))
                 self.must(f"{bad} {name}: all", len(rows) == 10, rows)
-                refused = {int(one) for one, kinds in rows.items() if "n50" in kinds}
+                refused = {int(item) for item, kinds in rows.items() if "n50" in kinds}
                 self.must(f"{bad} {name}: refused", refused == set(bad), rows)
-                moved_rows = {int(one) for one, kinds in rows.items()
+                moved_rows = {int(item) for item, kinds in rows.items()
                               if re.search(r"\bc\d", kinds)}
                 self.must(f"{bad} {name}: late", moved_rows == (
                     {6} if len(bad) > 1 else set()), rows)
@@ -212,23 +225,24 @@ class RefusedSubtitles(Case):
                 ((), 0, ""), ((3,), 0, f"{others}all have the right text from the first"),
                 ((3,), 5, f'{others}subtitle 6 at 00:00:24:00, "Nümber 6", appeared 5 frames '
                           'late')):
-            def with_late(_: int, pts: int, by: int = by) -> int:
+            def shift_late_pts(_: int, pts: int, by: int = by) -> int:
                 return pts + 3600 * by * (pts == 3600 * 600)
 
-            path = self.write("one.pes", with_new_pts(self.read("house.pes"), with_late))
-            found = self.judge(self.write_stl(*bad), path, *words)
-            self.must(f"{bad} {by}", found.word == ("refused" if bad else "accepted") and
-                      printed in found.verdict.sentence and
-                      " --layout " in found.lines("+ ")[-1], found.said)
+            path = self.write("one.pes", replace_pts(self.read("house.pes"), shift_late_pts))
+            result = self.judge(self.write_stl(*bad), path, *words)
+            self.must(f"{bad} {by}", result.word == ("refused" if bad else "accepted") and
+                      printed in result.verdict.sentence and
+                      " --layout " in result.lines("+ ")[-1], result.said)
 
-    def test_notes_why_the_others_cannot_be_judged(self) -> None:
+    def test_notes_why_other_subtitles_are_not_judged(self) -> None:
         empty = self.write("empty.pes", b"")
-        found = judge_files(self, self.write_stl(3), empty, *WORDS)
-        self.must("refused", found.word == "refused" and found.listed == [
+        judged_pair = judge_files(self, self.write_stl(3), empty, *WORDS)
+        self.must("refused", judged_pair.word == "refused" and judged_pair.listed == [
             "refused 50 Character block 3 at 0", "1 faults"] and
-            found.result["subtitle_counts"] is None and
-            f"the other subtitles were not judged: {empty} is empty" in found.verdict.notes and
-            " (block 3), the national option " in found.verdict.sentence, found.said)
+            judged_pair.result["subtitle_counts"] is None and
+            f"the other subtitles were not judged: {empty} is empty" in judged_pair.verdict.notes
+                  and
+            " (block 3), the national option " in judged_pair.verdict.sentence, judged_pair.said)
         odd, mild = bytearray(self.read("good.stl")), self.write("severity", b"others warning\n")
         odd[11:12] = b"7"  # with an invalid DSC, all subtitles are refused
         rows: list[tuple[str, list[str], str]] = [
@@ -236,42 +250,44 @@ class RefusedSubtitles(Case):
             (self.write("odd.stl", bytes(odd)), [self.pes], "refused"),
             (self.path("odd.stl"), [], "refused")]
         for stl, more, word in rows:
-            found = judge_files(self, stl, *more, *WORDS, "--severity", mild)
-            self.must(f"named warnings {stl} {more}", found.word == word and
-                      found.verdict.unjudged_reason == (UNREAD if word == "not judged" else None),
-                      found.said)
+            judged_pair = judge_files(self, stl, *more, *WORDS, "--severity", mild)
+            self.must(f"named warnings {stl} {more}", judged_pair.word == word and
+                      judged_pair.verdict.unjudged_reason == (UNREAD if word == "not judged"
+                                                              else None),
+                      judged_pair.said)
         for stl, when in ((self.write_stl(3), "check*--pes*--all*"), (self.stl, "show*")):
-            found = judge_files(self, stl, self.pes, *WORDS, by=self.program_but(when, "exit 9"))
-            self.must(f"{when}: not answered", found.word == "not judged", found.said)
+            judged_pair = judge_files(self, stl, self.pes, *WORDS,
+                                      by=self.make_program_with_exception(when, "exit 9"))
+            self.must(f"{when}: not answered", judged_pair.word == "not judged", judged_pair.said)
         with mock.patch("subtitles.judging.pair.find_parts", side_effect=ValueError):
-            found = judge_files(self, self.write_stl(3), self.pes, *WORDS)
-        self.must("a mistake", found.word == "not judged", found.said)
+            judged_pair = judge_files(self, self.write_stl(3), self.pes, *WORDS)
+        self.must("a mistake", judged_pair.word == "not judged", judged_pair.said)
 
     def test_lists_forty_of_many_refused_subtitles(self) -> None:
         bad = range(19, 800, 19)
-        file = SubtitleFile(self.write("many.stl", stl_of([
+        file = SubtitleFile(self.write("many.stl", make_stl_of_blocks([
             (200 * at, 200 * at + 100, BAD if at in bad else b"Number %d" % at)
             for at in range(1, 801)])))
-        faults = [fault_of(f"refused 50 Character block {at} at 0") for at in bad]
+        faults = [parse_single_fault(f"refused 50 Character block {at} at 0") for at in bad]
         with mock.patch.object(subtitles, "has_characters", side_effect=has_characters) as request:
-            found = find_valid_subtitles(file, faults, "english")
-        self.must("once", len(found.judged) == 758 and request.call_count <= 759 * len(OPTIONS),
+            result = find_valid_subtitles(file, faults, "english")
+        self.must("once", len(result.judged) == 758 and request.call_count <= 759 * len(OPTIONS),
                   request.call_count)
         names, verdict, nothing = OutputNames("many", self.folder,
-                                              None), verdict_of([]), mock.Mock()
+                                              None), make_part_verdict([]), mock.Mock()
         names.set_subtitle_file(self.path("many.stl"))
         reported = PairJudge(verdict, nothing, names, nothing,
                              False).find_valid_subtitles(make_answer(
-            [*(one.line for one in faults), "refused 60 Empty", "43 faults"],
+            [*(fault.line for fault in faults), "refused 60 Empty", "43 faults"],
             path=self.path("all.txt")))
         self.must("all are left out",
                   verdict.valid_subtitles and len(verdict.valid_subtitles.judged) == 758 and
-                  verdict.valid_subtitles.skipped_positions == found.skipped_positions,
+                  verdict.valid_subtitles.skipped_positions == result.skipped_positions,
                   verdict.valid_subtitles)
         self.must("of the file",
                   (reported.fault_count, reported.fault_numbers,
                    reported.last_line) == (42, {50}, "42 faults"))
-        self.must("lines", [*found.format_lines()][40:] == ["undecided: 2 more subtitles"])
+        self.must("lines", [*result.format_lines()][40:] == ["undecided: 2 more subtitles"])
 
 
 class ExpectedPages(unittest.TestCase):
@@ -279,8 +295,8 @@ class ExpectedPages(unittest.TestCase):
         rows: list[tuple[set[int], bool]] = [
             ({60}, False), ({50}, False), ({50, 60}, True), (set(), False), ({10, 60}, True),
             ({72, 60}, False), ({57, 78, 60}, True)]
-        for numbers, wanted in rows:
-            self.assertEqual(has_valid_subtitles(numbers), wanted, numbers)
+        for numbers, expected in rows:
+            self.assertEqual(has_valid_subtitles(numbers), expected, numbers)
 
     def test_expects_a_blank_page_between_subtitles(self) -> None:
         for gap, option in itertools.product(range(4), ("english", "german")):
@@ -289,23 +305,25 @@ class ExpectedPages(unittest.TestCase):
             due = draw_valid_pages(some, PAGE, option)
             frames, decoded = range(99, 203 + gap), due.timeline
             assert decoded
-            self.assertEqual(list(map(decoded.page_at, frames)), list(map(due.page_at, frames)),
-                             gap)
-            self.assertEqual({national_option(decoded.state_at(frame).header or b"") for frame in
-                              frames[1:]}, {BY_WORD[option].bits}, (gap, option))
+            self.assertEqual(list(map(decoded.get_page_at, frames)),
+                             list(map(due.get_page_at, frames)), gap)
+            self.assertEqual({read_national_option(decoded.get_state_at(frame).header or b"")
+                              for frame in frames[1:]}, {OPTION_BY_WORD[option].bits},
+                             (gap, option))
 
     def test_names_the_first_refused_subtitles_and_counts_the_others(self) -> None:
         for count in (0, 1, 2, 3, 4, 5, 39, 40, 41, 42):
             refused = [RefusedSubtitle(NamedSubtitle(at, at, "00:00:01:00", "00:00:02:00"),
-                                       fault_of(f"refused 19 Row block {at}"), f"letter {at}", "")
+                                       parse_single_fault(f"refused 19 Row block {at}"),
+                                       f"letter {at}", "")
                        for at in range(1, count + 1)]
-            found = ValidSubtitles([], refused, frozenset(range(count + 2)))
+            valid_subtitles = ValidSubtitles([], refused, frozenset(range(count + 2)))
             more = [f"undecided: {counted(count - 40, 'more subtitle')}"] * (count > 40)
-            self.assertEqual([*found.format_lines()],
-                             [one.format_line() for one in refused[:40]] + more, count)
+            self.assertEqual([*valid_subtitles.format_lines()],
+                             [item.format_line() for item in refused[:40]] + more, count)
             if count < 2:
                 continue
-            printed = found.describe()
+            printed = valid_subtitles.describe()
             self.assertTrue(printed.startswith(f"{count} of {count + 2} subtitles have faults: "),
                             count)
             self.assertEqual([at for at in range(1, count + 1) if f" (letter {at})" in printed],
@@ -316,9 +334,9 @@ class ExpectedPages(unittest.TestCase):
 
 
 class RandomFiles(Case):
-    def random_file(self, chance: random.Random) -> bytes:
+    def make_random_stl_file(self, chance: random.Random) -> bytes:
         """Return a file of up to eight random subtitles, some overlapping, unordered or invalid."""
-        blocks: list[Shown] = []
+        blocks: list[ShownSubtitle] = []
         frame = chance.randrange(1, 1000)
         for number in range(chance.randrange(1, 9)):
             begin = frame + chance.choice([0, 0, 5, 40, -60 if number else 0])
@@ -329,83 +347,89 @@ class RandomFiles(Case):
         changes = {number: chance.choice([{4: 1}, {14: 4}, {13: 0}, {12: 25}, {15: 1}, {8: 99},
                                           {14: 1}, {14: 3, 13: 20}])
                    for number in range(1, len(blocks) + 1) if chance.random() < 0.25}
-        return stl_of(blocks, changes)
+        return make_stl_of_blocks(blocks, changes)
 
     def test_agrees_with_the_second_implementation(self) -> None:
         chance, beside = random.Random(5), 0
         for _ in range(400):
-            data, between = self.random_file(chance), ALL_DAY
+            data, between = self.make_random_stl_file(chance), ALL_DAY
             if chance.random() < 0.3:
-                between = Between(chance.randrange(200), chance.randrange(200, 900))
+                between = FrameRange(chance.randrange(200), chance.randrange(200, 900))
             options = parse_options(between.words())
-            wanted = defined.judge_subtitles(data, options)
-            if wanted.records is None or not wanted.lines:
+            expected = defined.judge_subtitles(data, options)
+            if expected.records is None or not expected.lines:
                 continue
             beside += 1
             file = SubtitleFile(self.write("one.stl", data), between)
-            found = find_valid_subtitles(file, filter(None, map(parse_fault_line, wanted.lines)),
-                                         "english")
-            self.must(f"{wanted.lines}", [(one.begin, one.end) for one in found.judged] == [
-                (one.tci, one.tco) for one in wanted.records], found)
-            first, places = dict[int, str](), {one.index for one in found.judged}
-            for line in wanted.lines:
+            valid_subtitles = find_valid_subtitles(file, filter(None, map(parse_fault_line,
+                                                                          expected.lines)),
+                                                   "english")
+            self.must(f"{expected.lines}",
+                      [(item.begin, item.end) for item in valid_subtitles.judged] == [
+                (item.tci, item.tco) for item in expected.records], valid_subtitles)
+            first, places = dict[int, str](), {item.index for item in valid_subtitles.judged}
+            for line in expected.lines:
                 reported = parse_fault_line(line)
                 own = file.find_by_block(
                     reported.block) if reported and reported.block is not None else None
                 if own:
                     first.setdefault(own.position, line)
-            self.must(f"{wanted.lines}: refused", [
-                (each.subtitle.position, each.fault.line) for each in found.refused] ==
-                sorted(first.items()), found.refused)
-            self.must("left out", not places & found.skipped_positions and (between != ALL_DAY or (
-                places | found.skipped_positions) == {*range(1, len(file.start_blocks) + 1)}),
-                      found)
-            self.must("words", len(first) < 2 or found.describe().startswith(
-                f"{len(first)} of {len(places | found.skipped_positions)} subtitles "),
-                found.describe())
-            due = draw_valid_pages(found.judged, PAGE, "english")
-            pages = defined.ExpectedPages(wanted.records, wanted.has_fault_before, options)
+            self.must(f"{expected.lines}: refused", [
+                (each.subtitle.position, each.fault.line) for each in valid_subtitles.refused] ==
+                sorted(first.items()), valid_subtitles.refused)
+            self.must("left out", not places & valid_subtitles.skipped_positions
+                      and (between != ALL_DAY or (
+                places
+                | valid_subtitles.skipped_positions) == {*range(1, len(file.start_blocks) + 1)}),
+                      valid_subtitles)
+            self.must("words", len(first) < 2 or valid_subtitles.describe().startswith(
+                f"{len(first)} of {len(places | valid_subtitles.skipped_positions)} subtitles "),
+                valid_subtitles.describe())
+            due = draw_valid_pages(valid_subtitles.judged, PAGE, "english")
+            pages = defined.ExpectedPages(expected.records, expected.has_preceding_fault, options)
             decoded = due.timeline
-            for one, rows in zip(found.judged, due.pages):
-                self.must("page", b"".join(rows) == pages.at(one.begin) and decoded and all(
-                    b"".join(decoded.page_at(frame)) == pages.at(frame)
-                    for frame in (one.begin, one.end - 1, one.end)), rows)
+            for item, rows in zip(valid_subtitles.judged, due.pages):
+                self.must("page", b"".join(rows) == pages.at(item.begin) and decoded and all(
+                    b"".join(decoded.get_page_at(frame)) == pages.at(frame)
+                    for frame in (item.begin, item.end - 1, item.end)), rows)
         self.must("some", beside > 60, beside)
 
 
 # Test that very long inputs are read to their end.
 
 NULL_PID, PID = 0x1FFF, 0x101
-NULL = make_head(NULL_PID, 0, PAYLOAD).ljust(PACKET, b"\xff")
-AT_ONCE, TIMES = 1000, 1001  # null packets per write, and number of writes
+NULL = make_packet_header(NULL_PID, 0, PAYLOAD).ljust(PACKET, b"\xff")
+PACKETS_PER_WRITE, TIMES = 1000, 1001  # null packets per write, and number of writes
 
 
 class LongInputs(Case):
     def test_surveys_a_pes_packet_after_a_million_packets(self) -> None:
-        first = packets(example_bytes("hello.pes"))[0]
+        first = packets(read_example_file("hello.pes"))[0]
         parts = [first[at:at + 184] for at in range(0, len(first), 184)]
-        sent = b"".join(make_head(PID, 0 if number else BEGINS, PAYLOAD | number) + part
+        sent = b"".join(make_packet_header(PID, 0 if number else PAYLOAD_START,
+                                           PAYLOAD | number) + part
                         for number, part in enumerate(parts))
         with subprocess.Popen([self.bench.program, "survey", "/dev/stdin"], stdin=subprocess.PIPE,
                               stdout=subprocess.PIPE) as run:
             assert run.stdin and run.stdout
             for _ in range(TIMES):
-                run.stdin.write(NULL * AT_ONCE)
+                run.stdin.write(NULL * PACKETS_PER_WRITE)
             run.stdin.write(sent)
             run.stdin.close()
             lines = run.stdout.read().decode().splitlines()
         self.must("status", run.returncode == 0, run.returncode)
-        self.must("over", lines[-1] == f"over 0 {AT_ONCE * TIMES + len(parts)}", lines[-1])
+        self.must("over", lines[-1] == f"over 0 {PACKETS_PER_WRITE * TIMES + len(parts)}",
+                  lines[-1])
         reported = [line for line in lines if line.startswith(f"pes {PID} 0 1 ")]
         self.must("its PES packet", len(reported) == 1, lines)
 
     def test_judges_around_a_refused_subtitle_after_twelve(self) -> None:
         blocks = [(begin, end, b"Number %d" % number)
                   for number, (begin, end) in enumerate(subtitle_times(14), 1)]
-        self.schedule(self.write("good.stl", stl_of(blocks)), "sent.pes")
+        self.schedule(self.write("good.stl", make_stl_of_blocks(blocks)), "sent.pes")
         begin, end, _ = blocks[12]
         blocks[12] = begin, end, BAD
-        status, lines = self.program("check", self.write("bad.stl", stl_of(blocks)),
+        status, lines = self.program("check", self.write("bad.stl", make_stl_of_blocks(blocks)),
                                      self.path("sent.pes"), "--all")
         self.must("status", status == 1, status)
         self.must("the subtitle", lines[0] == "refused 50 Character block 13 at 0", lines)

@@ -11,9 +11,9 @@ from types import SimpleNamespace
 from typing import Any, Callable
 
 from developing.pes import make_packet
-from subtitles.common.times import CLOCK, TICKS, time_of
+from subtitles.common.times import CLOCK, TICKS, format_frame
 from subtitles.formats.layout import PLAIN, TextFault, make_cell_lines, prepare_line
-from subtitles.clock.start import clock_advice
+from subtitles.clock.start import advise_on_clock
 from subtitles.formats.listing import NamedFault, NOT_SHOWN, parse_fault_line, read_meanings
 from subtitles.formats.stl import Subtitle
 from subtitles.formats.teletext import ENGLISH, OPTIONS
@@ -31,12 +31,13 @@ from subtitles.stream.receiver import BLANK_PAGE
 from .bench import Case
 from .judged import ProgrammeCase, judge_files
 from .transmissions import (
-    CLOSING, HEADER, Sent, pes_file, delay_subtitle, write_programme, row_packet, schedule_pages)
-from .test_formats_characters import ANY_SUBCODE, CHARACTER, LEVEL_1, Receiver, TEXT_AT
-from .test_judging_faults import cause, causes_of
+    CLOSING, HEADER, SentPes, join_pes_packets, delay_subtitle, write_programme, make_numbered_row,
+    schedule_pages)
+from .test_formats_characters import ANY_SUBCODE, CHARACTER, LEVEL_1, Receiver, TEXT_OFFSET
+from .test_judging_faults import cause, make_causes
 
-ADD = f"was not checked: {clock_advice(False)}"
-OF_PACKETS = {3, 4}  # fault numbers that `check` does not report
+ADD = f"was not checked: {advise_on_clock(False)}"
+PACKET_FAULTS_ONLY = {3, 4}  # fault numbers that `check` does not report
 VERB = re.compile(r"\b(is|are|has|have|was|were|does|ends|comes|begins?|differs|fall|appeared|"
                   r"lacks|had|do)\b")
 
@@ -55,7 +56,7 @@ class Sentences(unittest.TestCase):
         fault = parse_fault_line("refused 73 Gap frame 10:00:00:00")
         packet = parse_fault_line("refused 34 Pts pes 0")
         block = parse_fault_line("refused 24 Unfinished block 12")
-        for seen, wanted in (
+        for seen, expected in (
                 (Facts(NOT_JUDGED, 0, reason="no\nmore"), "Not judged: no."),
                 (Facts(NOT_JUDGED, 0), "Not judged: check gave no verdict."),
                 (Facts(ACCEPTED, 1), "Accepted: 1 subtitle has the right "
@@ -108,35 +109,35 @@ class Sentences(unittest.TestCase):
                  "Refused: from 10:00:00:00 on, no header."),
                 (Facts(REFUSED, 2, first=fault, faults=3, hint="no header"),
                  "Refused: from 10:00:00:00 on, no header; 3 faults in all.")):
-            found = write_sentence(seen)
-            self.assertEqual(found, wanted, seen)
+            result = write_sentence(seen)
+            self.assertEqual(result, expected, seen)
         for reported, begin in ((packet, "Refused: in PES packet 0, "),
                                 (block, "Refused: in block 12, "),
                             (fault, "Refused: at 10:00:00:00, ")):
-            found = write_sentence(Facts(WAIVED if reported is None else REFUSED, 1, first=reported,
-                                         faults=1))
-            self.assertTrue(found.startswith(begin) and found.endswith(".") and
-                            found.count(".") == 1 and "`" not in found, found)
+            result = write_sentence(Facts(WAIVED if reported is None else REFUSED, 1,
+                                          first=reported, faults=1))
+            self.assertTrue(result.startswith(begin) and result.endswith(".") and
+                            result.count(".") == 1 and "`" not in result, result)
 
     def test_has_a_sentence_for_each_number(self) -> None:
-        self.assertEqual(set(FAULT_CLAUSES), FAULT_NUMBERS - OF_PACKETS)
-        known = {number for number, one in read_meanings().items() if number in FAULT_NUMBERS}
-        self.assertLessEqual(known - OF_PACKETS, set(FAULT_CLAUSES))
+        self.assertEqual(set(FAULT_CLAUSES), FAULT_NUMBERS - PACKET_FAULTS_ONLY)
+        known = {number for number, item in read_meanings().items() if number in FAULT_NUMBERS}
+        self.assertLessEqual(known - PACKET_FAULTS_ONLY, set(FAULT_CLAUSES))
         for number, words in FAULT_CLAUSES.items():
             for place, begin in (("frame 10:00:00:00", "at 10:00:00:00,"),
                                  ("pes 7", "in PES packet 7,"), ("block 0", "in block 0,"),
                                  ("", "")):
                 reported = parse_fault_line(f"refused {number} Name {place}".rstrip())
-                found = write_sentence(Facts(REFUSED, 1, first=reported, faults=1))
+                result = write_sentence(Facts(REFUSED, 1, first=reported, faults=1))
                 with self.subTest(number=number, place=place):
-                    self.assertEqual(found, " ".join(["Refused:", *begin.split(), words]) + ".")
+                    self.assertEqual(result, " ".join(["Refused:", *begin.split(), words]) + ".")
                     self.assertRegex(words, VERB)
                     self.assertNotRegex(words, r"TIME|\bN frames|\bK\b|`|[;.] |--complete")
 
     def test_has_a_sentence_for_each_cause(self) -> None:
-        for name in [one for one in CAUSE_NAMES if one != TEXT_IN_PAUSE]:
+        for name in [item for item in CAUSE_NAMES if item != TEXT_IN_PAUSE]:
             for several in ([cause(2, name, 3)], [cause(2, name, 3), cause(4, name, 5)]):
-                words = describe_causes(causes_of(*several), "english")
+                words = describe_causes(make_causes(*several), "english")
                 printed = CAUSE_PREDICATES[name][len(
                     several) > 1] if name in CAUSE_PREDICATES else \
                     "appeared 3 "
@@ -148,23 +149,23 @@ class Sentences(unittest.TestCase):
 
 BEGIN = 900_000
 TIMES = [(BEGIN + 50 * at, BEGIN + 50 * at + 40) for at in range(6)]
-KEEPS = make_packet(0, 0, [8, 8, 0, 0, 0, 8, 1, 0], b" " * 32)  # header without erase_page
+KEEPING_HEADER = make_packet(0, 0, [8, 8, 0, 0, 0, 8, 1, 0], b" " * 32)  # header without erase_page
 CONTROL, CONTENT = "67 Control frame 10:00:01:00 packet 0", \
     "72 Content frame 10:00:04:00 row 22 column 14"
 
 
-def with_two_faults(sent: Sent) -> Sent:
+def insert_two_faults(sent: SentPes) -> SentPes:
     """Replace a header with a header that keeps the page, and send a wrong text later."""
-    found = list(sent)
-    found[1:2] = [(found[1][0], [KEEPS, *found[1][1][1:]])]
-    at = next(number for number, (_, some) in enumerate(sent) if b"3" in joined_rows(some))
-    found[at] = (found[at][0], [HEADER, row_packet(22, b"Wrong"), CLOSING])
-    return found
+    result = list(sent)
+    result[1:2] = [(result[1][0], [KEEPING_HEADER, *result[1][1][1:]])]
+    at = next(number for number, (_, some) in enumerate(sent) if b"3" in join_rows(some))
+    result[at] = (result[at][0], [HEADER, make_numbered_row(22, b"Wrong"), CLOSING])
+    return result
 
 
-def joined_rows(packets: list[bytes]) -> bytes:
+def join_rows(packets: list[bytes]) -> bytes:
     """Return the text of the second packet, without parity bits."""
-    return b"".join(bytes(byte & 0x7F for byte in one[2:]) for one in packets[1:2])
+    return b"".join(bytes(byte & 0x7F for byte in packet[2:]) for packet in packets[1:2])
 
 
 class LeadingFaults(ProgrammeCase):
@@ -172,7 +173,7 @@ class LeadingFaults(ProgrammeCase):
 
     def setUp(self) -> None:
         super().setUp()
-        self.told = self.judge(with_two_faults(self.sent), "-o", self.path("out"))
+        self.told = self.judge(insert_two_faults(self.sent), "-o", self.path("out"))
 
     def test_the_result_of_a_pair_leads_with_the_visible_fault(self) -> None:
         reported = self.told
@@ -186,14 +187,14 @@ class LeadingFaults(ProgrammeCase):
 
     def test_the_table_of_a_batch_leads_with_the_visible_fault(self) -> None:
         self.write("list", f"{self.path('one.stl')} {self.path('one.pes')} --origin 0\n".encode())
-        done = self.tool("qc", "--batch", self.path("list"), "-o", self.path("many"), "--junit",
-                         self.path("many.xml"), "-p", self.bench.program)
+        process = self.tool("qc", "--batch", self.path("list"), "-o", self.path("many"), "--junit",
+                            self.path("many.xml"), "-p", self.bench.program)
         known = json.loads(self.read("many/one.json"))
         place = known["worst_fault"].removeprefix("refused ")
-        self.must("table", done.status == 1 and place in done.out.decode(), done)
+        self.must("table", process.status == 1 and place in process.out.decode(), process)
         self.must("page", place in self.read("many/index.html").decode())
         failures = tree.fromstring(self.read("many.xml")).iter("failure")
-        self.must("junit", [one.get("message") for one in failures] == [known["sentence"]])
+        self.must("junit", [failure.get("message") for failure in failures] == [known["sentence"]])
 
 
 class RecordingEnds(ProgrammeCase):
@@ -218,12 +219,12 @@ class RecordingEnds(ProgrammeCase):
                 "74: 1 of 10 subtitles was not recorded completely; use --to 00:00:38:11 to judge "
                 "the others"], "")]
         for name, frames, (first, last), hints, sentence in rows:
-            sent = [(pts, some) for pts, some in self.sent
+            sent = [(pts, packets) for pts, packets in self.sent
                     if first * TICKS <= pts <= last * TICKS]
-            found = self.judge(sent, "--origin", str(-frames * TICKS % CLOCK))
-            ends = [hint for hint in found.result["hints"] if hint.startswith(("63", "74"))]
+            judged_pair = self.judge(sent, "--origin", str(-frames * TICKS % CLOCK))
+            ends = [hint for hint in judged_pair.result["hints"] if hint.startswith(("63", "74"))]
             self.must(name, ends == hints, ends)
-            self.must(name, sentence in found.verdict.sentence, found.verdict.sentence)
+            self.must(name, sentence in judged_pair.verdict.sentence, judged_pair.verdict.sentence)
 
     def test_never_leads_with_a_waived_fault(self) -> None:
         sent = delay_subtitle(3, 2)(self.sent)
@@ -238,9 +239,9 @@ class RecordingEnds(ProgrammeCase):
                 ("72", "of subtitle 1, \"Number 1\", has even parity; waived: 72 Content.",
                  "refused 68 Parity"), ("others", "Waived", "waived: refused 68 Parity")):
             severity = self.write("mild", f"{waived} warning\n".encode() if waived else b"")
-            found = self.judge(sent, "--severity", severity)
-            self.must(waived, sentence in found.verdict.sentence, found.verdict.sentence)
-            self.must(waived, found.said[-1].startswith(last), found.said[-1])
+            result = self.judge(sent, "--severity", severity)
+            self.must(waived, sentence in result.verdict.sentence, result.verdict.sentence)
+            self.must(waived, result.said[-1].startswith(last), result.said[-1])
 
 
 class NamedPlaces(ProgrammeCase):
@@ -254,19 +255,19 @@ class NamedPlaces(ProgrammeCase):
         def header(c4: int = 8, c5: int = 8, c7: int = 1, option: int = 8) -> bytes:
             return make_packet(0, 0, [8, 8, 0, c4, 0, c5, c7, option], b" " * 32)
 
-        def even(letter: bytes) -> Callable[[bytes], bytes]:
+        def make_even_parity(letter: bytes) -> Callable[[bytes], bytes]:
             """Return a function that gives even parity to the last `letter` in a packet."""
-            def changed(one: bytes) -> bytes:
-                at = bytes(byte & 0x7F for byte in one).rfind(letter, 2)
-                return one if at < 0 else one[:at] + bytes([one[at] ^ 0x80]) + one[at + 1:]
+            def changed(data: bytes) -> bytes:
+                at = bytes(byte & 0x7F for byte in data).rfind(letter, 2)
+                return data if at < 0 else data[:at] + bytes([data[at] ^ 0x80]) + data[at + 1:]
             return changed
 
         at, end, first = "10:00:04:00", "10:00:05:15", TIMES[2]
         rows: tuple[tuple[int, str, Callable[[list[bytes]], list[bytes]]], ...] = (
             (first[0], f'at {at}, the character "Ö" of {name}, has even parity',
-             lambda some: [*map(even(b"\\"), some)]),
+             lambda some: [*map(make_even_parity(b"\\"), some)]),
             (first[0], f"at {at}, a byte (start box) of {name}, has even parity",
-             lambda some: [some[0], even(b"\x0b")(some[1]), *some[2:]]),
+             lambda some: [some[0], make_even_parity(b"\x0b")(some[1]), *some[2:]]),
             (first[0], f"at {at}, {name}, hides the picture on some receivers: C6 (subtitle) is "
                        "clear",
              lambda some: [header(c5=0), *some[1:]]),
@@ -286,12 +287,12 @@ class NamedPlaces(ProgrammeCase):
              "page) is clear in 1 of ", lambda some: [header(c4=0), *some[1:]]),
             (first[1], f"at {end}, the page after subtitle 3 hides the picture on some receivers: "
              "C6 (subtitle) is clear", lambda some: [header(c5=0), *some[1:]]))
-        for frame, wanted, change in rows:
-            made = [(pts, change(some) if pts == 3600 * frame % CLOCK else some)
-                    for pts, some in sent]
-            self.assertNotEqual(made, sent, (frame, change))
-            judged = self.judge(made)
-            self.must(wanted, judged.result["sentence"].startswith(f"Refused: {wanted}"),
+        for frame, expected, change in rows:
+            changed_packets = [(pts, change(some) if pts == 3600 * frame % CLOCK else some)
+                               for pts, some in sent]
+            self.assertNotEqual(changed_packets, sent, (frame, change))
+            judged = self.judge(changed_packets)
+            self.must(expected, judged.result["sentence"].startswith(f"Refused: {expected}"),
                       judged.result["sentence"])
         self.must("a hint", any(line.startswith("68: the character ") for line in self.judge(
             [(pts, rows[0][2](some)) for pts, some in sent]).said))
@@ -312,7 +313,7 @@ class EmptyRanges(ProgrammeCase):
 
 
 NO_BOX = 'no receiver shows "Hi", which is outside of a box'
-ALIKE = 'no receiver shows "Hi", which has the colour of its background'
+SAME_COLOUR = 'no receiver shows "Hi", which has the colour of its background'
 ONE = 'libzvbi does not show "Hi", which follows a single start box (0B); ffmpeg does'
 # Cells of a row, its visibility, and the expected message.
 ROWS: tuple[tuple[bytes, Visibility, str], ...] = (
@@ -325,10 +326,12 @@ ROWS: tuple[tuple[bytes, Visibility, str], ...] = (
     (b"\x0b\x0b\x1d\x11HI\x07", Visibility.ALL, ""),  # red mosaics, which show capital letters
     (b"Hi\x0b", Visibility.NONE, NO_BOX), (b"Hi\x0b\x0b", Visibility.NONE, NO_BOX),
     (b"\x0b\x0b\x0a\x0aHi", Visibility.NONE, NO_BOX), (b"Hi", Visibility.NONE, NO_BOX),
-    (b"\x0b\x0b\x1dHi", Visibility.NONE, ALIKE), (b"\x0b\x0b\x03\x1dHi", Visibility.NONE, ALIKE),
-    (b"\x0b\x0b\x03\x1d\x04\x1dHi", Visibility.NONE, ALIKE),
-    (b"\x0b\x1dHi", Visibility.NONE, ALIKE),
-    (b"\x0b\x0b\x1d\x01\x07Hi", Visibility.NONE, ALIKE), (b"\x1dHi", Visibility.NONE, ALIKE),
+    (b"\x0b\x0b\x1dHi", Visibility.NONE, SAME_COLOUR),
+    (b"\x0b\x0b\x03\x1dHi", Visibility.NONE, SAME_COLOUR),
+    (b"\x0b\x0b\x03\x1d\x04\x1dHi", Visibility.NONE, SAME_COLOUR),
+    (b"\x0b\x1dHi", Visibility.NONE, SAME_COLOUR),
+    (b"\x0b\x0b\x1d\x01\x07Hi", Visibility.NONE, SAME_COLOUR),
+    (b"\x1dHi", Visibility.NONE, SAME_COLOUR),
     (b"\x0bHi", Visibility.SOME, ONE), (b"\x0b\x07\x0bHi", Visibility.SOME, ONE),
     (b"\x0bHi\x0a\x0a", Visibility.SOME, ONE),
     (b"\x0b\x0bH\x0a\x0ai", Visibility.SOME, 'no receiver shows "i", which is outside of a box'),
@@ -338,7 +341,8 @@ ROWS: tuple[tuple[bytes, Visibility, str], ...] = (
     (b"H\x0bi", Visibility.SOME,
      'no receiver shows "H", which is outside of a box; libzvbi does not show "i", which follows a '
      'single start box (0B); ffmpeg does'))
-HIDDEN, OPACITY_AT, INK_AT, PAPER_AT = 0, 2, 3, 4  # offsets in libzvbi's characters
+# offsets in libzvbi's characters
+HIDDEN, OPACITY_OFFSET, FOREGROUND_OFFSET, BACKGROUND_OFFSET = 0, 2, 3, 4
 
 
 class DrawingReceiver(Receiver):
@@ -349,26 +353,27 @@ class DrawingReceiver(Receiver):
         text = self.row([HEADER, make_packet(0, 20, (), cells.ljust(40)), CLOSING], 20)
         page = ctypes.create_string_buffer(65536)
         self.library.vbi_fetch_vt_page(self.decoder, page, 0x888, ANY_SUBCODE, LEVEL_1, 25, 0)
-        found = ""
+        result = ""
         for column, letter in enumerate(text):
-            one = page.raw[TEXT_AT + CHARACTER * (41 * 20 + column):][:CHARACTER]
-            if letter > " " and one[OPACITY_AT] != HIDDEN and one[INK_AT] != one[PAPER_AT]:
-                found += letter
-        return found
+            item = page.raw[TEXT_OFFSET + CHARACTER * (41 * 20 + column):][:CHARACTER]
+            if letter > " " and item[OPACITY_OFFSET] != HIDDEN \
+                    and item[FOREGROUND_OFFSET] != item[BACKGROUND_OFFSET]:
+                result += letter
+        return result
 
 
 class VisibleRows(Case):
-    def test_knows_which_characters_decoders_show(self) -> None:
+    def test_finds_the_characters_that_decoders_show(self) -> None:
         for cells, sight, words in ROWS:
             self.must(cells.hex(),
                       (find_visibility(cells), describe_hidden_characters(cells, "english")) ==
                       (sight, words),
                       (find_visibility(cells), describe_hidden_characters(cells, "english")))
         for paper, ink, of_paper, of_ink in itertools.product(range(8), range(8), (0, 16), (0, 16)):
-            for behind, wanted in ((b"", ink == paper), (b"\x1c", ink == 0)):  # black background
+            for behind, expected in ((b"", ink == paper), (b"\x1c", ink == 0)):  # black background
                 cells = b"\x0b\x0b%c\x1d%c%sHi" % (paper + of_paper, ink + of_ink, behind)
                 self.assertEqual(find_visibility(cells),
-                                 Visibility.NONE if wanted else Visibility.ALL, cells)
+                                 Visibility.NONE if expected else Visibility.ALL, cells)
 
     def test_agrees_with_libzvbi(self) -> None:
         try:
@@ -376,33 +381,34 @@ class VisibleRows(Case):
         except OSError:
             self.skipTest("what libzvbi draws, which is not installed")
         for cells, _, _ in ROWS:
-            wanted = "".join(chr(one.code) for one in decode_cells(cells) if one.is_shown)
-            self.must(cells.hex(), receiver.letters(cells) == wanted, receiver.letters(cells))
+            expected = "".join(chr(cell.code) for cell in decode_cells(cells) if cell.is_shown)
+            self.must(cells.hex(), receiver.letters(cells) == expected, receiver.letters(cells))
 
     def test_reports_each_hidden_row_with_its_block(self) -> None:
         blank = BLANK_PAGE[0]
-        rows = [blank, *(next(cells for cells, sight, _ in ROWS if sight == one).ljust(40)
-                         for one in Visibility)]
+        rows = [blank, *(next(cells for cells, sight, _ in ROWS if sight == item).ljust(40)
+                         for item in Visibility)]
         file: Any = SimpleNamespace(start_blocks=[2, 5, 6])
         for cells in itertools.product(rows, repeat=4):
             subtitles = [Subtitle(index, index, 25 * index, 25 * index + 9, 1, 2, b"")
                          for index in (1, 3)]
             pages = [(*cells[at:at + 2], *BLANK_PAGE[2:]) for at in (0, 2)]
-            wanted = [(subtitle, row, one) for subtitle, page in zip(subtitles, pages)
-                      for row,
-                      one in enumerate(page[:2], 1) if find_visibility(one) != Visibility.ALL]
-            printed = [(find_visibility(one) == Visibility.NONE,
-                     f"{subtitle.name} at {time_of(subtitle.begin)}, "
-                     f"row {row}: {describe_hidden_characters(one, 'english')}",
-                     file.start_blocks[subtitle.index - 1], time_of(subtitle.begin))
-                    for subtitle, row, one in wanted]
-            found = find_hidden_rows(subtitles, pages, file, "english")
-            self.assertEqual(found.faults, [NamedFault(NOT_SHOWN, words, block=block)
-                                            for is_none, words, block, _ in printed if is_none],
+            expected = [(subtitle, row, item) for subtitle, page in zip(subtitles, pages)
+                        for row,
+                        item in enumerate(page[:2], 1) if find_visibility(item) != Visibility.ALL]
+            printed = [(find_visibility(item) == Visibility.NONE,
+                     f"{subtitle.name} at {format_frame(subtitle.begin)}, "
+                     f"row {row}: {describe_hidden_characters(item, 'english')}",
+                     file.start_blocks[subtitle.index - 1], format_frame(subtitle.begin))
+                    for subtitle, row, item in expected]
+            hidden_rows = find_hidden_rows(subtitles, pages, file, "english")
+            self.assertEqual(hidden_rows.faults, [NamedFault(NOT_SHOWN, words, block=block)
+                                                  for is_none, words, block, _ in printed
+                                                  if is_none],
                                             cells)
-            self.assertEqual(found.warnings, [Notice(HIDDEN_KIND, words, when)
-                                              for is_none, words, _,
-                                              when in printed if not is_none],
+            self.assertEqual(hidden_rows.warnings, [Notice(HIDDEN_KIND, words, when)
+                                                    for is_none, words, _,
+                                                    when in printed if not is_none],
                              cells)
 
     def test_checks_only_files_with_codes_that_may_hide(self) -> None:
@@ -411,23 +417,23 @@ class VisibleRows(Case):
             texts[at] = texts[at][:at] + bytes([code]) + texts[at][at:]
             subtitles = [Subtitle(1, 1, 25, 50, 20, 2, text) for text in texts]
             lines = make_cell_lines(texts[at], ENGLISH)
-            drawn = [] if isinstance(lines, TextFault) else [prepare_line(one, PLAIN) for one in
+            drawn = [] if isinstance(lines, TextFault) else [prepare_line(item, PLAIN) for item in
                                                              lines]
-            found = may_hide_rows(subtitles, has_layout)
-            self.assertEqual(found, has_layout or code in (0x0A, 0x0B, 0x1D), (code, at))
-            self.assertTrue(found or all(find_visibility(one) == Visibility.ALL for one in drawn),
-                            code)
+            result = may_hide_rows(subtitles, has_layout)
+            self.assertEqual(result, has_layout or code in (0x0A, 0x0B, 0x1D), (code, at))
+            self.assertTrue(result
+                            or all(find_visibility(item) == Visibility.ALL for item in drawn), code)
 
     def test_refuses_an_invisible_row_and_warns_of_a_partly_visible_one(self) -> None:
         times = [(900_000 + 50 * at, 900_040 + 50 * at) for at in range(3)]
         option, first = ("--option", "german"), "subtitle 1 (SN 7) at 10:00:00:00, row 22: "
         for text, word, why in (
-                (b"\x1dHi", "refused", ALIKE), (b"Hi\x0b", "refused", NO_BOX),
+                (b"\x1dHi", "refused", SAME_COLOUR), (b"Hi\x0b", "refused", NO_BOX),
                 (b"\x0a\x0aHi", "refused", NO_BOX), (b"\x0bHi", "accepted", ONE),
                 (b"Hi", "accepted", "")):
             stl = write_programme(self, times, text=text.replace(b"Hi", b"Hi\xc8O"), first=7)
             words = why and first + why.replace("Hi", "HiÖ")
-            sent = self.write("one.pes", pes_file(schedule_pages(self, stl, *option)))
+            sent = self.write("one.pes", join_pes_packets(schedule_pages(self, stl, *option)))
             for more in ((), (sent, "--origin", "0")):
                 judged = judge_files(self, stl, *more, *option)
                 self.must(f"{text!r} {more}", judged.word == word, judged.said)
@@ -438,17 +444,17 @@ class VisibleRows(Case):
                               "refused not shown block 1" and judged.said[-2].endswith(
                                   " See refusals.md#not-shown."), judged.said)
                     self.must(f"{text!r}: faults", [
-                        (one["name"], one["number"], one["block"], one["subtitle"]["position"])
-                        for one in judged.result["faults"]] == [
+                        (item["name"], item["number"], item["block"], item["subtitle"]["position"])
+                        for item in judged.result["faults"]] == [
                         ("not shown", None, at, at) for at in (1, 2, 3)], judged.result["faults"])
-                warned = [one["line"] for one in judged.result["warnings"]
-                          if one["kind"] == "hidden"]
+                warned = [item["line"] for item in judged.result["warnings"]
+                          if item["kind"] == "hidden"]
                 self.must(f"{text!r}: warnings", warned[:1] == [words] * (
                     word == "accepted" and bool(words)), warned)
         judged = judge_files(self, stl, *option, "--layout", "before=0B")
-        self.must("by a layout", [one["kind"] for one in judged.result["warnings"]] ==
+        self.must("by a layout", [item["kind"] for item in judged.result["warnings"]] ==
                   ["hidden"] * 3, judged.said)
         mild = self.write("mild", b"not shown warning\n")
         judged = judge_files(self, write_programme(self, times, text=b"\x1dHi"), "--severity", mild)
         self.must("waived", judged.word == "waived" and {
-            one["severity"] for one in judged.result["faults"]} == {"warning"}, judged.said)
+            item["severity"] for item in judged.result["faults"]} == {"warning"}, judged.said)

@@ -72,27 +72,27 @@ CLOCKS: Sequence[dict[str, Any]] = (
     {"has_clock": True, "is_relative_allowed": True})
 
 
-def severity_of(*lines: str, is_loss_allowed: bool = False) -> Severity:
+def make_severity(*lines: str, is_loss_allowed: bool = False) -> Severity:
     with tempfile.NamedTemporaryFile("w", suffix=".severity") as file:
         file.write("".join(f"{line}\n" for line in lines))
         file.flush()
         return Severity(file.name, is_loss_allowed)
 
 
-def by_clock(word: str, clock: dict[str, Any]) -> tuple[str, int]:
+def decide_by_clock(word: str, clock: dict[str, Any]) -> tuple[str, int]:
     """Return the expected verdict and exit status. `word` is the verdict if a clock is known."""
     if clock["has_clock"] or word not in (ACCEPTED, WAIVED):
         return word, STATUSES[word]
     return RELATIVE, 0 if "is_relative_allowed" in clock else 3
 
 
-NAMED = severity_of(f"{WARNING} warning")
-ALLOWING = [severity_of(f"{WARNING} warning", is_loss_allowed=True),
-            severity_of(f"{WARNING} warning", f"{LOST_PACKETS} warning")]
+NAMED = make_severity(f"{WARNING} warning")
+ALLOWING_SEVERITIES = [make_severity(f"{WARNING} warning", is_loss_allowed=True),
+                       make_severity(f"{WARNING} warning", f"{LOST_PACKETS} warning")]
 
 
 class PartVerdicts(unittest.TestCase):
-    def test_takes_only_valid_answers_for_a_verdict(self) -> None:
+    def test_accepts_only_valid_check_output_as_a_verdict(self) -> None:
         for name, printed in RIGHT.items():
             with self.subTest(name):
                 self.assertEqual(decide_part(printed), ACCEPTED if "accepted" in name else REFUSED)
@@ -102,17 +102,17 @@ class PartVerdicts(unittest.TestCase):
 
 
 class Decisions(unittest.TestCase):
-    def test_decides_by_each_part_at_each_place(self) -> None:
+    def test_one_refused_part_refuses_the_pair(self) -> None:
         kinds = RIGHT | WRONG
         for count, clock in itertools.product((1, 2, 3), CLOCKS):
             for names in itertools.product(kinds, repeat=count):
-                wanted = by_clock(self.expected_word(names), clock)
-                found = decide(Grounds([kinds[name] for name in names], NAMED, **clock))
-                if (found.word, found.status) != wanted:
-                    self.fail(f"{names} {clock}: {found}, and not {wanted}")
+                expected = decide_by_clock(self.decide_expected_word(names), clock)
+                result = decide(Grounds([kinds[name] for name in names], NAMED, **clock))
+                if (result.word, result.status) != expected:
+                    self.fail(f"{names} {clock}: {result}, and not {expected}")
 
     @staticmethod
-    def expected_word(names: Sequence[str]) -> str:
+    def decide_expected_word(names: Sequence[str]) -> str:
         """Return the expected verdict on parts without losses, by the names of their outputs."""
         if set(names) & WRONG.keys():
             return NOT_JUDGED
@@ -122,31 +122,31 @@ class Decisions(unittest.TestCase):
             return NOT_JUDGED
         return WAIVED if "waived" in names else ACCEPTED
 
-    def test_decides_by_losses_and_warnings(self) -> None:
+    def test_considers_losses_and_warnings(self) -> None:
         for name, losses, is_allowed, warnings, is_strict, clock in itertools.product(
                 ("accepted", "waived", "refused", "silent"), LOSSES, (False, True),
                 ((), ("page",), ("repeat", "page")), (False, True), CLOCKS):
             parts = [RIGHT["accepted"], (RIGHT | WRONG)[name], RIGHT["accepted"]]
-            for severity in ALLOWING if is_allowed else [NAMED]:
+            for severity in ALLOWING_SEVERITIES if is_allowed else [NAMED]:
                 self.check_decision(name,
                                     Grounds(parts, severity, losses, warnings, is_strict, **clock),
                              is_allowed, clock)
 
-    def test_decides_by_faults_without_a_number(self) -> None:
-        kinds, warned = RIGHT | WRONG, severity_of(
+    def test_considers_named_faults(self) -> None:
+        kinds, warned = RIGHT | WRONG, make_severity(
             f"{WARNING} warning", *(f"{name} warning" for name in FAULT_NAMES))
         for name, is_error, count in itertools.product(FAULT_NAMES, (True, False), (0, 1, 2)):
             severity = NAMED if is_error else warned
             for parts in itertools.product(kinds, repeat=count):
-                word = self.expected_word(parts) if parts else NOT_JUDGED
+                word = self.decide_expected_word(parts) if parts else NOT_JUDGED
                 if is_error and not set(parts) & WRONG.keys():
                     word = REFUSED
                 elif word == ACCEPTED:
                     word = WAIVED
                 for clock in CLOCKS:
-                    found = decide(Grounds([kinds[part] for part in parts], severity,
-                                           named_faults=[name], **clock))
-                    self.assertEqual((found.word, found.status), by_clock(word, clock),
+                    result = decide(Grounds([kinds[part] for part in parts], severity,
+                                            named_faults=[name], **clock))
+                    self.assertEqual((result.word, result.status), decide_by_clock(word, clock),
                                      (name, is_error, parts, clock))
         for reasons, failed in ((["why"], ()), ((), ["full"])):
             self.assertEqual(decide(Grounds([], NAMED, reasons=reasons, failed_outputs=failed,
@@ -161,43 +161,43 @@ class Decisions(unittest.TestCase):
 
         `is_allowed` means that --allow-lost or a severity file accepts losses (fault 45).
         """
-        found, losses, warnings = decide(seen), seen.judged_losses, seen.warnings
+        result, losses, warnings = decide(seen), seen.judged_losses, seen.warnings
         if name in ("refused", "silent"):
-            wanted = REFUSED if name == "refused" else NOT_JUDGED
+            expected = REFUSED if name == "refused" else NOT_JUDGED
         elif True in losses and not is_allowed:
-            wanted = LOST
+            expected = LOST
         elif seen.is_strict and warnings:
-            wanted = WARNED
+            expected = WARNED
         else:
-            wanted = ACCEPTED if name == "accepted" else WAIVED
+            expected = ACCEPTED if name == "accepted" else WAIVED
         with self.subTest(name, losses=losses, allowed=is_allowed, warnings=warnings,
                           strict=seen.is_strict, clock=clock):
-            self.assertEqual((found.word, found.status), by_clock(wanted, clock))
+            self.assertEqual((result.word, result.status), decide_by_clock(expected, clock))
 
     def test_is_not_judged_after_a_failure(self) -> None:
         for name, printed in (RIGHT | WRONG).items():
             for failed, reasons in itertools.product(OUTPUTS, ((), ("stopped",))):
-                found = decide(Grounds([printed, printed], NAMED, reasons=reasons,
-                                       failed_outputs=failed,
-                                       has_clock=True))
+                result = decide(Grounds([printed, printed], NAMED, reasons=reasons,
+                                        failed_outputs=failed,
+                                        has_clock=True))
                 is_clean = not failed and not reasons
                 with self.subTest(name, failed=failed, reasons=reasons):
-                    self.assertEqual(found.word, self.expected_word([name]) if is_clean
+                    self.assertEqual(result.word, self.decide_expected_word([name]) if is_clean
                                      else NOT_JUDGED)
-                    self.assertEqual(found.status == 2, found.word == NOT_JUDGED)
+                    self.assertEqual(result.status == 2, result.word == NOT_JUDGED)
 
     def test_gives_a_reason_if_not_judged(self) -> None:
         accepted, unread = RIGHT["accepted"], RIGHT["waived, not read"]
         rows: list[tuple[list[CheckSummary], str]] = [
             ([], NOT_ANSWERED), ([accepted, WRONG["silent"]], NOT_ANSWERED),
             ([unread], NOTHING_READ), ([accepted, accepted, unread], NOTHING_READ)]
-        for parts, wanted in rows:
-            self.assertEqual(decide(Grounds(parts, NAMED)), Decision(NOT_JUDGED, wanted), parts)
+        for parts, expected in rows:
+            self.assertEqual(decide(Grounds(parts, NAMED)), Decision(NOT_JUDGED, expected), parts)
         self.assertEqual(decide(Grounds([accepted], NAMED, has_clock=True)), Decision(ACCEPTED))
 
 
 class BatchStatus(unittest.TestCase):
-    def test_takes_the_worst_status(self) -> None:
+    def test_returns_the_worst_status(self) -> None:
         rows: list[tuple[list[int], bool, int]] = [
             ([0], False, 0), ([0, 0], False, 0), ([0, 1], False, 1), ([1, 0], False, 1),
             ([1], False, 1), ([3], False, 3), ([0, 3], False, 3), ([3, 0], False, 3),
@@ -209,7 +209,7 @@ class BatchStatus(unittest.TestCase):
             with self.subTest(statuses=statuses, stopped=is_stopped):
                 self.assertEqual(combine_statuses(statuses, is_stopped), status)
 
-    def test_takes_a_result_only_with_its_own_status(self) -> None:
+    def test_rejects_a_result_with_another_status(self) -> None:
         for word, status, ended in itertools.product([*STATUSES, "fine"], range(5),
                                                      (0, 1, 2, 3, -9, -15)):
             is_possible = status == STATUSES.get(word) or (word, status) == (RELATIVE, 0)
@@ -240,11 +240,11 @@ class Severities(unittest.TestCase):
             ("never sent warning", False, {**names, "never sent": "warning", 45: "error"}),
             ("others warning\nnot shown error", False, {**mild, "not shown": "error"}),
             ("\n".join(f"{number} warning" for number in FAULT_NUMBERS), False, each)]
-        for lines, is_allowed, wanted in rows:
-            severity = severity_of(lines, is_loss_allowed=is_allowed)
-            for one, word in {**wanted, **ends}.items():
-                with self.subTest(lines=lines, allowed=is_allowed, of=one):
-                    self.assertEqual((severity.classify(one), severity.is_error(one)),
+        for lines, is_allowed, expected in rows:
+            severity = make_severity(lines, is_loss_allowed=is_allowed)
+            for item, word in {**expected, **ends}.items():
+                with self.subTest(lines=lines, allowed=is_allowed, of=item):
+                    self.assertEqual((severity.classify(item), severity.is_error(item)),
                                      (word, word == "error"))
         self.assertEqual((Severity(None).classify(72), Severity(None, True).classify(45)),
                          ("error", "warning"))
@@ -255,62 +255,64 @@ class Severities(unittest.TestCase):
                      "٧٢ error", "sent error", "never error", "never sent", "never  sent wrong",
                      "not error", *(f"{number} warning" for number in none)):
             with self.subTest(line), self.assertRaisesRegex(Stop, "line 2: (a line is|no refusal)"):
-                severity_of("", line)
+                make_severity("", line)
 
 
 BEGIN, CONTENT, END = "refused 63 Begin frame 10:00:00:00", \
     "refused 72 Content frame 10:00:01:00 row 22 column 3", "refused 74 Late frame 10:00:09:00"
 OPEN, CONTROL = "refused 77 Incomplete frame 10:00:02:00", \
     "refused 67 Control frame 10:00:00:00 packet 0"
-GAP, LOST_LINE = "refused 73 Gap frame 10:00:03:00", "refused 45 Lost pes 7"
+GAP, LOSS_LINE = "refused 73 Gap frame 10:00:03:00", "refused 45 Lost pes 7"
 PARITY = "refused 68 Parity frame 10:00:02:00 packet 1"
 SILENT_LINE = "refused 79 Silent frame 10:00:01:00"
 ORDER, START = "refused 62 Order pes 3", "refused 31 Start pes 4"
-LETTER, UNDECIDED = "refused 50 Character block 1 at 4", "refused 78 Undecided frame 10:00:00:00"
+CHARACTER_LINE, UNDECIDED = "refused 50 Character block 1 at 4", "refused 78 Undecided frame " \
+    "10:00:00:00"
 LATER = "refused 72 Content frame 10:00:05:00 row 1 column 3"
-OF_PACKETS = {3, 4, 76, 82}  # fault numbers that `check` does not report
+PACKET_FAULTS_ONLY = {3, 4, 76, 82}  # fault numbers that `check` does not report
 SECOND = 25
 
 
-def answer_with(*lines: str, path: str) -> CheckOutput:
+def read_check_lines(*lines: str, path: str) -> CheckOutput:
     return make_answer([*lines, f"{len(lines)} faults"], path=path)
 
 
 class LeadingFaults(Case):
-    def test_ranks_each_cause_and_number(self) -> None:
+    def test_each_cause_and_fault_number_has_a_rank(self) -> None:
         self.must("causes", set(CAUSE_RANKS) == set(CAUSE_NAMES))
-        self.must("numbers", set(NUMBER_RANKS) == FAULT_NUMBERS - OF_PACKETS,
-                  set(NUMBER_RANKS) ^ (FAULT_NUMBERS - OF_PACKETS))
-        for number, one in read_meanings().items():
+        self.must("numbers", set(NUMBER_RANKS) == FAULT_NUMBERS - PACKET_FAULTS_ONLY,
+                  set(NUMBER_RANKS) ^ (FAULT_NUMBERS - PACKET_FAULTS_ONLY))
+        for number, item in read_meanings().items():
             rank = rank_number(number)
             if number in STL_FAULTS:
                 self.must(f"{number}", rank == Rank.FILE)
             elif number in (63, 74):  # the recording is too short, unless a cause is known
                 self.must(f"{number}", rank == Rank.UNSEEN)
-            elif one.name.partition("</a>")[2].startswith("now"):
+            elif item.name.partition("</a>")[2].startswith("now"):
                 self.must(f"{number}", rank <= Rank.SOME, rank)
-            elif one.name.partition("</a>")[2].startswith("next") and number != 61:
+            elif item.name.partition("</a>")[2].startswith("next") and number != 61:
                 self.must(f"{number}", rank == Rank.LATER, rank)
         names = sorted(CAUSE_NAMES, key=lambda name: CAUSE_RANKS[name])
         self.must("order of causes", names[0] == "never sent" and names[-4:] == [
             "late", "early", "wrong colour or attribute", "not received"], names)
 
-    def test_takes_the_first_fault_of_the_worst_rank(self) -> None:
-        for lines, wanted in (
+    def test_chooses_the_first_fault_of_the_worst_rank(self) -> None:
+        for lines, expected in (
                 ([CONTROL], CONTROL), ([CONTENT], CONTENT), ([CONTROL, CONTENT], CONTENT),
                 ([CONTROL, CONTENT, LATER], CONTENT), ([CONTROL, GAP, LATER, CONTENT], LATER),
                 ([CONTROL, OPEN], OPEN), ([CONTROL, OPEN, CONTENT], OPEN),
                 ([CONTROL, BEGIN], CONTROL), ([GAP, BEGIN], BEGIN),
-                ([LOST_LINE, GAP, END], LOST_LINE), ([LOST_LINE, GAP], LOST_LINE),
-                ([GAP, LOST_LINE], LOST_LINE), ([GAP, SILENT_LINE, PARITY], PARITY),
-                ([GAP, CONTROL, LOST_LINE], CONTROL), ([SILENT_LINE, CONTROL], CONTROL),
+                ([LOSS_LINE, GAP, END], LOSS_LINE), ([LOSS_LINE, GAP], LOSS_LINE),
+                ([GAP, LOSS_LINE], LOSS_LINE), ([GAP, SILENT_LINE, PARITY], PARITY),
+                ([GAP, CONTROL, LOSS_LINE], CONTROL), ([SILENT_LINE, CONTROL], CONTROL),
                 ([GAP, ORDER], ORDER), ([GAP, START], START), ([PARITY, CONTROL], PARITY),
                 ([UNDECIDED, CONTENT], CONTENT), ([CONTROL, UNDECIDED], CONTROL),
-                ([GAP, UNDECIDED], UNDECIDED), ([LETTER, UNDECIDED, CONTENT], LETTER),
-                ([CONTENT, LETTER], LETTER)):
-            part = make_part(0, 9, 0, answer_with(*lines, path=self.path("list")))
-            self.must(f"{lines}", part.first_text == wanted and part.check_output.line == lines[0]
-                      and part.worst_fault_line and part.worst_fault_line.line == wanted,
+                ([GAP, UNDECIDED], UNDECIDED),
+                ([CHARACTER_LINE, UNDECIDED, CONTENT], CHARACTER_LINE),
+                ([CONTENT, CHARACTER_LINE], CHARACTER_LINE)):
+            part = make_part(0, 9, 0, read_check_lines(*lines, path=self.path("list")))
+            self.must(f"{lines}", part.first_text == expected and part.check_output.line == lines[0]
+                      and part.worst_fault_line and part.worst_fault_line.line == expected,
                       part.first_text)
         part = make_part(0, 9, 0, make_answer(["accepted 10 frames 2 transmissions"]))
         self.must("none",
@@ -324,19 +326,20 @@ class LeadingFaults(Case):
             ([left, hidden, never], None, never), ([left, hidden], Rank.MOVED, hidden),
             ([left], Rank.WRONG, None), ([left], Rank.MOVED, left), ([hidden], Rank.FILE, None),
             ([never], Rank.NEVER, never))
-        for faults, rank, wanted in rows:
-            self.must(f"{[one.name for one in faults]} {rank}",
-                      find_worst_named_fault(faults, rank) is wanted)
+        for faults, rank, expected in rows:
+            self.must(f"{[fault.name for fault in faults]} {rank}",
+                      find_worst_named_fault(faults, rank) is expected)
 
     def test_ignores_faults_of_refused_subtitles(self) -> None:
         rows: tuple[tuple[list[str], str | None], ...] = (
-            ([LETTER, UNDECIDED, GAP, CONTROL], CONTROL), ([LETTER, UNDECIDED], None))
-        for lines, wanted in rows:
-            part = make_part(0, 9, 0, answer_with(*lines, path=self.path("list")))
+            ([CHARACTER_LINE, UNDECIDED, GAP, CONTROL], CONTROL),
+            ([CHARACTER_LINE, UNDECIDED], None))
+        for lines, expected in rows:
+            part = make_part(0, 9, 0, read_check_lines(*lines, path=self.path("list")))
             sent = part.worst_transmission_fault
-            self.must(f"{lines}", (sent and sent.fault.line) == wanted, sent)
+            self.must(f"{lines}", (sent and sent.fault.line) == expected, sent)
 
-    def test_takes_the_subtitle_with_the_worst_cause(self) -> None:
+    def test_chooses_the_subtitle_with_the_worst_cause(self) -> None:
         def at(second: int) -> str:
             return f"refused 72 Content frame 10:00:0{second}:00 row 22 column 3"
 
@@ -347,37 +350,39 @@ class LeadingFaults(Case):
             (["wrong colour or attribute", "early", "early", "early"], lines, at(2)),
             (["wrong colour or attribute"] * 4, lines, at(1)),
             (["not received"] * 4, lines, CONTROL), (["not received"] * 4, lines[1:], at(1)),
-            (["not received"] * 4, [LOST_LINE, *lines[1:]], at(1)),
+            (["not received"] * 4, [LOSS_LINE, *lines[1:]], at(1)),
             (["late"] * 4, [*lines, OPEN], OPEN), (["wrong text"] * 4, [*lines, OPEN], at(1)))
-        for names, some, wanted in rows:
+        for names, some, expected in rows:
             causes: Any = SimpleNamespace(
-                by_end_fault={}, first_wrong_frames={place: 900_000 + SECOND * (place + 1)
+                frames_by_end_fault={}, first_wrong_frames={place: 900_000 + SECOND * (place + 1)
                                           for place in range(4)},
-                by_index={place: Cause(place, name, 1, None, None, "", 0)
+                cause_by_index={place: Cause(place, name, 1, None, None, "", 0)
                        for place, name in enumerate(names)})
-            causes.list_causes = lambda causes=causes: [*causes.by_index.values()]
-            lead = find_worst_fault(answer_with(*some, path=self.path("list")), causes)
-            self.must(f"{names}", lead and lead.fault.line == wanted, lead)
-        for edges, wanted in (({63: 0}, BEGIN), ({74: 0, 63: 0}, BEGIN), ({63: 1}, at(1)),
-                              ({74: 0, 63: 1}, END)):
-            causes.by_end_fault = edges
-            lead = find_worst_fault(answer_with(BEGIN, *lines, END, path=self.path("list")), causes)
-            self.must(f"{edges}", lead and lead.fault.line == wanted, lead)
-        causes.by_end_fault, causes.first_wrong_frames = {}, {0: 900_000 + SECOND + 9}
-        lead = find_worst_fault(answer_with(*lines, path=self.path("list")), causes)
+            causes.list_causes = lambda causes=causes: [*causes.cause_by_index.values()]
+            lead = find_worst_fault(read_check_lines(*some, path=self.path("list")), causes)
+            self.must(f"{names}", lead and lead.fault.line == expected, lead)
+        for edges, expected in (({63: 0}, BEGIN), ({74: 0, 63: 0}, BEGIN), ({63: 1}, at(1)),
+                                ({74: 0, 63: 1}, END)):
+            causes.frames_by_end_fault = edges
+            lead = find_worst_fault(read_check_lines(BEGIN, *lines, END, path=self.path("list")),
+                                    causes)
+            self.must(f"{edges}", lead and lead.fault.line == expected, lead)
+        causes.frames_by_end_fault, causes.first_wrong_frames = {}, {0: 900_000 + SECOND + 9}
+        lead = find_worst_fault(read_check_lines(*lines, path=self.path("list")), causes)
         self.must("the fault that stands then", lead and lead.fault.line == at(1), lead)
         self.must("no cause", find_worst_cause([]) is None)
 
 
 FIRST = "00001 00:00:01:00 00:00:02:00 vp 20 jc 2 text 41"
 SECOND_LINE = "00002 00:00:02:00 00:00:04:00 vp 22 jc 1 text -"
-ONE, TWO = Subtitle(1, 1, 25, 50, 20, 2, b"A"), Subtitle(2, 2, 50, 100, 22, 1, b"")
+FIRST_SUBTITLE, SECOND_SUBTITLE = Subtitle(1, 1, 25, 50, 20, 2, b"A"), Subtitle(2, 2, 50, 100,
+                                                                                22, 1, b"")
 NONE = None
 
 
 class ParsedLines(Case):
     def test_parses_each_kind_of_place(self) -> None:
-        for line, wanted in (
+        for line, expected in (
                 ("refused 60 Empty",
                  ("refused", 60, "Empty", NONE, NONE, NONE, NONE, NONE, NONE, NONE)),
                 ("refused 16 Cumulative block 1",
@@ -394,11 +399,11 @@ class ParsedLines(Case):
                  ("ended", 72, "Content", NONE, NONE, NONE, "00:00:03:00", NONE, NONE, NONE)),
                 ("fault 91 Memory",
                  ("fault", 91, "Memory", NONE, NONE, NONE, NONE, NONE, NONE, NONE))):
-            self.must(line, parse_fault_line(line) == FaultLine(line, *wanted),
+            self.must(line, parse_fault_line(line) == FaultLine(line, *expected),
                       parse_fault_line(line))
             is_fault = line.startswith("refused ")
             self.must(f"number of {line}", parse_fault_number(line) ==
-                      (wanted[1] if is_fault else None))
+                      (expected[1] if is_fault else None))
         for line in ("", "refused", "refused 72", "refused x Content", "refused 72 Content frame",
                      "refused 72 Content row 1 column 2", "refused 72 Content pes 1 more",
                      " refused 72 Content", "accepted 72 Content"):
@@ -413,22 +418,23 @@ class ParsedLines(Case):
         self.must("counted", parse_count_line("12 faults") == 12)
         for line in ("accepted", "accepted 1 frames", "accepted 1 frames 2 transmissions more",
                      "refused 60 Empty", "12 faults more", "faults", ""):
-            found = [parse_accepted_line(line), parse_trusted_line(line), parse_count_line(line)]
-            self.must(f"none of {line}", found == [None] * 3, found)
+            result = [parse_accepted_line(line), parse_trusted_line(line), parse_count_line(line)]
+            self.must(f"none of {line}", result == [None] * 3, result)
 
     def test_parses_subtitles(self) -> None:
-        for lines, wanted in (([FIRST, SECOND_LINE, "2 subtitles"], [ONE, TWO]),
-                              (["0 subtitles"], []),
-                              ([FIRST, "refused 16 Cumulative block 2"], [ONE]),
-                              (["refused 10 Format block 0"], [])):
-            self.must(str(lines), parse_subtitles(lines) == wanted, parse_subtitles(lines))
+        for lines, expected in (([FIRST, SECOND_LINE, "2 subtitles"],
+                                 [FIRST_SUBTITLE, SECOND_SUBTITLE]),
+                                (["0 subtitles"], []),
+                                ([FIRST, "refused 16 Cumulative block 2"], [FIRST_SUBTITLE]),
+                                (["refused 10 Format block 0"], [])):
+            self.must(str(lines), parse_subtitles(lines) == expected, parse_subtitles(lines))
         unread: list[list[str]] = [
             [], [FIRST], [FIRST, SECOND_LINE], [FIRST, "2 subtitles"], [FIRST, "fault 91 Memory"],
             [FIRST + " ", "1 subtitles"], [FIRST.replace("vp", "row"), "1 subtitles"],
             [FIRST.replace("00:00:01:00", "00:00:01:25"), "1 subtitles"], ["", "1 subtitles"]]
         for lines in unread:
             try:
-                found: object = parse_subtitles(lines)
+                result: object = parse_subtitles(lines)
             except Stop as reason:
-                found = str(reason)
-            self.must(f"not read: {lines}", str(found).startswith("`show` printed no "), found)
+                result = str(reason)
+            self.must(f"not read: {lines}", str(result).startswith("`show` printed no "), result)

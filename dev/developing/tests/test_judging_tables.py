@@ -15,7 +15,7 @@ from developing.stl import make_gsi_block, make_subtitle_blocks, make_tti_block
 from subtitles.clock.origin import OriginEstimate, OriginSearch, PartOrigin
 from subtitles.clock.start import (
     Clock, GIVEN, RECORDING, START, TCP, TimedPart, find_largest_offset, read_start_frame)
-from subtitles.common.command_line import HIDDEN
+from subtitles.common.command_line import CONTROL_CHARACTERS
 from subtitles.common.times import CLOCK, TICKS
 from subtitles.formats.stl import SubtitleFile
 from subtitles.judging import timing
@@ -31,28 +31,28 @@ from subtitles.recording.notices import (
     find_jump_notices, find_pause_notices, find_pmt_notices, find_repeat_notices)
 from subtitles.recording.recording import is_recording
 from subtitles.request.commands import (
-    CommandPaths, ListNames, OutputNames, list_pair_files, make_qc_command, pair_name, part_name,
-    shell_line)
+    CommandPaths, ListNames, OutputNames, list_pair_files, make_pair_name, make_part_name,
+    make_qc_command, quote_command)
 from subtitles.request.request import Selection, Unclear
 from subtitles.stream import gaps
 from subtitles.stream.gaps import ClockJump
-from subtitles.stream.repeats import longest_gap, repeat_distance
+from subtitles.stream.repeats import find_longest_gap, repeat_distance
 from subtitles.stream.packets import Packets
 from subtitles.stream.receiver import BLANK_PAGE
 from subtitles.stream.pictures import Departure
 from subtitles.stream.survey import Announced
 from .bench import Case
-from .parts import request_for, survey_packets
+from .parts import make_example_request, survey_packets
 from .transmissions import CLOSING, HEADER, PAGE
-from .test_formats_characters import character_set_packet
+from .test_formats_characters import make_character_set_packet
 
 
 def said(warned: Iterable[Notice]) -> list[tuple[str, str, str | None]]:
-    return [(one.kind, one.line, one.time) for one in warned]
+    return [(item.kind, item.line, item.time) for item in warned]
 
 
 class PartClocks(unittest.TestCase):
-    def test_takes_parts_only_if_the_origin_is_clear(self) -> None:
+    def test_uses_parts_only_with_a_clear_origin(self) -> None:
         whole = TimedPart(3, 9, Clock(7, GIVEN))
         self.assertEqual(list_timed_parts(OriginEstimate(1, [PartOrigin(5)]), whole), [])
         reported = Selection("origin", "5", "clock: 3 of 4", 3, 4)
@@ -62,7 +62,8 @@ class PartClocks(unittest.TestCase):
                          [TimedPart(3, 9, Clock(5, RECORDING, evidence=reported), (1, 2))])
 
     def test_searches_with_all_requested_options(self) -> None:
-        request = request_for("a.stl", "a.pes", *"--page 150 --option german --within 3 --breaks 2 "
+        request = make_example_request("a.stl", "a.pes",
+                                       *"--page 150 --option german --within 3 --breaks 2 "
                           "--every 30 --from 00:00:01:00 --late 0:9,3:1/0:12".split())
         programme = PartSearch(request, TimedPart(3, 9, Clock(7, GIVEN)), (2, 8), frozenset({4}))
         recording: Any = SimpleNamespace(packets="packets", display_name="name",
@@ -88,13 +89,13 @@ class PartClocks(unittest.TestCase):
                           Departure(TICKS * 101, TICKS * 100, None))
         known: dict[int, Any] = {1: [before], 2: [away, unclear, behind], 3: [away], 4: [away]}
         leads = {(9, video): several for video, several in known.items()}
-        survey: Any = SimpleNamespace(leads=leads, programmes_of=lambda pid: [
+        survey: Any = SimpleNamespace(leads=leads, find_programmes=lambda pid: [
             SimpleNamespace(kinds={pid: 6, 1: 2, 2: 2}), SimpleNamespace(kinds={pid: 6, 3: 27})])
         with mock.patch.object(timing, "locate_departures", lambda several: several):
             for source, count in ((GIVEN, 2), (RECORDING, 2), (START, 3), (TCP, 3)):
-                found = find_desync(survey, 9, TimedPart(10, 100, Clock(0, source)), 0, 7)
-                self.assertEqual([one.part for one in found.faults], [7] * count, source)
-                self.assertEqual([" at 1 place where " in note for note in found.notes], [True],
+                desync = find_desync(survey, 9, TimedPart(10, 100, Clock(0, source)), 0, 7)
+                self.assertEqual([fault.part for fault in desync.faults], [7] * count, source)
+                self.assertEqual([" at 1 place where " in note for note in desync.notes], [True],
                                  (source, count))
 
 
@@ -105,9 +106,10 @@ class Notices(Case):
                                            for frame, ticks in (
                 (9, 1), (10, 90_000), (15, -90_000), (20, 8_640_000), (21, 5)))]
             with mock.patch("subtitles.recording.notices.find_clock_jumps", lambda packets: jumps):
-                found = [(one.kind, one.time, one.line.partition(" at ")[0])
-                         for one in find_jump_notices(Packets(1), origin, 10, 20)]
-            self.assertEqual(found, [
+                result = [(jump_notice.kind, jump_notice.time,
+                           jump_notice.line.partition(" at ")[0])
+                          for jump_notice in find_jump_notices(Packets(1), origin, 10, 20)]
+            self.assertEqual(result, [
                 ("clock_jump", "00:00:00:10", "the clock jumps by 1.00 s"),
                 ("clock_jump", "00:00:00:15", "the clock jumps back by 1.00 s"),
                 ("clock_jump", "00:00:00:20", "the clock jumps by 0:01:36")], origin)
@@ -119,7 +121,7 @@ class Notices(Case):
     def test_warns_of_pages_that_the_pmt_announces(self) -> None:
         own, other = Announced(PAGE, "eng", 2), Announced((1, 0x50), "ger", 5)
         stl = self.write("one.stl", make_gsi_block(b"", 0, 0))
-        request = request_for(stl, "one.ts")
+        request = make_example_request(stl, "one.ts")
         of_pages: list[tuple[list[list[Announced]], str]] = [
             ([], ""), ([[own]], ""), ([[other, own]], ""), ([[], [own]], ""),
             ([[other], [own]], ""), ([[own], [other]], ""), ([[own, other]], ""),
@@ -132,35 +134,37 @@ class Notices(Case):
             ([[Announced((0, 0x89), "eng", 2)]],
              "announces page 889 (eng, subtitles), but not page 888")]
         for pages, words in of_pages:
-            listing: Any = SimpleNamespace(programmes_of=lambda pid: [
+            listing: Any = SimpleNamespace(find_programmes=lambda pid: [
                 SimpleNamespace(pages={0x101: some, 0x102: [other]}) for some in pages])
-            found = said(find_pmt_notices(listing, 0x101, request))
-            self.assertEqual([kind for kind, *_ in found], ["page"] * bool(words), pages)
-            self.assertTrue(not found or found[0][1].endswith(words), found)
+            result = said(find_pmt_notices(listing, 0x101, request))
+            self.assertEqual([kind for kind, *_ in result], ["page"] * bool(words), pages)
+            self.assertTrue(not result or result[0][1].endswith(words), result)
 
     def test_warns_of_each_other_character_set(self) -> None:
         for sets, count in (((0,), 0), ((8,), 1), ((0, 8), 1), ((8, 0), 1), ((8, 9), 2)):
             packets = survey_packets(self, make_pes_packet(0, [HEADER, *(
-                character_set_packet(number, one) for number, one in zip((29, 28), sets)),
+                make_character_set_packet(number, item) for number, item in zip((29, 28), sets)),
                                                                CLOSING]))
-            found = said(find_character_set_notices(packets, request_for("one.stl", "one.ts")))
-            self.assertEqual([one[0] for one in found], ["character_set"] * count, (sets, found))
+            result = said(find_character_set_notices(packets,
+                                                     make_example_request("one.stl", "one.ts")))
+            self.assertEqual([item[0] for item in result], ["character_set"] * count,
+                             (sets, result))
 
     def test_warns_of_wrong_counts_in_the_gsi_block(self) -> None:
         blocks = [make_subtitle_blocks(at, 25 * at, 25 * at + 20, 20, 2, b"a") for at in (1, 2)]
         for told_blocks, told_subtitles in itertools.product((1, 2, 3), repeat=2):
             data = make_gsi_block(b"", told_blocks, told_subtitles) + b"".join(blocks)
-            found = said(find_count_notices(SubtitleFile(self.write("one.stl", data))))
+            result = said(find_count_notices(SubtitleFile(self.write("one.stl", data))))
             kinds = ["blocks"] * (told_blocks != 2) + ["subtitles"] * (told_subtitles != 2)
-            self.assertEqual([one[0] for one in found], kinds, (told_blocks, told_subtitles))
-            for _, line, _ in found:
+            self.assertEqual([item[0] for item in result], kinds, (told_blocks, told_subtitles))
+            for _, line, _ in result:
                 self.assertTrue("there are 2" in line, line)
         data = make_gsi_block(b"", 1, 1)[:238] + b"  x  00000" + make_gsi_block(b"", 1, 1)[248:]
-        self.assertEqual([one[:2] for one in said(find_count_notices(SubtitleFile(self.write(
+        self.assertEqual([item[:2] for item in said(find_count_notices(SubtitleFile(self.write(
             "one.stl", data + blocks[0]))))], [
                 ("subtitles", "the GSI block counts 0 subtitles (TNS), but there is 1: is the "
                  "subtitle file complete?")])
-        self.assertEqual([format_presence(one) for one in (0, 1, 2, 1234)],
+        self.assertEqual([format_presence(item) for item in (0, 1, 2, 1234)],
                          ["there are 0", "there is 1", "there are 2", "there are 1,234"])
         comment = make_tti_block(2, 30, 40, 20, 2, b"", comment=1)
         for count in (1, 2):
@@ -171,34 +175,35 @@ class Notices(Case):
     def test_warns_of_pauses_in_a_regular_stream(self) -> None:
         def pauses(frames: Sequence[int], origin: int = 0) -> list[tuple[str, str | None]]:
             pts = [(origin + TICKS * frame) % CLOCK for frame in frames]
-            warned = find_pause_notices(pts, request_for("one.stl", "one.pes"), origin)
-            return [(one.line.partition(" from ")[0], one.time) for one in warned
-                    if one.kind == "pause"]
+            warned = find_pause_notices(pts, make_example_request("one.stl", "one.pes"), origin)
+            return [(item.line.partition(" from ")[0], item.time) for item in warned
+                    if item.kind == "pause"]
 
         three = [("no PES packet for 3 frames", "00:00:00:20")]
         for origin in (0, CLOCK - 10 * TICKS):
-            for frames, wanted in (
+            for frames, expected in (
                     (list(range(40)), []), ([*range(20), *range(22, 40)], []),
                     ([*range(20), *range(23, 40)], three), ([*range(20), *range(22, 40)], []),
                     ([*range(20), 23], three), ([*range(18), 21], []),
                     ([*range(19), 22], [(three[0][0], "00:00:00:19")]),
                     ([*range(20), *range(23, 40), *range(45, 60)],
                      [*three, ("no PES packet for 5 frames", "00:00:01:15")]), ([], []), ([5], [])):
-                self.assertEqual(pauses(frames, origin), wanted, frames)
+                self.assertEqual(pauses(frames, origin), expected, frames)
 
     def test_warns_of_a_repeat_limit_that_is_too_long(self) -> None:
         def warned(step: int, every: int) -> list[str]:
             headers = [TICKS * frame for frame in range(0, 600, step)]
-            request = request_for("one.stl", "one.pes", "--every", str(every))
-            return [one.line for one in find_repeat_notices(headers, request, 0, [(0, 599)])]
+            request = make_example_request("one.stl", "one.pes", "--every", str(every))
+            return [repeat_notice.line
+                    for repeat_notice in find_repeat_notices(headers, request, 0, [(0, 599)])]
 
         for step, every, words in ((25, 51, "25 frames: give --every "
                                             "25 "), (25, 50, ""), (25, 25, ""),
                                    (1, 3, "frame: give --every "
                                           "1 "), (1, 2, ""), (2, 5, "2 "
                                                                                         "frames")):
-            found = warned(step, every)
-            self.assertEqual((len(found), words in "".join(found)), (bool(words), True),
+            result = warned(step, every)
+            self.assertEqual((len(result), words in "".join(result)), (bool(words), True),
                              (step, every))
 
 
@@ -220,20 +225,20 @@ class FrameGrids(Case):
                             (b"100000\xb90", None), (b"00000025", None)):
             data = make_gsi_block(b"", 0, 0)
             stl = self.write("one.stl", data[:256] + code + data[264:])
-            request = request_for(stl, "one.ts", "--start", "tcp")
+            request = make_example_request(stl, "one.ts", "--start", "tcp")
             try:
-                found: int | None = read_start_frame(request)
+                result: int | None = read_start_frame(request)
             except Unclear:
-                found = None
-            self.assertEqual(found, frame, code)
-        request = request_for(stl, "one.ts", "--start", "10:00:00:01")
+                result = None
+            self.assertEqual(result, frame, code)
+        request = make_example_request(stl, "one.ts", "--start", "10:00:00:01")
         self.assertEqual(read_start_frame(request), 900_001)
-        short = request_for(self.write("two.stl", data[:260]), "one.ts", "--start", "tcp")
+        short = make_example_request(self.write("two.stl", data[:260]), "one.ts", "--start", "tcp")
         with self.assertRaises(Unclear):
             read_start_frame(short)
 
 
-def page_with(*rows: tuple[int, bytes]) -> tuple[bytes, ...]:
+def make_page_with_rows(*rows: tuple[int, bytes]) -> tuple[bytes, ...]:
     """Return a page that is blank except for these rows."""
     page = list(BLANK_PAGE)
     for number, text in rows:
@@ -245,13 +250,13 @@ class NamesOfFiles(Case):
     def test_names_the_files_of_a_pair_and_its_parts(self) -> None:
         for out in (None, "out"):
             names = OutputNames("one", self.folder, out)
-            for one, name in ((names, "one"), (names.name_part(2), "one.2")):
+            for item, name in ((names, "one"), (names.make_part_paths(2), "one.2")):
                 typed = os.path.join(out or "", name)
-                self.must(f"{out} {name}: typed", one.report_path == f"{typed}.html")
-                self.must(f"{out} {name}: here", (one.recording_path, one.list_path) == (
+                self.must(f"{out} {name}: typed", item.report_path == f"{typed}.html")
+                self.must(f"{out} {name}: here", (item.recording_path, item.list_path) == (
                     os.path.join(self.folder, f"{name}.recording"),
                     os.path.join(self.folder, f"{name}.txt")))
-                self.must(f"{out} {name}: object", one.json_path == (f"{typed}.json" if out else
+                self.must(f"{out} {name}: object", item.json_path == (f"{typed}.json" if out else
                                                                    None))
 
     def test_gives_no_two_results_the_same_name(self) -> None:
@@ -263,24 +268,24 @@ class NamesOfFiles(Case):
                     "a\x1b\n": "a%1B%0A", "line 5": "line%205", "line 5 ": "line 5 ", "-a": "-a",
                     "a\u202eb": "a%E2%80%AEb", "": "%", "%": "%25", "Index": "Index"}
         for stem, name in of_names.items():
-            self.must(f"{stem!r}", pair_name(f"a/{stem}.stl" if stem else "") == name,
-                      pair_name(f"a/{stem}.stl"))
+            self.must(f"{stem!r}", make_pair_name(f"a/{stem}.stl" if stem else "") == name,
+                      make_pair_name(f"a/{stem}.stl"))
         chance, seen = random.Random(94), dict[str, object]()
         for _ in range(20_000):
             stem = "".join(chance.choice(["a", "1", ".", "~", "%", "2", "index", "line ", "\udce9",
                                           "\n", "é" * 50]) for _ in range(chance.randrange(1, 7)))
             copies, part, names = chance.randrange(1, 4), chance.randrange(3), ListNames()
             name = [names.name_pair(f"{stem}.stl") for _ in range(copies)][-1]
-            name = part_name(name, part) if part else name
+            name = make_part_name(name, part) if part else name
             self.assertEqual(seen.setdefault(name, (stem, copies, part)), (stem, copies, part))
-            self.assertFalse(name == "index" or HIDDEN.search(name)
+            self.assertFalse(name == "index" or CONTROL_CHARACTERS.search(name)
                              or re.fullmatch("line [0-9]+(~[0-9]+)?", name)
                              or name[0] == "." or len(os.fsencode(f".{name}.recording.pes")) > 255,
                              name)
         names = ListNames()
-        self.must("of a list", [names.name_pair(one) for one in (
+        self.must("of a list", [names.name_pair(item) for item in (
             "a.stl", "b/a.stl", "a~2.stl", "b.stl", "a.STL")] == ["a", "a~2", "a%7E2", "b", "a~3"])
-        self.must("of lines", [names.name_line(one) for one in (2, 3, 2)] ==
+        self.must("of lines", [names.make_line_name(item) for item in (2, 3, 2)] ==
                   ["line 2", "line 3", "line 2~2"])
 
     def test_finds_the_files_of_an_earlier_call(self) -> None:
@@ -293,10 +298,10 @@ class NamesOfFiles(Case):
         for name in [*own, *others]:
             with open(os.path.join(out, name), "wb"):
                 pass
-        found = [os.path.basename(path) for path in list_pair_files(out, "one")]
-        self.must("own", sorted(found) == sorted([*own, "one.cut.pes", "one.recording.pes",
-                                                  "one.recording.ts",
-                                                  "one.txt", "one.html", "one.json"]), found)
+        result = [os.path.basename(path) for path in list_pair_files(out, "one")]
+        self.must("own", sorted(result) == sorted([*own, "one.cut.pes", "one.recording.pes",
+                                                   "one.recording.ts",
+                                                   "one.txt", "one.html", "one.json"]), result)
         for name in ("a[1]", "a*", "a?"):
             path = self.write(f"out/{name}.1.txt", b"")
             kept = list_pair_files(out, name)
@@ -305,33 +310,36 @@ class NamesOfFiles(Case):
 
     def test_prints_the_call_with_other_options(self) -> None:
         typed = CommandPaths("tools/qc", self.bench.program)
-        request = request_for("one.stl", "one.ts", "--page", "150", "--every", "50",
-                              "--no-complete",
+        request = make_example_request("one.stl", "one.ts", "--page", "150", "--every", "50",
+                                       "--no-complete",
                           "--pid", "0x101", "--origin", "7", "--within", "2", "--breaks", "1",
                           "--pes", "2-9", "--option", "german")
         whole = "tools/qc one.stl one.ts --page 150 --every 50 --option german --origin 7 " \
             "--no-complete --pid 0x101 --breaks 1 --pes 2-9 --within 2"  # in the table's order
-        for more, wanted in (((), whole), (("--page", "P"), whole.replace(" --page 150", "")
-                                           + " --page P"),
-                             (("--origin", "T"), whole.replace(" --origin 7", "") + " --origin T"),
-                             (("--breaks", "0"), whole.replace(" --breaks 1", "") + " --breaks 0"),
-                             (("--within", "5"), whole.replace(" --within 2", "") + " --within 5"),
-                             (("--pes", "1-2"), whole.replace(" --pes 2-9", "") + " --pes 1-2")):
-            self.must(f"{more}", make_qc_command(request, typed, *more) == wanted,
+        for more, expected in (((), whole), (("--page", "P"), whole.replace(" --page 150", "")
+                                             + " --page P"),
+                               (("--origin", "T"),
+                                whole.replace(" --origin 7", "") + " --origin T"),
+                               (("--breaks", "0"),
+                                whole.replace(" --breaks 1", "") + " --breaks 0"),
+                               (("--within", "5"),
+                                whole.replace(" --within 2", "") + " --within 5"),
+                               (("--pes", "1-2"), whole.replace(" --pes 2-9", "") + " --pes 1-2")):
+            self.must(f"{more}", make_qc_command(request, typed, *more) == expected,
                       make_qc_command(request, typed, *more))
-        start = request_for("one.stl", None, "--start", "tcp")
+        start = make_example_request("one.stl", None, "--start", "tcp")
         self.must("start", make_qc_command(start, typed) == "tools/qc one.stl --start tcp")
         self.must("an origin instead", make_qc_command(start, typed, "--origin", "T") ==
                   "tools/qc one.stl --origin T")
-        self.must("words", shell_line("cat", "a b", ">", "c", "|", "d'e") ==
+        self.must("words", quote_command("cat", "a b", ">", "c", "|", "d'e") ==
                   "cat 'a b' >c | 'd'\"'\"'e'")
         for called, tool, program in (("tools/qc", "tools/air", "subttx"),
                                       ("./qc", "./air", "../subttx"), ("qc", "./air", "../subttx"),
                                       ("/a/tools/qc", "/a/tools/air", "/a/subttx")):
-            made = CommandPaths(called, self.bench.program)
-            self.check(called, made.tool_command("air"), tool)
-            self.must(f"{called}: beside", os.path.normpath(made.default_program()) ==
-                      os.path.normpath(program), made.default_program())
+            command_paths = CommandPaths(called, self.bench.program)
+            self.check(called, command_paths.get_tool_command("air"), tool)
+            self.must(f"{called}: beside", os.path.normpath(command_paths.get_default_program()) ==
+                      os.path.normpath(program), command_paths.get_default_program())
 
 
 class RecordingKinds(Case):
@@ -352,47 +360,51 @@ class PageDifferences(Case):
     ONE, TWO = b"\x0b\x0bHello", b"\x03\x0b\x0bHello"
 
     def test_names_the_first_difference_of_two_pages(self) -> None:
-        own = page_with((20, self.ONE), (22, b"  two"))
+        own = make_page_with_rows((20, self.ONE), (22, b"  two"))
         for other, place in (
-                (page_with((18, self.ONE), (22, b"  two")), "row 18 instead of 20"),
-                (page_with((20, self.ONE), (23, b"  two")), "row 23 instead of 22"),
-                (page_with((20, b" " + self.ONE), (22, b"  two")),
+                (make_page_with_rows((18, self.ONE), (22, b"  two")), "row 18 instead of 20"),
+                (make_page_with_rows((20, self.ONE), (23, b"  two")), "row 23 instead of 22"),
+                (make_page_with_rows((20, b" " + self.ONE), (22, b"  two")),
                  "row 20 from column 3 instead of 2"),
-                (page_with((20, self.ONE), (22, b" two")), "row 22 from column 1 instead of 2"),
-                (page_with((20, self.ONE)), "1 rows instead of 2")):
+                (make_page_with_rows((20, self.ONE), (22, b" two")),
+                 "row 22 from column 1 instead of 2"),
+                (make_page_with_rows((20, self.ONE)), "1 rows instead of 2")):
             self.assertEqual(describe_move(own, other), place, (other, place))
         for other, words in (
-                (own, ""), (page_with((20, b"\x0b\x0bHallo"), (22, b"  two")),
+                (own, ""), (make_page_with_rows((20, b"\x0b\x0bHallo"), (22, b"  two")),
                             "row 20 column 3: 61 instead of 65"),
-                (page_with((20, b"\x0b Hello"), (22, b"  two")),
+                (make_page_with_rows((20, b"\x0b Hello"), (22, b"  two")),
                  "row 20 column 1: a space instead of start box"),
-                (page_with((20, self.ONE), (22, b"  twos")),
+                (make_page_with_rows((20, self.ONE), (22, b"  twos")),
                  "row 22 column 5: 73 instead of a space, ends a column late"),
-                (page_with((20, self.ONE), (22, b"\x02 tw")),
+                (make_page_with_rows((20, self.ONE), (22, b"\x02 tw")),
                  "row 22 column 0: alpha green instead of a space, begins 2 columns early, ends a "
                  "column early")):
             self.assertEqual(describe_attribute_difference(own, other), words, other)
         for other, words in (
-                (own, ""), (page_with((20, self.ONE), (22, b"  two"), (2, b"x")),
+                (own, ""), (make_page_with_rows((20, self.ONE), (22, b"  two"), (2, b"x")),
                             "an additional row: 2"),
-                (page_with((20, self.ONE), (22, b"  two"), (2, b"x"), (24, b"y")),
+                (make_page_with_rows((20, self.ONE), (22, b"  two"), (2, b"x"), (24, b"y")),
                  "additional rows: 2 and 24"),
-                (page_with((20, self.TWO), (22, b"  two"), (2, b"x")), "")):
+                (make_page_with_rows((20, self.TWO), (22, b"  two"), (2, b"x")), "")):
             self.assertEqual(describe_extra_rows(own, other), words, other)
         for sent, due, moved in (
-                (own, own, False), (page_with((20, b" " + self.ONE), (22, b"  two")), own, True),
-                (page_with((21, self.ONE), (22, b"  two")), own, True),
-                (page_with((20, self.TWO), (22, b"  two")), own, False),
-                (page_with((20, self.ONE), (22, b" two")), own, True)):
+                (own, own, False),
+                (make_page_with_rows((20, b" " + self.ONE), (22, b"  two")), own, True),
+                (make_page_with_rows((21, self.ONE), (22, b"  two")), own, True),
+                (make_page_with_rows((20, self.TWO), (22, b"  two")), own, False),
+                (make_page_with_rows((20, self.ONE), (22, b" two")), own, True)):
             self.assertEqual(is_text_moved(due, sent), moved, (sent, due, moved))
-        for sent, part in ((own, True), (page_with((20, self.ONE)), True), (BLANK_PAGE, True),
-                           (page_with((20, self.TWO)), False), (page_with((22, b"  two")), True),
-                           (page_with((21, b"x")), False)):
+        for sent, part in ((own, True), (make_page_with_rows((20, self.ONE)), True), (BLANK_PAGE,
+                                                                                      True),
+                           (make_page_with_rows((20, self.TWO)), False),
+                           (make_page_with_rows((22, b"  two")), True),
+                           (make_page_with_rows((21, b"x")), False)):
             self.assertEqual(is_partial_page(sent, own), part, (sent, part))
         self.assertEqual((join_page_text(own), format_page_text(own, 0),
-                          format_page_text(page_with((1, b"\x5b[#")), 4)),
+                          format_page_text(make_page_with_rows((1, b"\x5b[#")), 4)),
                          ("Hello two", "Hello / two", "ÄÄ#"))
-        self.assertEqual(join_page_text(page_with((3, b"a \x03 b"))), "a b")
+        self.assertEqual(join_page_text(make_page_with_rows((3, b"a \x03 b"))), "a b")
         self.assertEqual([describe_code(code) for code in (0, 7, 0x1F, 0x20, 0x21, 0x7F)],
                          ["alpha black", "alpha white", "release mosaics", "a space", "21", "7F"])
         self.assertEqual((len(ATTRIBUTES), ATTRIBUTES[0x0D]), (32, "double height"))
@@ -404,10 +416,10 @@ class PageDifferences(Case):
             (6, 9, ["C10"]), (5, 4, ["C6", "C5"]), (7, 8, ["the header is German"]), (6, 7, []),
             (7, 1, []), (7, 14, ["C12, C13 and C14"])]
         for place, value, words in of_bits:
-            header = bytes(value if at == place else one for at, one in enumerate(good))
-            found = describe_control_bits(header, "english")
-            self.assertEqual(len(found), len(words), (place, value, found))
-            self.assertTrue(all(one.startswith(word) for one, word in zip(found, words)), found)
+            header = bytes(value if at == place else item for at, item in enumerate(good))
+            result = describe_control_bits(header, "english")
+            self.assertEqual(len(result), len(words), (place, value, result))
+            self.assertTrue(all(item.startswith(word) for item, word in zip(result, words)), result)
         self.assertEqual(describe_control_bits(bytes([*good[:7], 8]), "german"), [])
         self.assertEqual(describe_control_bits(bytes(good), "german"),
                          ["the header is English, but --option is german"])
@@ -427,14 +439,14 @@ class PageDifferences(Case):
             ("61", "a"), ("C2", "é"), ("65", "e"), ("80", None), ("F9", "ø"), ("FF", "\ufffd"),
             (None, None)])
         self.assertEqual([file.describe_byte(at, 0) for at in (0, 7)], [(None, None)] * 2)
-        self.assertEqual([file.find_previous_first(at) for at in (2, 5, 6)], [None, None, 2])
-        found = [file.find_by_block(at) for at in range(8)]
-        self.assertEqual([one and (one.position, one.number, one.begin) for one in found], [
+        self.assertEqual([file.find_previous_block(at) for at in (2, 5, 6)], [None, None, 2])
+        result = [file.find_by_block(at) for at in range(8)]
+        self.assertEqual([item and (item.position, item.number, item.begin) for item in result], [
             None, (0, 7, "00:00:01:00"), (1, 7, "00:00:01:00"), (1, 7, "00:00:01:00"),
             (1, 7, "00:00:01:00"), (1, 7, "00:00:01:00"), (2, 300, "00:00:03:00"), None])
         self.assertEqual([file.find_by_frame(frame) for frame in (24, 25, 49, 50, 75, 98, 99)], [
-            None, found[2], found[2], None, found[6], found[6], None])
-        self.assertEqual([*file.list_subtitles()], [found[2], found[6]])
+            None, result[2], result[2], None, result[6], result[6], None])
+        self.assertEqual([*file.list_subtitles()], [result[2], result[6]])
         advice = OptionAdvice(file, "english")
         self.assertTrue(advice.advise(5, 4).startswith("no national option has ø: "))
         self.assertEqual((advice.advise(5, 6), advice.complete_options), ("", []))
@@ -465,4 +477,4 @@ class RepeatIntervals(unittest.TestCase):
         self.assertLess(summed.call_count, 3)  # fewer calls than page transmissions
         of_gaps: list[tuple[list[int], int]] = [([], 0), ([5], 0), ([5, 5], 0), ([9, 5, 30], 21)]
         for frames, gap in of_gaps:
-            self.assertEqual(longest_gap(frames), gap, (frames, gap))
+            self.assertEqual(find_longest_gap(frames), gap, (frames, gap))

@@ -11,7 +11,7 @@ from developing.pes import make_pes_packet
 from subtitles.clock.start import Clock, GIVEN, RECORDING, TimedPart
 from subtitles.common.files import SummedFile
 from subtitles.common.program import ProgramInfo
-from subtitles.common.times import CLOCK, Span, TICKS, time_of
+from subtitles.common.times import CLOCK, Span, TICKS, format_frame
 from subtitles.formats.listing import NamedFault, NEVER_SENT, PICTURES_LEFT
 from subtitles.judging.check import CheckOutput, NO_END
 from subtitles.judging.part import Part, belongs_to_part, find_part_causes
@@ -27,27 +27,28 @@ from subtitles.results.schema import ResultSource, list_trusted_frames
 from subtitles.stream.gaps import LossPlace
 from subtitles.stream.packets import PacketRun, Packets
 from .bench import Case
-from .parts import make_answer, request_for, survey_packets, make_part
-from .transmissions import CLOSING, HEADER, row_packet
+from .parts import make_answer, make_example_request, survey_packets, make_part
+from .transmissions import CLOSING, HEADER, make_numbered_row
 
 REFUSED = ("refused 72 Content frame 00:00:05:00 row 20 column 1", "1 faults")
-OTHER = ("refused 38 UnitLength pes 7", "refused 70 Repeat frame 00:00:09:00", "2 faults")
+OTHER_LINES = ("refused 38 UnitLength pes 7", "refused 70 Repeat frame 00:00:09:00", "2 faults")
 
 
-def verdict_of(parts: Sequence[Part], severity: Severity | None = None) -> Verdict:
+def make_part_verdict(parts: Sequence[Part], severity: Severity | None = None) -> Verdict:
     """Return a verdict on these parts, with the clock given by the user."""
-    return Verdict(of_pair(), severity or Severity(None), "now", list(parts))
+    return Verdict(make_pair_request(), severity or Severity(None), "now", list(parts))
 
 
-def of_pair(*words: str) -> Request:
+def make_pair_request(*args: str) -> Request:
     """Return the request for a pair, with --origin and more options."""
-    return request_for("one.stl", "one.pes", "--origin", "0", *words)
+    return make_example_request("one.stl", "one.pes", "--origin", "0", *args)
 
 
-def loss_between(before: int | None, after: int | None, shift: int = 0, **more: Any) -> LossPlace:
+def make_loss_between(before: int | None, after: int | None, shift: int = 0,
+                      **more: Any) -> LossPlace:
     """Return a loss between two frames. `shift` ticks are added to the PTS of the frames."""
-    first, last = (None if one is None else (shift + TICKS * one) % CLOCK
-                   for one in (before, after))
+    first, last = (None if item is None else (shift + TICKS * item) % CLOCK
+                   for item in (before, after))
     return LossPlace(first, last, **more)
 
 
@@ -63,15 +64,15 @@ class Verdicts(Case):
         strange = [Notice(kind, kind, None) for kind in ("pause", "page", "pause")]
         mild = self.write("mild", b"72 warning\nnever sent warning\n")
         self.write("house", b"--allow-lost\n--severity %s\n" % mild.encode())
-        of_house = {"request": of_pair("--profile", self.path("house"))}
-        strict = {"request": of_pair("--strict"), "warnings": strange}
+        of_house = {"request": make_pair_request("--profile", self.path("house"))}
+        strict = {"request": make_pair_request("--strict"), "warnings": strange}
         self.write("relative", b"--relative\n")
-        untimed = {"request": request_for("one.stl", "one.pes")}
-        in_profile = {"request": request_for("one.stl", "one.pes", "--profile",
+        untimed = {"request": make_example_request("one.stl", "one.pes")}
+        in_profile = {"request": make_example_request("one.stl", "one.pes", "--profile",
                                            self.path("relative"))}
-        is_unused = {"request": of_pair("--profile", self.path("relative"))}
+        is_unused = {"request": make_pair_request("--profile", self.path("relative"))}
         relative = "relative 10 frames 2 transmissions"
-        good, content, first = "accepted 10 frames 2 transmissions", REFUSED[0], OTHER[0]
+        good, content, first = "accepted 10 frames 2 transmissions", REFUSED[0], OTHER_LINES[0]
         has = "; the profile has --allow-lost and --severity"
         warned, of_loss = "not accepted, since --strict treats warnings as faults (pause, page)", \
             "not accepted, since TS packets are lost"
@@ -100,18 +101,19 @@ class Verdicts(Case):
             ("ff", untimed, "relative", "relative 20 frames 4 transmissions in 2 parts", None),
             ("f", in_profile, "relative", f"{relative}; the profile has --relative", None),
             ("a", is_unused, "accepted", good, good),
-            ("f", {"request": request_for("one.stl", "one.pes", "--strict")}, "relative", relative,
-             relative),
+            ("f", {"request": make_example_request("one.stl", "one.pes", "--strict")}, "relative",
+             relative, relative),
             ("f", {**untimed, "gaps": lost}, "lost", f"{of_loss}: {relative}", None),
-            ("f", {"request": request_for("one.stl", "one.pes", "--strict"), "warnings": strange},
+            ("f", {"request": make_example_request("one.stl", "one.pes", "--strict"),
+                   "warnings": strange},
              "warned", f"{warned}: {relative}", None),
             ("r", {**untimed, "is_mild": True}, "relative", f"relative, waived: {content}", None),
             ("fo", untimed, "refused", first, None)]
         for names, known, word, line, lead in rows:
             is_mild = known.get("is_mild", False)
-            verdict = dataclasses.replace(verdict_of(
-                [make_part(0, 99, 0, make_answer({"r": REFUSED, "o": OTHER}.get(name, (good,))),
-                           number,
+            verdict = dataclasses.replace(make_part_verdict(
+                [make_part(0, 99, 0,
+                           make_answer({"r": REFUSED, "o": OTHER_LINES}.get(name, (good,))), number,
                            RECORDING if name == "f" else GIVEN)
                  for number, name in enumerate(names, 1)], Severity(mild if is_mild else None)),
                 **{name: value for name, value in known.items() if name != "is_mild"})
@@ -125,28 +127,29 @@ class Verdicts(Case):
             (Unjudged("why", is_temporary=True), [], "why", False),
             (Unjudged("why", is_stopped=True), [], "why", False)]
         for refused, (unjudged, failed, why, is_final) in itertools.product(((), (0,), (2,)), rows):
-            verdict = dataclasses.replace(verdict_of(self.three(*refused)), unjudged=unjudged,
-                                          failed_outputs=failed)
+            verdict = dataclasses.replace(make_part_verdict(self.three(*refused)),
+                                          unjudged=unjudged, failed_outputs=failed)
             self.must(f"{refused} {unjudged} {failed}", (
                 verdict.word, verdict.status, verdict.line, verdict.subtitle_counts,
                 verdict.unjudged_reason,
                 verdict.is_final) == ("not judged", 2, None, None, why, is_final),
                       verdict.unjudged_reason)
-        self.must("judged", verdict_of(self.three()).is_final)
+        self.must("judged", make_part_verdict(self.three()).is_final)
 
     def test_keeps_each_warning_once(self) -> None:
-        one, other, verdict = Notice("pause", "1", None), Notice("pause", "2", None), verdict_of([])
-        verdict.warn([one, one])
-        verdict.warn([other, one])
-        self.must("each", verdict.warnings == [one, other], verdict.warnings)
+        notice, other, verdict = Notice("pause", "1", None), Notice("pause", "2",
+                                                                    None), make_part_verdict([])
+        verdict.warn([notice, notice])
+        verdict.warn([other, notice])
+        self.must("each", verdict.warnings == [notice, other], verdict.warnings)
 
     def test_the_sentence_names_the_first_loss(self) -> None:
-        verdict = verdict_of(self.three())
-        verdict.gaps = [Gap("1", "9", f"{at} lost", LossPlace(1, 2, 3), one)
-                        for at, one in enumerate((False, True, False, True, True))]
+        verdict = make_part_verdict(self.three())
+        verdict.gaps = [Gap("1", "9", f"{at} lost", LossPlace(1, 2, 3), item)
+                        for at, item in enumerate((False, True, False, True, True))]
         self.must("judged", verdict.sentence.startswith(
             "Not accepted: between 1 and 9: 1 lost, and in 2 more places;"), verdict.sentence)
-        refused = dataclasses.replace(verdict_of(self.three(0)), named_faults=[
+        refused = dataclasses.replace(make_part_verdict(self.three(0)), named_faults=[
             NamedFault(NEVER_SENT, "nothing was sent")])
         self.must("a name", refused.sentence == "Refused: nothing was sent; 2 faults in all.",
                   refused.sentence)
@@ -163,22 +166,23 @@ class Verdicts(Case):
         for before, after in itertools.product(ends, repeat=2):
             is_of = (after is None or after > 100) and (before is None or before < 199)
             self.must(f"{before} {after}",
-                      belongs_to_part(loss_between(before, after), part) == is_of)
-        self.must("no clock", not belongs_to_part(loss_between(1, 2), make_part(None, None, None)))
+                      belongs_to_part(make_loss_between(before, after), part) == is_of)
+        self.must("no clock",
+                  not belongs_to_part(make_loss_between(1, 2), make_part(None, None, None)))
 
     def test_counts_losses_of_any_part(self) -> None:
         for shift in (0, CLOCK - 150 * TICKS):
-            verdict = verdict_of([make_part(100 * at, 100 * at + 99, shift, number=at + 1)
-                                  for at in range(3)])
+            verdict = make_part_verdict([make_part(100 * at, 100 * at + 99, shift, number=at + 1)
+                                         for at in range(3)])
             for frames in ([10, 110, 210], [99, 299, -5], [99, 150], [150, 99], [10, 299, -9]):
-                verdict.gaps = make_gaps([loss_between(frame, frame + 1, shift)
+                verdict.gaps = make_gaps([make_loss_between(frame, frame + 1, shift)
                                           for frame in frames],
                                          verdict.parts)
-                found, judged = \
+                result, judged = \
                     verdict.collect_grounds().judged_losses, [frame % 100 < 99 and 0 < frame < 300
                                                                           for frame in frames]
-                self.must(f"{shift} {frames}", found == judged and
-                          verdict.is_lost == any(judged), found)
+                self.must(f"{shift} {frames}", result == judged and
+                          verdict.is_lost == any(judged), result)
 
     def test_finds_announced_jumps_of_each_part(self) -> None:
         recording: Any = SimpleNamespace(list_losses=lambda jumps: [
@@ -187,10 +191,10 @@ class Verdicts(Case):
             parts = [make_part(100 * at, 100 * at + 99, 0, recording=recording, jumps=[
                 (TICKS * (100 * at + 50), TICKS * (100 * at + 60))] * (at in own))
                 for at in range(3)]
-            found = [(gap.after, gap.is_judged) for gap in find_gaps(recording, parts)]
-            self.must(f"{own}", found == [(time_of(100 * at + 50), True) for at in own] and [
+            result = [(gap.after, gap.is_judged) for gap in find_gaps(recording, parts)]
+            self.must(f"{own}", result == [(format_frame(100 * at + 50), True) for at in own] and [
                 len(part.find_loss_places()) for part in parts] == [at in own for at in range(3)],
-                      found)
+                      result)
 
     def test_a_loss_has_the_times_of_its_part(self) -> None:
         for frame, times in ((50, ("00:00:02:00", "00:00:02:01")),
@@ -213,12 +217,12 @@ class Verdicts(Case):
                                  for pts in (before, after))
                 place, part = LossPlace(first, second, 3, gap_marker=0), make_part(0, 1, origin)
                 part = dataclasses.replace(part, pes=(0, 0))
-                found, = make_gaps([place], [part])
+                result, = make_gaps([place], [part])
                 self.must(f"{words} {origin}",
-                          found.format_line() == f"{words}: 3 TS packets were lost" and
-                          found.is_judged and found.place is place, found)
+                          result.format_line() == f"{words}: 3 TS packets were lost" and
+                          result.is_judged and result.place is place, result)
 
-    def test_trusts_no_frame_of_a_loss(self) -> None:
+    def test_frames_with_losses_are_not_clean(self) -> None:
         printed = ["trusted frames 00:00:04:00 00:00:07:24", "accepted 10 frames 2 transmissions"]
         hole, other = (LossPlace(TICKS * at - 5, TICKS * (at + 10) - 5, missing=9)
                        for at in (151, 121))
@@ -227,19 +231,20 @@ class Verdicts(Case):
             ([], (), [(100, 199)]), ([mark], (), [(100, 199)]),
             ([hole], (), [(100, 149), (160, 199)]), ([hole], early, [(100, 150), (161, 199)]),
             ([mark, hole, other], (), [(100, 119), (130, 149), (160, 199)])]
-        for places, words, wanted in cases:
+        for places, words, expected in cases:
             parts = [make_part(100, 199, 0, make_answer(printed), 1),
                      make_part(100, 199, 0, make_answer(printed), 2, places=places,
-                               request=request_for("a.stl", "a.pes", *words))]
-            known = ResultSource(verdict_of(parts), ProgramInfo("1", "0" * 64, None))
-            found = [(one["part"], one["from"], one["to"]) for one in list_trusted_frames(known)]
-            self.must(f"{places} {words}", found == [(1, time_of(100), time_of(199)), *(
-                (2, time_of(first), time_of(last)) for first, last in wanted)], found)
+                               request=make_example_request("a.stl", "a.pes", *words))]
+            known = ResultSource(make_part_verdict(parts), ProgramInfo("1", "0" * 64, None))
+            result = [(trusted_frame["part"], trusted_frame["from"], trusted_frame["to"])
+                      for trusted_frame in list_trusted_frames(known)]
+            self.must(f"{places} {words}", result == [(1, format_frame(100), format_frame(199)), *(
+                (2, format_frame(first), format_frame(last)) for first, last in expected)], result)
 
     def test_counts_faults_of_each_number_in_all_parts(self) -> None:
-        verdict = verdict_of([make_part(0, 9, 0, make_answer(one))
-                              for one in (REFUSED, OTHER, OTHER)])
-        counts = [tuple(one) for one in count_fault_numbers(verdict.parts, {70})]
+        verdict = make_part_verdict([make_part(0, 9, 0, make_answer(item))
+                                     for item in (REFUSED, OTHER_LINES, OTHER_LINES)])
+        counts = [tuple(item) for item in count_fault_numbers(verdict.parts, {70})]
         verdict.named_faults.append(NamedFault(NEVER_SENT, ""))
         self.must("each", counts == [(72, "Content", 1), (38, "UnitLength", 2)], counts)
         self.must("in all", verdict.fault_count == 6, verdict.fault_count)
@@ -251,22 +256,24 @@ class Verdicts(Case):
                   verdict.subtitle_counts)
         letter = make_answer(["refused 50 Character block 1 at 4", "1 faults"])
         self.must("a file",
-                  verdict_of([*self.three(), make_part(0, 9, 0, letter)]).subtitle_counts is None)
+                  make_part_verdict([*self.three(),
+                                     make_part(0, 9, 0, letter)]).subtitle_counts is None)
 
     def test_spreads_the_delays_of_subtitles(self) -> None:
         of_spreads: list[tuple[list[int | None], DelaySpread | None]] = [
             ([], None), ([None], None), ([3], DelaySpread(3, 3, 3, 0)),
             ([5, 1, 3], DelaySpread(1, 3, 5, 0)), ([None, 2, None, 4], DelaySpread(2, 4, 4, 2))]
-        for several, wanted in of_spreads:
-            self.must(f"{several}", summarize_delays(several) == wanted, summarize_delays(several))
+        for several, expected in of_spreads:
+            self.must(f"{several}", summarize_delays(several) == expected,
+                      summarize_delays(several))
         delays: list[list[int | None]] = [[1, None], [], [7]]
         parts = [dataclasses.replace(part, delays=known)
                  for part, known in zip(self.three(), delays)]
-        self.must("of all parts", verdict_of(parts).delays == DelaySpread(1, 7, 7, 1))
+        self.must("of all parts", make_part_verdict(parts).delays == DelaySpread(1, 7, 7, 1))
 
 
 class PartDecisions(Case):
-    def test_knows_whether_a_part_was_read(self) -> None:
+    def test_detects_whether_a_part_was_read(self) -> None:
         refused, accepted = "50 Character block 1 at 4", "accepted 51 frames 2 transmissions"
         trusted = "trusted frames 10:00:00:00 10:00:01:24"
         of_lists: list[tuple[int, tuple[int, int] | None, list[str], bool]] = [
@@ -285,18 +292,18 @@ class PartDecisions(Case):
             (2, (0, 1), [refused, "78 Undecided frame 10:00:02:00"], True),
             (2, (0, 1), [refused, "33 Flags pes 0"], True),
             (2, (0, 1), [refused, "33 Flags pes 0", "ended 33 Flags pes 1"], False)]
-        for count, pes, some, wanted in of_lists:
+        for count, pes, some, expected in of_lists:
             lines = [line if line[0].isalpha() else f"refused {line}" for line in some]
             faults = sum(line.startswith("refused ") for line in lines)
             printed = make_answer([*lines, *[f"{faults} faults"] * bool(faults)])
             packets = Packets(0, [PacketRun(0, count, 0, TICKS, "h", "")] * bool(count))
             part = make_part(0, 9, 0, printed, packets=packets, pes=pes)
-            self.must(f"{count} {pes} {lines}", part.is_read() == wanted)
+            self.must(f"{count} {pes} {lines}", part.is_read() == expected)
 
         lines = [f"refused {refused}", trusted, "1 faults"]
         for first, last in ((900_000, 900_024), (900_000, 900_049)):  # 25 or 50 frames are lost
             part = make_part(900_000, 900_050, 0, make_answer(lines), pes=(0, 1), places=[
-                loss_between(first - 1, last + 2, missing=9)])
+                make_loss_between(first - 1, last + 2, missing=9)])
             self.must(f"a hole from {first} to {last}", part.is_read() == (last < 900_049))
 
     def test_counts_the_headers_of_its_own_pes_packets(self) -> None:
@@ -313,42 +320,44 @@ class PartDecisions(Case):
 
     def test_decodes_the_pages_of_a_part(self) -> None:
         packets = survey_packets(self, b"".join(make_pes_packet(TICKS * at - 5, [
-            HEADER, row_packet(20, b"%d" % at), CLOSING]) for at in range(10, 60, 10)))
+            HEADER, make_numbered_row(20, b"%d" % at), CLOSING]) for at in range(10, 60, 10)))
         recording: Any = SimpleNamespace(packets=packets)
-        request = request_for("a.stl", "a.pes", "--within", "1")
+        request = make_example_request("a.stl", "a.pes", "--within", "1")
         part = Part(3, request, OutputNames("a", "", None), make_answer(),
                     TimedPart(10, 50, Clock(0, GIVEN)),
                     recording, {4})
         summed = SummedFile("a", 9, "")
         for pes, frames in (((1, 2), [20, 30]), ((0, 3), [10, 20, 30, 40])):
-            made = part.add_packets(pes, summed)
-            self.check(f"{pes}", (made.pes, made.judged_file), (pes, summed))
-            self.check(f"{pes}: held", made.decoded_pages and [*made.decoded_pages.frames], frames)
+            result = part.add_packets(pes, summed)
+            self.check(f"{pes}", (result.pes, result.judged_file), (pes, summed))
+            self.check(f"{pes}: held", result.decoded_pages
+                       and [*result.decoded_pages.frames], frames)
             self.must(f"{pes}: made once",
-                      made.decoded_pages is dataclasses.replace(made, hint="x").decoded_pages)
+                      result.decoded_pages is dataclasses.replace(result, hint="x").decoded_pages)
         with mock.patch("subtitles.judging.part.SubtitleFile") as file:
             part.open_subtitle_file()
         file.assert_called_once_with("", request.between, {4})
 
-    def test_gives_losses_and_range_to_the_causes(self) -> None:
+    def test_passes_losses_and_range_to_the_causes(self) -> None:
         places = [LossPlace(TICKS * at, TICKS * (at + 9), missing=9) for at in (120, 150)]
         for refusal, is_stream in itertools.product((None, 31), (True, False)):
             recording: Any = SimpleNamespace(
                 is_stream=is_stream, packets=SimpleNamespace(refusal=refusal),
-                recorded_range=lambda: (0, TICKS * 250), list_losses=lambda jumps: places)
-            part = make_part(100, 199, 0, recording=recording, pes=(0, 9), request=request_for(
+                find_recorded_pts=lambda: (0, TICKS * 250), list_losses=lambda jumps: places)
+            part = make_part(100, 199, 0, recording=recording, pes=(0, 9),
+                             request=make_example_request(
                 "a.stl", "a.ts", "--within", "2", "--every", "300"))
-            with mock.patch("subtitles.judging.part.decode_near") as near, \
+            with mock.patch("subtitles.judging.part.decode_pages_around") as near, \
                     mock.patch("subtitles.judging.part.Causes") as causes:
-                found = find_part_causes(part)
+                part_causes = find_part_causes(part)
             self.must(f"{refusal}", causes.call_args.args[2] == (
                 Span(0, 250) if refusal is None else None), causes.call_args)
             *request, lost = near.call_args.args
             self.must(f"{is_stream}: near", request == [
                 recording.packets, part.request.page, 0, 2, (100, 199), 300, None])
             self.must(f"{is_stream}: lost", [*lost] == [(120, 129), (150, 159)] * is_stream)
-            causes.return_value.classify_all.assert_called_once_with(part.check_output)
-            self.must("named", found is causes.return_value)
+            causes.return_value.classify_faults.assert_called_once_with(part.check_output)
+            self.must("named", part_causes is causes.return_value)
 
     def test_finds_the_skipped_pes_packets(self) -> None:
         of_lines: list[tuple[tuple[str, ...], list[tuple[int, int]]]] = [
@@ -361,21 +370,21 @@ class PartDecisions(Case):
             (("refused 45 X pes 0", "refused 62 X pes 4", "refused 44 X pes 5"), [(0, 0)]),
             (("refused 72 X frame 00:00:00:01", "refused 33 X pes 1", "refused 40 X pes 2"),
              [(1, 2)])]
-        for lines, wanted in of_lines:
+        for lines, expected in of_lines:
             answer = CheckOutput(self.path("list"))
             for line in lines:
                 answer.read_line(line)
             answer.close_file()
-            found = list(answer.skipped_packets)
-            self.must(f"{lines}", found == wanted, found)
+            result = list(answer.skipped_packets)
+            self.must(f"{lines}", result == expected, result)
 
 
 class FaultNumbers(Case):
-    def test_sets_of_numbers(self) -> None:
+    def test_delaying_faults_are_complete(self) -> None:
         self.must("pages are moved",
                   DELAYING_FAULTS == {30, 31, 32, 44, 45, 60, 62, 63, 71, 72, 74, 77})
 
-    def test_ends_of_faults(self) -> None:
+    def test_finds_the_end_of_each_fault(self) -> None:
         lines = ["refused 72 Content frame 00:00:01:00 row 1 column 1",
                  "refused 38 UnitLength pes 4", "ended 72 Content frame 00:00:02:00",
                  "refused 72 Content frame 00:00:03:00 row 1 column 1", "ended 38 UnitLength pes 9",
@@ -387,9 +396,9 @@ class FaultNumbers(Case):
             answer.read_line(line)
         answer.close_file()
         ends = answer.fault_ends
-        found = [tuple(ends.get(index, NO_END)) for index in range(5)]
-        self.must("ends", found == [("00:00:02:00", None), (None, 9), (None, None), (None, None),
-                                    ("00:00:05:00", None)], found)
+        result = [tuple(ends.get(index, NO_END)) for index in range(5)]
+        self.must("ends", result == [("00:00:02:00", None), (None, 9), (None, None), (None, None),
+                                     ("00:00:05:00", None)], result)
         self.must("trusted", [*answer.trusted_frames] == [(150, 175), (225, 225)],
                   answer.trusted_frames)
         self.must("marks", [*answer.fault_spans[72]] == [(25, 50), (75, 75), (100, 125)],

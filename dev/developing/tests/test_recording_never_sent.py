@@ -7,10 +7,10 @@ from typing import Sequence
 from unittest import mock
 
 from developing.pes import make_pes_packet, decode_pts
-from subtitles.common.times import CLOCK, TICKS, frame_at
+from subtitles.common.times import CLOCK, TICKS, find_frame_of_day
 from subtitles.recording.notices import (
     Announcement, NeverSent, Notice, find_announcements, find_origin, find_unsent, is_page_expected,
-    refuse_other_pid, refuse_unsent, find_silent_pids, find_timing_notices)
+    refuse_other_pid, refuse_unsent_page, find_silent_pids, find_timing_notices)
 from subtitles.recording.recording import Recording
 from subtitles.request.request import Unclear
 from subtitles.stream.gaps import SECOND
@@ -18,41 +18,43 @@ from subtitles.stream.packets import Packets
 from subtitles.stream.survey import Survey
 from .bench import Case
 from .judged import JudgedPair, ProgrammeCase, judge_files
-from .streams import Carried, NEW, OLD, Programme, VIDEO_PID, stream_by_plan, multiplex_programmes
-from .parts import request_for, read_survey
-from .transmissions import CLOSING, Sent, pes_file, packets, write_programme
-from .test_judging_pairs import broken
-from .test_correct_recordings import in_stream as in_pcr
+from .streams import (
+    CarriedPackets, NEW, OLD, Programme, VIDEO_PID, make_planned_stream, multiplex_programmes)
+from .parts import make_example_request, read_survey
+from .transmissions import CLOSING, SentPes, join_pes_packets, packets, write_programme
+from .test_judging_pairs import damage_packet
+from .test_correct_recordings import make_service_stream as in_pcr
 
 PAGE = (0, 0x88)
-ONE, TWO, THREE = 257, 258, 259
+FIRST_PID, SECOND_PID, THIRD_PID = 257, 258, 259
 
 
-def announcements(*lines: str) -> list[Announcement]:
+def list_announcements(*lines: str) -> list[Announcement]:
     """Return the announcements of page 888 in lines of `survey`."""
     return [*find_announcements(read_survey(*lines).programmes, PAGE)]
 
 
-def pcr_at(seconds: float | None) -> int | None:
+def compute_pcr_or_none(seconds: float | None) -> int | None:
     return None if seconds is None else int(seconds * SECOND)
 
 
-def pmt_lines(number: int, *pids: int, clock: int = 100, page: str = "888") -> list[str]:
+def make_pmt_lines(number: int, *pids: int, clock: int = 100, page: str = "888") -> list[str]:
     """Return lines of `survey` about a PMT that announces a page."""
     return [f"programme {number} {clock}", *(line for pid in pids for line in (
         f"stream {pid} 6", f"announce {pid} {page} 656e67 2"))]
 
 
 class Announcements(Case):
-    def test_knows_when_a_pmt_announces_the_page(self) -> None:
-        lines = [*pmt_lines(1, ONE), f"pcr 100 {SECOND}", *pmt_lines(1, TWO),
+    def test_finds_when_a_pmt_announces_the_page(self) -> None:
+        lines = [*make_pmt_lines(1, FIRST_PID), f"pcr 100 {SECOND}", *make_pmt_lines(1, SECOND_PID),
                  f"pcr 100 {9 * SECOND}",
-                 *pmt_lines(2, THREE, clock=200), *pmt_lines(1, ONE, page="150")]
-        found = announcements(*lines)
-        self.must("when", found == [
-            Announcement(1, frozenset({ONE}), None, SECOND),
-            Announcement(1, frozenset({TWO}), SECOND, 9 * SECOND),
-            Announcement(2, frozenset({THREE}), None, None)], found)
+                 *make_pmt_lines(2, THIRD_PID, clock=200),
+                 *make_pmt_lines(1, FIRST_PID, page="150")]
+        result = list_announcements(*lines)
+        self.must("when", result == [
+            Announcement(1, frozenset({FIRST_PID}), None, SECOND),
+            Announcement(1, frozenset({SECOND_PID}), SECOND, 9 * SECOND),
+            Announcement(2, frozenset({THIRD_PID}), None, None)], result)
 
     def test_warns_of_pts_behind_the_pcr(self) -> None:
         for origin, frame in itertools.product((0, CLOCK - 60 * TICKS), (50, 90, -5)):
@@ -66,129 +68,144 @@ class Announcements(Case):
 
     def test_finds_an_announced_page_that_is_not_sent(self) -> None:
         begin, end = 10 * SECOND, 20 * SECOND
-        own = Announcement(1, frozenset({ONE}), None, None)
-        other = Announcement(1, frozenset({TWO}), None, None)
-        both = Announcement(1, frozenset({ONE, TWO}), None, None)
-        foreign = Announcement(2, frozenset({TWO}), None, None)
+        own = Announcement(1, frozenset({FIRST_PID}), None, None)
+        other = Announcement(1, frozenset({SECOND_PID}), None, None)
+        both = Announcement(1, frozenset({FIRST_PID, SECOND_PID}), None, None)
+        foreign = Announcement(2, frozenset({SECOND_PID}), None, None)
         rows: list[tuple[str, Sequence[Announcement], set[int], Announcement | None]] = [
-            ("sent", [own], {ONE}, None), ("sent elsewhere", [other], {ONE}, other),
-            ("one of two", [both], {ONE}, None), ("sent by none", [other], set(), None),
-            ("another programme", [own, foreign], {ONE}, None),
-            ("one of two, another programme", [both, foreign], {ONE}, None),
-            ("no programme announces it", [foreign], {ONE}, foreign),
-            ("nothing announced", [], {ONE}, None),
-            *((f"from {first} to {last}", [own, one], {ONE}, one if is_in else None)
+            ("sent", [own], {FIRST_PID}, None), ("sent elsewhere", [other], {FIRST_PID}, other),
+            ("one of two", [both], {FIRST_PID}, None), ("sent by none", [other], set(), None),
+            ("another programme", [own, foreign], {FIRST_PID}, None),
+            ("one of two, another programme", [both, foreign], {FIRST_PID}, None),
+            ("no programme announces it", [foreign], {FIRST_PID}, foreign),
+            ("nothing announced", [], {FIRST_PID}, None),
+            *((f"from {first} to {last}", [own, item], {FIRST_PID}, item if is_in else None)
               for first, last, is_in in (
                   (None, 12.5, True), (None, 12, False), (None, 9, False), (17.5, None, True),
                   (18, None, False), (25, None, False), (5, 30, True), (12, 15, True))
-              for one in [Announcement(1, frozenset({TWO}), pcr_at(first), pcr_at(last))])]
-        for name, announced, carriers, wanted in rows:
-            self.must(name, find_unsent(announced, carriers, begin, end) == wanted)
-            shifted = [one._replace(begin=one.begin and (one.begin - 15 * SECOND) % CLOCK,
-                                    end=one.end and (one.end - 15 * SECOND) % CLOCK)
-                       for one in announced]
-            found = find_unsent(shifted, carriers, (begin - 15 * SECOND) % CLOCK, 5 * SECOND)
-            self.must(f"{name}: over the wrap", (found is None) == (wanted is None), found)
+              for item in [Announcement(1, frozenset({SECOND_PID}), compute_pcr_or_none(first),
+                                        compute_pcr_or_none(last))])]
+        for name, announced, carriers, expected in rows:
+            self.must(name, find_unsent(announced, carriers, begin, end) == expected)
+            shifted = [item._replace(begin=item.begin and (item.begin - 15 * SECOND) % CLOCK,
+                                     end=item.end and (item.end - 15 * SECOND) % CLOCK)
+                       for item in announced]
+            unsent = find_unsent(shifted, carriers, (begin - 15 * SECOND) % CLOCK, 5 * SECOND)
+            self.must(f"{name}: over the wrap", (unsent is None) == (expected is None), unsent)
 
     def test_finds_programmes_that_never_send_the_page(self) -> None:
         rows: list[tuple[list[str], set[int], set[int]]] = [
-                ([*pmt_lines(1, ONE)], {ONE}, set()),
-                ([*pmt_lines(1, ONE), *pmt_lines(2, TWO)], {ONE}, {TWO}),
-                ([*pmt_lines(1, ONE), *pmt_lines(2, TWO), *pmt_lines(3, THREE)], {ONE, TWO},
-                 {THREE}),
-                ([*pmt_lines(1, ONE), *pmt_lines(2, TWO)], {ONE, TWO}, set()),
-                ([*pmt_lines(1, ONE), *pmt_lines(2, TWO)], set(), set()),
-                ([*pmt_lines(1, ONE), *pmt_lines(2, TWO)], {THREE}, set()),
-                ([*pmt_lines(1, ONE, TWO)], {ONE}, set()),
-                ([*pmt_lines(1, ONE), *pmt_lines(2, ONE)], {ONE}, set())]
-        for lines, carriers, wanted in rows:
+                ([*make_pmt_lines(1, FIRST_PID)], {FIRST_PID}, set()),
+                ([*make_pmt_lines(1, FIRST_PID), *make_pmt_lines(2, SECOND_PID)], {FIRST_PID},
+                 {SECOND_PID}),
+                ([*make_pmt_lines(1, FIRST_PID), *make_pmt_lines(2, SECOND_PID),
+                  *make_pmt_lines(3, THIRD_PID)], {FIRST_PID, SECOND_PID},
+                 {THIRD_PID}),
+                ([*make_pmt_lines(1, FIRST_PID), *make_pmt_lines(2, SECOND_PID)],
+                 {FIRST_PID, SECOND_PID}, set()),
+                ([*make_pmt_lines(1, FIRST_PID), *make_pmt_lines(2, SECOND_PID)], set(), set()),
+                ([*make_pmt_lines(1, FIRST_PID), *make_pmt_lines(2, SECOND_PID)],
+                 {THIRD_PID}, set()),
+                ([*make_pmt_lines(1, FIRST_PID, SECOND_PID)], {FIRST_PID}, set()),
+                ([*make_pmt_lines(1, FIRST_PID), *make_pmt_lines(2, FIRST_PID)],
+                 {FIRST_PID}, set())]
+        for lines, carriers, expected in rows:
             self.must(f"{lines} {carriers}",
-                      find_silent_pids(announcements(*lines), carriers) == wanted)
+                      find_silent_pids(list_announcements(*lines), carriers) == expected)
             for pes in (None, (0, 9)):  # --pes decides which programme is meant
-                found = self.why_unclear(lines, carriers, pes)
-                pids = [f"--pid 0x{pid:X}" for pid in sorted(carriers | wanted)]
-                self.must(f"{lines} {carriers} {pes}: refused", found == (
-                    pids if wanted and pes is None else None), found)
+                result = self.describe_unclear(lines, carriers, pes)
+                pids = [f"--pid 0x{pid:X}" for pid in sorted(carriers | expected)]
+                self.must(f"{lines} {carriers} {pes}: refused", result == (
+                    pids if expected and pes is None else None), result)
 
-    def why_unclear(self, lines: list[str], carriers: set[int], pes: tuple[int, int] | None) \
+    def describe_unclear(self, lines: list[str], carriers: set[int], pes: tuple[int, int] | None) \
             -> list[str] | None:
         """Return the commands that qc suggests, or `None` if it knows which programme is meant."""
         request = mock.Mock(page=PAGE, pes=pes)
         recording = mock.Mock(survey=read_survey(*lines), request=request, said=str)
         recording.suggest_call = lambda *words: " ".join(words)
         try:
-            Recording.refuse_silent(recording, carriers)
+            Recording.refuse_silent_programmes(recording, carriers)
         except Unclear as reason:
             return [*reason.commands]
         return None
 
     def test_expects_the_page_if_a_subtitle_is_recorded(self) -> None:
         subtitles = [(100, 150), (500, 600)]
-        for first, last, origin, wanted in (
+        for first, last, origin, expected in (
                 (0, 1000, 0, True), (100, 150, 0, True), (101, 599, 0, False),
                 (100, 149, 0, False), (500, 600, 0, True), (160, 490, 0, False),
                 (601, 9999, 0, False), (0, 90, 0, False), (0, 500, None, True),
                 (7, 507, None, True), (0, 499, None, False)):
             for shift in (0, CLOCK - 300 * TICKS):
                 clock = (shift + first * TICKS) % CLOCK, (shift + last * TICKS) % CLOCK
-                found = is_page_expected(clock, subtitles, None if origin is None else shift)
-                self.must(f"{first} {last} {origin} {shift}", found == wanted)
+                result = is_page_expected(clock, subtitles, None if origin is None else shift)
+                self.must(f"{first} {last} {origin} {shift}", result == expected)
         self.must("no PCR", not is_page_expected(None, subtitles, 0))
         self.must("no subtitle", not is_page_expected((0, CLOCK // 2), [], 0))
 
     def test_refuses_a_page_that_is_sent_nowhere(self) -> None:
         clock = ["pcr 100 0", f"pcr 100 {60 * SECOND}"]
-        sent, scrambled = f"pes {ONE} 0 1 {SECOND} 0 h/ 1 0", f"end {TWO} 0 0 9 9 0 0 -"
-        known = f"pes {TWO} 0 1 {SECOND} 0 -/ 1 0; end {TWO} 0 0 9 9 31 0 -"  # unreadable Teletext
+        sent, scrambled = f"pes {FIRST_PID} 0 1 {SECOND} 0 h/ 1 0", f"end {SECOND_PID} 0 0 9 9 0 " \
+            "0 -"
+        # unreadable Teletext
+        known = f"pes {SECOND_PID} 0 1 {SECOND} 0 -/ 1 0; end {SECOND_PID} 0 0 9 9 31 0 -"
         short = f"pcr 200 0; pcr 200 {SECOND}"
-        start = [f"stream {THREE} 2", f"video {THREE} 0", f"picture {THREE} {90 * SECOND}"]
+        start = [f"stream {THIRD_PID} 2", f"video {THIRD_PID} 0",
+                 f"picture {THIRD_PID} {90 * SECOND}"]
         rows: list[tuple[list[str], list[str], bool]] = [
-            (pmt_lines(1, ONE), [], True), (pmt_lines(1, TWO), ["--pid", f"{TWO}"], True),
-            (pmt_lines(1, ONE), ["--pid", f"{TWO}"], False),
-            ([*pmt_lines(1, ONE, TWO), scrambled], [], False),
-            ([*pmt_lines(1, TWO), scrambled], [], False),
-            ([*pmt_lines(1, TWO), known], [], True),
-            ([*pmt_lines(1, ONE, TWO), known, short], [], True),
-            ([*pmt_lines(1, ONE, clock=100), *pmt_lines(2, TWO, clock=200), short], [], True),
-            ([*pmt_lines(1, ONE, clock=200), *pmt_lines(2, TWO, clock=100), short], [], True),
-            ([*pmt_lines(1, ONE, clock=200), short], [], False),
-            ([*pmt_lines(1, ONE), scrambled], [], True), ([*pmt_lines(1, ONE), *start], [], True),
-            ([*pmt_lines(1, ONE), *start], ["--start", "00:00:00:00"], False),
-            ([*pmt_lines(1, ONE), *start], ["--start", "00:01:30:00"], True),
-            ([sent, *pmt_lines(1, TWO)], [], True),
-            ([sent, *pmt_lines(1, TWO), scrambled], [], False),
-            ([sent, f"pes {TWO} 0 1 {SECOND} 0 -/ 1 0", *pmt_lines(1, TWO)], [], True),
-            ([sent, *pmt_lines(1, TWO, THREE), scrambled], [], False),
-            ([sent, *pmt_lines(1, TWO)], ["--pid", f"{ONE}"], False)]
+            (make_pmt_lines(1, FIRST_PID), [], True),
+            (make_pmt_lines(1, SECOND_PID), ["--pid", f"{SECOND_PID}"], True),
+            (make_pmt_lines(1, FIRST_PID), ["--pid", f"{SECOND_PID}"], False),
+            ([*make_pmt_lines(1, FIRST_PID, SECOND_PID), scrambled], [], False),
+            ([*make_pmt_lines(1, SECOND_PID), scrambled], [], False),
+            ([*make_pmt_lines(1, SECOND_PID), known], [], True),
+            ([*make_pmt_lines(1, FIRST_PID, SECOND_PID), known, short], [], True),
+            ([*make_pmt_lines(1, FIRST_PID, clock=100), *make_pmt_lines(2, SECOND_PID, clock=200),
+              short], [], True),
+            ([*make_pmt_lines(1, FIRST_PID, clock=200), *make_pmt_lines(2, SECOND_PID, clock=100),
+              short], [], True),
+            ([*make_pmt_lines(1, FIRST_PID, clock=200), short], [], False),
+            ([*make_pmt_lines(1, FIRST_PID), scrambled], [], True),
+            ([*make_pmt_lines(1, FIRST_PID), *start], [], True),
+            ([*make_pmt_lines(1, FIRST_PID), *start], ["--start", "00:00:00:00"], False),
+            ([*make_pmt_lines(1, FIRST_PID), *start], ["--start", "00:01:30:00"], True),
+            ([sent, *make_pmt_lines(1, SECOND_PID)], [], True),
+            ([sent, *make_pmt_lines(1, SECOND_PID), scrambled], [], False),
+            ([sent, f"pes {SECOND_PID} 0 1 {SECOND} 0 -/ 1 0", *make_pmt_lines(1, SECOND_PID)],
+             [], True),
+            ([sent, *make_pmt_lines(1, SECOND_PID, THIRD_PID), scrambled], [], False),
+            ([sent, *make_pmt_lines(1, SECOND_PID)], ["--pid", f"{FIRST_PID}"], False)]
         for lines, words, is_refused in rows:
-            survey, found = Survey(), ""
+            survey, result = Survey(), ""
             for line in "; ".join([*lines, *clock]).split("; "):
                 survey.read_line(line)
-            request = request_for("a.stl", "a.ts", *words)
+            request = make_example_request("a.stl", "a.ts", *words)
             try:
                 if sent in lines:
                     refuse_other_pid(request, survey, SECOND, 9 * SECOND)
                 else:
-                    refuse_unsent(request, survey, [(100, 150)])
+                    refuse_unsent_page(request, survey, [(100, 150)])
             except NeverSent as reason:
-                found = str(reason)
-            self.must(f"{lines} {words}", bool(found) == is_refused, found)
+                result = str(reason)
+            self.must(f"{lines} {words}", bool(result) == is_refused, result)
         stl = self.write("none.stl", b" " * 1024)
-        self.must("no TCP", find_origin(request_for(stl, "a.ts", "--start", "tcp"), read_survey(
-            *pmt_lines(1, ONE), *start, f"stream {ONE} 6"), ONE) is None)
+        self.must("no TCP",
+                  find_origin(make_example_request(stl, "a.ts", "--start", "tcp"), read_survey(
+            *make_pmt_lines(1, FIRST_PID), *start, f"stream {FIRST_PID} 6"), FIRST_PID) is None)
 
 
 class JudgedStreams(ProgrammeCase):
     words = ()
 
-    def judge_plan(self, plan: Sequence[tuple[int, int]], sent: Carried, *words: str,
-                   count: int | None = None) -> JudgedPair:
-        return self.judge_stream(stream_by_plan(self.pes[:count], plan, sent), *words)
+    def judge_planned_stream(self, plan: Sequence[tuple[int, int]], sent: CarriedPackets,
+                             *args: str, count: int | None = None) -> JudgedPair:
+        return self.judge_stream(make_planned_stream(self.pes[:count], plan, sent), *args)
 
-    def on_old(self, at: int) -> Sequence[tuple[int, bytes]]:
+    def send_on_old_pid(self, at: int) -> Sequence[tuple[int, bytes]]:
         return [(OLD, self.pes[at])]
 
-    def bare(self, at: int) -> Sequence[tuple[int, bytes]]:
+    def send_headers_only(self, at: int) -> Sequence[tuple[int, bytes]]:
         """Return a PES packet on the PID NEW, without Teletext packets."""
         return [(NEW, make_pes_packet(decode_pts(self.pes[at]), []))]
 
@@ -203,19 +220,20 @@ class JudgedStreams(ProgrammeCase):
                   and any("announces page 888" in line for line in told.said), told.said)
 
     def test_refuses_a_page_that_comes_on_another_pid(self) -> None:
-        judged = self.judge_plan([(0, OLD)], self.on_old, "--every", "25")
+        judged = self.judge_planned_stream([(0, OLD)], self.send_on_old_pid, "--every", "25")
         self.must("sent", judged.word == "accepted")
         words = "page 888 is announced on PID 0x111, but was never sent (PID 0x111 has no TS " \
             "packet); PID 0x101 has it"
-        self.check_never_sent("announced elsewhere", self.judge_plan([(0, NEW)], self.on_old),
-                              words)
+        self.check_never_sent("announced elsewhere",
+                              self.judge_planned_stream([(0, NEW)], self.send_on_old_pid), words)
         half = len(self.pes) // 2
-        self.check_never_sent("moved", self.judge_plan([(0, OLD), (half, NEW)], self.on_old), words)
+        self.check_never_sent("moved", self.judge_planned_stream([(0, OLD), (half, NEW)],
+                                                                 self.send_on_old_pid), words)
         rows: list[tuple[str, list[tuple[int, int]], list[str]]] = [
             ("typed", [(0, NEW)], ["--pid", f"0x{OLD:X}"]),
             ("at the end", [(0, OLD), (len(self.pes) - 1, NEW)], [])]
         for name, plan, more in rows:
-            judged = self.judge_plan(plan, self.on_old, "--every", "25", *more)
+            judged = self.judge_planned_stream(plan, self.send_on_old_pid, "--every", "25", *more)
             self.must(name, judged.word == "accepted", judged.said)
 
     def test_refuses_a_page_that_never_comes_while_it_is_expected(self) -> None:
@@ -226,17 +244,18 @@ class JudgedStreams(ProgrammeCase):
                 ("at another time", None, ["--origin", f"{CLOCK // 2}"], False),
                 ("typed", None, ["--pid", f"0x{NEW:X}"], True)]
         for name, count, more, is_due in rows:
-            judged = self.judge_plan([(0, NEW)], self.bare, *more, count=count)
+            judged = self.judge_planned_stream([(0, NEW)], self.send_headers_only, *more,
+                                               count=count)
             if is_due:
                 self.check_never_sent(name, judged, words)
             else:
                 self.must(name, judged.word == "not judged", judged.said)
 
     def test_reports_that_one_of_several_programmes_never_sends_it(self) -> None:
-        first, frames = decode_pts(self.pes[0]), frame_at(decode_pts(self.pes[-1]), 0) or 0
-        made = multiplex_programmes([Programme({OLD: self.pes}, first),
+        first, frames = decode_pts(self.pes[0]), find_frame_of_day(decode_pts(self.pes[-1]), 0) or 0
+        result = multiplex_programmes([Programme({OLD: self.pes}, first),
                       Programme({NEW: []}, first, VIDEO_PID + 1)], frames)
-        judged = self.judge_stream(made.data)
+        judged = self.judge_stream(result.data)
         self.must("asked", judged.word == "not judged" and judged.told[0].endswith(
             "but sent only on PID 0x101, not on PID 0x111") and [
                 line.split()[-1] for line in judged.told if line.startswith(("try: ", "or: "))] == [
@@ -245,82 +264,88 @@ class JudgedStreams(ProgrammeCase):
     def test_reports_a_refused_subtitle_first(self) -> None:
         with open(self.stl, "rb") as file:
             bad = self.write("bad.stl", file.read().replace(b"Number 3", b"Number \xe6"))
-        judged = judge_files(self, bad, self.write("one.ts", stream_by_plan(self.pes, [(0, NEW)],
-                                                                            self.on_old)))
+        judged = judge_files(self, bad,
+                             self.write("one.ts", make_planned_stream(self.pes, [(0, NEW)],
+                                                                      self.send_on_old_pid)))
         self.must("refused", judged.verdict.line == "refused 50 Character block 3 at 7" and
-                  {one["number"] for one in judged.result["faults"]} == {50, None} and
+                  {item["number"] for item in judged.result["faults"]} == {50, None} and
                   judged.told[0].startswith("the other subtitles were not judged: page 888 is "
                                           "announced on PID 0x111, but was never sent "),
                   judged.said)
 
     def test_is_not_judged_if_the_fault_is_waived(self) -> None:
         path = self.write("severity", b"never sent warning\n")
-        judged = self.judge_plan([(0, NEW)], self.bare, "--severity", path)
+        judged = self.judge_planned_stream([(0, NEW)], self.send_headers_only, "--severity", path)
         self.must("a warning", judged.word == "not judged", judged.said)
 
     def test_writes_report_and_result_of_a_page_never_sent(self) -> None:
         out = self.path("out")
-        self.judge_plan([(0, NEW)], self.bare, "-o", out)
+        self.judge_planned_stream([(0, NEW)], self.send_headers_only, "-o", out)
         page = self.read("out/one.html").decode()
         self.must("report", "is announced on PID 0x111, but was never sent" in page and
                   json.loads(self.read("out/one.json"))["status"] == 1, page[:2000])
 
 
-class DeadSources(ProgrammeCase):
+class SourcesWithoutPage(ProgrammeCase):
     words = ("--every", "25")
 
-    def blank(self, first: int = 0, last: int = 1 << 30) -> Sent:
+    def blank(self, first: int = 0, last: int = 1 << 30) -> SentPes:
         """Return the transmission with the rows between two frames removed."""
-        return [(pts, [some[0], some[-1]] if first <= pts // TICKS <= last and some else some)
-                for pts, some in self.sent]
+        return [(pts, [packets[0], packets[-1]] if first <= pts // TICKS <= last and packets
+                 else packets)
+                for pts, packets in self.sent]
 
-    def without(self, last: int) -> Sent:
+    def exclude(self, last: int) -> SentPes:
         """Return the transmission without rows, and up to frame `last` without Teletext packets."""
-        return [(pts, some if pts // TICKS > last else []) for pts, some in self.blank()]
+        return [(pts, packets if pts // TICKS > last else []) for pts, packets in self.blank()]
 
     def test_refuses_headers_without_rows_if_a_subtitle_is_expected(self) -> None:
         end = self.due[-1][1]
-        later = [(pts + TICKS * 2 * end, some) for pts, some in self.sent]
+        later = [(pts + TICKS * 2 * end, pes_packets) for pts, pes_packets in self.sent]
         count, own = len(self.sent), "is never sent while subtitles are expected: "
-        cut = pes_file(self.blank())
+        cut = join_pes_packets(self.blank())
         rows: dict[str, tuple[bytes, tuple[str, ...], str]] = {
             "headers": (cut, (), f"{count} headers, no row"),
             "headers, with a clock": (cut, ("--origin", "0"), f"{count - 1} headers, no row"),
             "headers, with a clock before": (cut, ("--origin", f"{TICKS * 2 * end}"), ""),
             "headers, with a clock behind": (cut, ("--origin", f"{CLOCK - TICKS * 2 * end}"), ""),
             "the first header at the last TCO": (
-                pes_file(self.without(end - 1)), ("--origin", "0"), f"{count - 1} PES packets, no "
-                "header"),
-            "a header before it": (pes_file(self.without(end - 26)), ("--origin", "0"),
+                join_pes_packets(self.exclude(end - 1)), ("--origin", "0"),
+                f"{count - 1} PES packets, no header"),
+            "a header before it": (join_pes_packets(self.exclude(end - 26)), ("--origin", "0"),
                                    "1 header, no row"),
-            "rows behind the last TCO": (pes_file([*self.blank(), *later]), ("--origin", "0"),
+            "rows behind the last TCO": (join_pes_packets([*self.blank(), *later]),
+                                         ("--origin", "0"),
                                          f"{count - 1} headers, no row; the first row comes "
                                          f"{2 * end} frames after the first TCI"),
-            "rows behind it, without a clock": (pes_file([*self.blank(), *later]), (), ""),
-            "a row": (pes_file(self.blank(0, end - 100)), ("--origin", "0"), ""),
-            "a row when the page is closed": (pes_file([
+            "rows behind it, without a clock": (join_pes_packets([*self.blank(), *later]), (), ""),
+            "a row": (join_pes_packets(self.blank(0, end - 100)), ("--origin", "0"), ""),
+            "a row when the page is closed": (join_pes_packets([
                 *self.blank()[:9], (self.sent[9][0], [CLOSING, *self.sent[9][1][1:]]),
                 *self.blank()[10:]]), ("--origin", "0"), ""),
-            "a PES packet that can't be read": (b"".join([broken(one, 37) if at == 3 else one
-                for at, one in enumerate(packets(cut))]), ("--origin", "0"), ""),
-            "no header at all": (pes_file(self.without(1 << 30)), ("--origin", "0"), ""),
+            "a PES packet that can't be read": (b"".join([damage_packet(packet, 37) if at == 3
+                                                          else packet
+                for at, packet in enumerate(packets(cut))]), ("--origin", "0"), ""),
+            "no header at all": (join_pes_packets(self.exclude(1 << 30)), ("--origin", "0"), ""),
             "some PES packets, by --pes": (cut, ("--pes", f"0-{count}"), "")}
         for name, (data, words, printed) in rows.items():
-            found = judge_files(self, self.stl, self.write("one.pes", data), *self.words, *words)
+            judged_pair = judge_files(self, self.stl, self.write("one.pes", data),
+                                      *self.words, *words)
             sentence = f"Refused: page 888 {own}{printed}."
-            self.check(name, found.verdict.sentence == sentence, bool(printed))
+            self.check(name, judged_pair.verdict.sentence == sentence, bool(printed))
             if printed:
-                self.check(f"{name}: verdict", (found.word, found.verdict.line,
-                                                found.result["parts"]),
+                self.check(f"{name}: verdict", (judged_pair.word, judged_pair.verdict.line,
+                                                judged_pair.result["parts"]),
                            ("refused", "refused never sent", []))
 
     def test_refuses_headers_without_rows_in_a_stream(self) -> None:
-        found = self.judge_stream(in_pcr(self.blank()))
-        self.check("stream", (found.word, "headers, no row" in found.verdict.sentence),
+        result = self.judge_stream(in_pcr(self.blank()))
+        self.check("stream", (result.word, "headers, no row" in result.verdict.sentence),
                    ("refused", True))
 
     def test_accepts_headers_for_blank_subtitles(self) -> None:
         stl = write_programme(self, self.due, text=b" ", name="blank.stl")
-        found = judge_files(self, stl, self.write("one.pes", pes_file(self.blank())), *self.words,
+        result = judge_files(self, stl, self.write("one.pes", join_pes_packets(self.blank())),
+                             *self.words,
                        "--origin", "0")
-        self.check("verdict", "never sent while" in found.verdict.sentence, False)
+        self.check("verdict", "never sent while" in result.verdict.sentence, False)

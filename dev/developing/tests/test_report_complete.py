@@ -21,11 +21,11 @@ from subtitles.request.commands import CommandPaths
 from subtitles.stream.gaps import LossPlace
 from subtitles.stream.packets import Packets, PES
 from subtitles.stream.receiver import BLANK_PAGE, Timeline
-from .bench import Case, example
-from .parts import make_answer, request_for, markup_text, survey_packets, make_part
+from .bench import Case, get_example_path
+from .parts import make_answer, make_example_request, markup_text, survey_packets, make_part
 from .transmissions import CLOSING, HEADER
-from .test_judging_status import severity_of
-from .test_judging_verdicts import verdict_of
+from .test_judging_status import make_severity
+from .test_judging_verdicts import make_part_verdict
 
 
 class CompletePage(Case):
@@ -55,10 +55,10 @@ class CompletePage(Case):
                              make_answer(self.KINDS[kind], path=self.path(f"{number}.txt")),
                              number, RECORDING if is_estimated and number == len(kinds) else GIVEN,
                              delays=[0], drawing_differences=f"drawn {number}", **given)
-            part.names.program_stl = example("story.stl")
+            part.names.program_stl = get_example_path("story.stl")
             parts.append(part)
-        verdict = verdict_of(parts)
-        verdict.request = request_for(example("story.stl"), "one.pes")
+        verdict = make_part_verdict(parts)
+        verdict.request = make_example_request(get_example_path("story.stl"), "one.pes")
         verdict.notes, verdict.warnings = ["note <1>", "note 2"], [
             Notice("pause", "one &", None), Notice("page", "other", "00:00:03:04")]
         verdict.gaps = [Gap(f"00:00:0{at}:00", None, f"{at} packets", LossPlace(
@@ -80,13 +80,13 @@ class CompletePage(Case):
                                     for at in range(1, named + 1)]
             verdict.unjudged = Unjudged(why, ("type <this>",)) if why else None
             page = markup_text(report_page.make_report_page(verdict, typed))
-            box, text = (re.sub("<[^>]*>", "", one) for one in (
+            box, text = (re.sub("<[^>]*>", "", item) for item in (
                 page.partition("</div></div>")[0], page))
             reported = [verdict.sentence, *verdict.notes]
-            reported += [warning.warning_text() for warning in verdict.warnings]
+            reported += [warning.format_warning() for warning in verdict.warnings]
             reported += ["not judged", "why", "type <this>"] if why else [
                 verdict.worst_line or "",
-                *(f"{one.line}: {one.text}" for one in verdict.named_faults),
+                *(f"{item.line}: {item.text}" for item in verdict.named_faults),
                 *[gap.format_line() for gap in verdict.gaps] * bool(kinds)]
             reported += [ESTIMATED_NOTE[1:]] * (is_estimated and len(kinds) == 1 and not why)
             each = [] if why else [UNCHECKED_DELAY] * is_estimated
@@ -94,8 +94,9 @@ class CompletePage(Case):
             for number, kind in enumerate("" if why else kinds, 1):
                 each += [f"drawn {number}", *(line.partition(" ")[2] for line in self.KINDS[kind]
                                               if line.startswith("refused"))]
-            self.assertEqual([one for some, where in ((reported, box), (each, text)) for one in some
-                              if escape(one) not in where], [], (kinds, is_estimated, named, why))
+            self.assertEqual([item
+                              for some, where in ((reported, box), (each, text)) for item in some
+                              if escape(item) not in where], [], (kinds, is_estimated, named, why))
             colour = re.findall('<div class="verdict ([a-z]+)">', page)[0]
             self.assertTrue(why or (colour == "refused") == (verdict.word == REFUSED), kinds)
             counts = [f"{len(self.KINDS[kind]) - 1}" for kind in kinds]
@@ -108,5 +109,5 @@ class CompletePage(Case):
 
     def test_counts_waived_faults_in_all_parts(self) -> None:
         verdict = self.verdict("rar")
-        verdict.severity = severity_of("68 warning")
+        verdict.severity = make_severity("68 warning")
         self.check("waived", [*report_page.list_waived(verdict)], ["68 Parity (4)"])

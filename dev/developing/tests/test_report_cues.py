@@ -18,8 +18,8 @@ from subtitles.report.page import SHAPES, keep_options_together
 from subtitles.stream.packets import Packets, PES
 from subtitles.stream.receiver import BLANK_PAGE, Rows, Timeline
 from .bench import Case
-from .parts import fault_of, markup_text
-from .test_judging_status import severity_of
+from .parts import markup_text, parse_single_fault
+from .test_judging_status import make_severity
 
 
 def page(text: bytes) -> Rows:
@@ -27,12 +27,12 @@ def page(text: bytes) -> Rows:
     return (*BLANK_PAGE[:19], text.ljust(40), *BLANK_PAGE[20:])
 
 
-def timeline_of_pages(*changes: tuple[int, Rows]) -> Timeline:
+def make_timeline_of_pages(*changes: tuple[int, Rows]) -> Timeline:
     """Return a timeline of 1000 frames with pages decoded at these frames."""
     decoded = Timeline(Packets(PES), (0, 0x88), 0)
     decoded.first, decoded.last = 0, 1000
     for frame, rows in changes:
-        decoded.note_page(frame, rows)
+        decoded.record_page(frame, rows)
     return decoded
 
 
@@ -40,41 +40,44 @@ class ActualCues(Case):
     ONE, TWO = page(b"one"), page(b"two")
 
     def test_finds_the_frames_of_a_decoded_subtitle(self) -> None:
-        one, blank, two = self.ONE, BLANK_PAGE, self.TWO
+        item, blank, two = self.ONE, BLANK_PAGE, self.TWO
         wrong = page(b"onf")
         late, text, never = (Cause(0, name, frames, sent, None, "", 0) for name, frames, sent in (
-            (LATE, 7, one), (WRONG_TEXT, None, wrong), (NEVER, None, None)))
-        for name, cause, changes, wanted in (
-                ("right", None, [(100, one), (200, two)], (100, 200)),
-                ("late", late, [(107, one), (207, two)], (107, 207)),
+            (LATE, 7, item), (WRONG_TEXT, None, wrong), (NEVER, None, None)))
+        for name, cause, changes, expected in (
+                ("right", None, [(100, item), (200, two)], (100, 200)),
+                ("late", late, [(107, item), (207, two)], (107, 207)),
                 ("wrong text", text, [(101, wrong), (199, two)], (101, 199)),
                 ("never sent", never, [(0, blank), (200, two)], (None, None)),
-                ("damaged", None, [(100, one), (150, wrong), (200, two)], (100, 200)),
-                ("erased", None, [(100, one), (150, blank), (200, two)], (100, 150)),
-                ("by another one", None, [(100, one), (150, two)], (100, 150)),
-                ("up to the end", None, [(100, one)], (100, None))):
+                ("damaged", None, [(100, item), (150, wrong), (200, two)], (100, 200)),
+                ("erased", None, [(100, item), (150, blank), (200, two)], (100, 150)),
+                ("by another one", None, [(100, item), (150, two)], (100, 150)),
+                ("up to the end", None, [(100, item)], (100, None))):
             subtitles = [Subtitle(1, 1, 100, 200, 20, 2, b""), Subtitle(2, 2, 200, 300, 20, 2, b"")]
-            decoded = timeline_of_pages(*changes)
-            made = find_decoded_times(Cue(subtitles[0], one, cause), 0,
-                                      ExpectedPages(subtitles, [one, two]), decoded, 0)
-            self.must(name, (made.begin, made.end) == wanted, (made.begin, made.end))
-            self.must(f"{name}: late", made.delay_in == (
-                None if wanted[0] is None else wanted[0] - 100), made.delay_in)
+            decoded = make_timeline_of_pages(*changes)
+            decoded_times = find_decoded_times(Cue(subtitles[0], item, cause), 0,
+                                               ExpectedPages(subtitles, [item, two]), decoded, 0)
+            self.must(name, (decoded_times.begin, decoded_times.end) == expected,
+                      (decoded_times.begin, decoded_times.end))
+            self.must(f"{name}: late", decoded_times.delay_in == (
+                None if expected[0] is None else expected[0] - 100), decoded_times.delay_in)
 
     def test_finds_the_cue_between_equal_pages(self) -> None:
         subtitles = [Subtitle(1, 1, 100, 200, 20, 2, b""), Subtitle(2, 2, 200, 300, 20, 2, b"")]
-        decoded = timeline_of_pages((100, self.ONE), (300, BLANK_PAGE))
+        decoded = make_timeline_of_pages((100, self.ONE), (300, BLANK_PAGE))
         due = ExpectedPages(subtitles, [self.ONE, self.ONE])
-        made = [find_decoded_times(Cue(one, self.ONE, None), place, due, decoded, 0)
-                for place, one in enumerate(subtitles)]
-        self.must("times", [(one.begin, one.end) for one in made] == [(100, 200), (200, 300)], made)
+        result = [find_decoded_times(Cue(item, self.ONE, None), place, due, decoded, 0)
+                  for place, item in enumerate(subtitles)]
+        self.must("times",
+                  [(item.begin, item.end) for item in result] == [(100, 200), (200, 300)], result)
 
 
 class CueVerdicts(Case):
-    def test_decides_by_the_cause_and_by_other_faults_at_its_time(self) -> None:
+    def test_considers_the_cause_and_simultaneous_faults(self) -> None:
         subtitle = Subtitle(1, 1, 100, 200, 20, 2, b"")
         programme = ExpectedPages([subtitle], [page(b"one")])
-        waived = severity_of("67 warning"), severity_of("72 warning"), severity_of("others warning")
+        waived = make_severity("67 warning"), make_severity("72 warning"), make_severity("others "
+                                                                                         "warning")
         rows: list[tuple[str | None, list[int], int, list[str]]] = [
             # Cause, numbers of other faults, first clean frame, and three expected verdicts: if
             # fault 67 is a warning, if fault 72 is a warning, and if all faults are warnings.
@@ -88,7 +91,7 @@ class CueVerdicts(Case):
             (UNKNOWN_CAUSE, [], 100, ["not known", "waived", "waived"]),
             (NOT_RECEIVED, [], 100, ["not known", "waived", "waived"]),
             (UNKNOWN_CAUSE, [67], 100, ["wrong", "wrong", "waived"])]
-        for name, numbers, first, wanted in rows:
+        for name, numbers, first, expected_value in rows:
             cause = name and Cause(0, name, 3, None, None, "", 0)
             marks = {number: Spans([(150, 150)]) for number in numbers}
             part: Any = SimpleNamespace(
@@ -97,35 +100,35 @@ class CueVerdicts(Case):
                 check_output=SimpleNamespace(fault_spans=marks, verdict=REFUSED,
                                        fault_numbers={*numbers, *[72] * bool(cause)}))
             cue = Cue(subtitle, page(b"one"), cause or None)
-            found = [CueJudge(part, severity).judge(cue).word for severity in waived]
-            self.check(f"{name}, {numbers}, trusted from {first} on", found, wanted)
+            result = [CueJudge(part, severity).judge(cue).word for severity in waived]
+            self.check(f"{name}, {numbers}, trusted from {first} on", result, expected_value)
 
-    def test_does_not_know_subtitles_with_losses(self) -> None:
+    def test_marks_subtitles_with_losses_as_unknown(self) -> None:
         cue = Cue(Subtitle(1, 1, 100, 200, 20, 2, b""), page(b"one"), None)
         for span, word in (((0, 99), "right"), ((100, 100), "not known"), ((199, 300), "not known"),
                            ((200, 300), "right")):
             part: Any = SimpleNamespace(
                 causes=None, unmarked_losses=[Span(*span)],
                 check_output=SimpleNamespace(fault_spans={}, verdict=ACCEPTED))
-            self.check(f"{span}", CueJudge(part, severity_of("")).judge(cue).word, word)
+            self.check(f"{span}", CueJudge(part, make_severity("")).judge(cue).word, word)
 
 
 class TextMarkup(Case):
     def test_marks_characters_that_differ(self) -> None:
-        for first, second, wanted in (
+        for first, second, expected in (
                 ("abc", "abd", ("ab[c]", "ab[d]")), ("abc", "abc", ("abc", "abc")),
                 ("a b", "axxb", ("a[ ]b", "a[xx]b")), ("abcd", "abd", ("ab[c]d", "abd")),
                 ("", "abc", ("", "[abc]")), ("aXbYc", "a1b2c", ("a[X]b[Y]c", "a[1]b[2]c")),
                 ("aa", "a", ("a[a]", "a")), ("<a>", "<b>", ("&lt;[a]&gt;", "&lt;[b]&gt;"))):
-            reported = tuple(markup_text(one).replace("<mark>", "[").replace("</mark>", "]")
-                         for one in mark_difference(first, second))
-            self.must(f"{first} {second}", reported == wanted, reported)
+            reported = tuple(markup_text(item).replace("<mark>", "[").replace("</mark>", "]")
+                         for item in mark_difference(first, second))
+            self.must(f"{first} {second}", reported == expected, reported)
 
     def test_prints_the_first_200_wrong_rows(self) -> None:
-        made: Any = SimpleNamespace(
+        result: Any = SimpleNamespace(
             rows=[CueRow(at, look, [], [at]) for look in ("ok", "bad") for at in range(203)],
             part=SimpleNamespace(number=1), kinds=[], make_caption=lambda: "")
-        text = markup_text(CueList.make_list(made))
+        text = markup_text(CueList.make_list(result))
         self.check("rows", (text.count('class="bad"'), text.count('class="bad more"')), (200, 3))
         self.must("texts", "203 right subtitles" in text and "and 3 more rows" in text, text[:900])
 
@@ -133,21 +136,23 @@ class TextMarkup(Case):
         subtitle = Subtitle(1, 1, 100, 200, 20, 2, b"")
         causes = [Cause(0, name, frames, None, None, "", 0) for name, frames in (
             (LATE, 1), (LATE, 1), (LATE, 2), (NEVER, None), (NEVER, None))]
-        made: Any = SimpleNamespace(
+        result: Any = SimpleNamespace(
             cues=[Cue(subtitle, BLANK_PAGE, cause) for cause in (*causes, None, None)],
             judge=SimpleNamespace(judge=lambda _: CueVerdict("wrong")), cells=lambda *_: [],
             part=SimpleNamespace(recording="one.pes"))
-        self.check("repeated", [row[-1] for row in CueList.make_judged_rows(made)],
+        self.check("repeated", [row[-1] for row in CueList.make_judged_rows(result)],
                    [False, True, False, False, True, False, False])
 
     def test_writes_numbers_with_their_signs(self) -> None:
-        self.must("signs", [format_signed(one) for one in (None, 0, 12, -3)] ==
+        self.must("signs", [format_signed(item) for item in (None, 0, 12, -3)] ==
                   ["", "0", "+12", "-3"])
 
     def test_breaks_no_option_between_lines(self) -> None:
-        for text, wanted in (("give --origin or --start", "give <b>--origin</b> or <b>--start</b>"),
-                             ("--every 25 <x>", "<b>--every 25</b> &lt;x&gt;"), ("a - b", "a - b")):
-            self.must(text, markup_text(keep_options_together(text)) == wanted,
+        for text, expected in (("give --origin or --start",
+                                "give <b>--origin</b> or <b>--start</b>"),
+                               ("--every 25 <x>", "<b>--every 25</b> &lt;x&gt;"),
+                               ("a - b", "a - b")):
+            self.must(text, markup_text(keep_options_together(text)) == expected,
                       markup_text(keep_options_together(text)))
 
     def test_gives_each_verdict_a_class_and_a_shape(self) -> None:
@@ -160,19 +165,20 @@ class TextMarkup(Case):
 class RefusedFiles(Case):
     def test_shows_the_field_that_a_fault_names(self) -> None:
         path = self.write("two.stl", make_gsi_block(b"", 1, 1) + bytes(range(16)) + b"\x8f" * 112)
-        made = SubtitleFile(path)
+        subtitle_file = SubtitleFile(path)
         fields = {11: "DFC STL25.01", 12: "DFC STL25.01", 13: "DSC 1", 14: "CCT 00", 15: "EBN 03",
                   16: "CS 04", 17: "CF 0F", 18: "JC 0E", 19: "VP 0D", 22: "SGN and SN 000102"}
         for number in range(10, 60):
             line = f"refused {number} X block {int(number > 14)}"
             head, _, value = fields.get(number, "").rpartition(" ")
-            reported = markup_text(mark_field(made, fault_of(line))).strip()
+            reported = markup_text(mark_field(subtitle_file, parse_single_fault(line))).strip()
             self.must(line, reported == (f"{head} <mark>{value}</mark>" if head else ""), reported)
-        self.must("no block", markup_text(mark_field(made, fault_of("refused 14 Cct"))) == "")
+        self.must("no block", markup_text(mark_field(subtitle_file,
+                                                     parse_single_fault("refused 14 Cct"))) == "")
 
     def test_marks_the_byte_or_line_that_a_fault_names(self) -> None:
         def marked(*lines: str) -> str:
-            return markup_text(mark_text(b"a b\x8ac", [fault_of(line) for line in lines]))
+            return markup_text(mark_text(b"a b\x8ac", [parse_single_fault(line) for line in lines]))
 
         for lines, words in (
                 ((), "a b<br/>c"), (("refused 50 X block 2 at 0",), "<mark>a</mark> b<br/>c"),
@@ -186,13 +192,16 @@ class RefusedFiles(Case):
 
     def test_marks_the_times_that_a_fault_names(self) -> None:
         begin, end = "00:00:02:10", "00:00:02:20"
-        one = NamedSubtitle(3, 3, begin, end)
-        for line, wanted in (
+        named_subtitle = NamedSubtitle(3, 3, begin, end)
+        for line, expected in (
                 ("refused 21 X block 6", (f"<mark>{begin}</mark>", f"<mark>{end}</mark>")),
                 ("refused 56 X block 6", (f"<mark>{begin}</mark>", end)),
                 ("refused 57 X block 6", (f"<mark>{begin}</mark>", end)),
                 ("refused 20 X block 6", (begin, end)), ("refused 50 X block 6", (begin, end))):
-            self.must(line, (*map(markup_text, mark_times(one, [fault_of(line)])),) == wanted)
-        wrong = one._replace(begin="99:00:00:00")
-        reported = [*map(markup_text, mark_times(wrong, [fault_of("refused 20 X block 6")]))]
+            self.must(line,
+                      (*map(markup_text, mark_times(named_subtitle, [parse_single_fault(line)])),
+                       ) == expected)
+        wrong = named_subtitle._replace(begin="99:00:00:00")
+        reported = [*map(markup_text,
+                         mark_times(wrong, [parse_single_fault("refused 20 X block 6")]))]
         self.must("no time", reported == ["<mark>99:00:00:00</mark>", end])

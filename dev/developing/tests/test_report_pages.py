@@ -7,7 +7,7 @@ from typing import Any
 
 from subtitles.formats.teletext import ENGLISH
 from subtitles.report.pictures import (
-    CellStyle, LOW_ROWS, find_differences, draw_row, draw_frames, is_boxed, draw_picture,
+    CellStyle, BLANK_PAGE_ROWS, find_differences, draw_row, draw_frames, is_boxed, draw_picture,
     find_used_rows, style_row)
 from subtitles.stream.receiver import BLANK_PAGE, HIT, OLD, Rows
 from .parts import markup_text
@@ -34,28 +34,28 @@ class Attributes(unittest.TestCase):
                 (b"\1A", {"ink": 1}), (b"\0A", {"ink": 0}), (b"\x07A", {}),
                 (b"\1\2A", {"ink": 2}), (b"\x17A", {}), (b"\x11A", {"ink": 1, "characters": "A"}),
                 (b"\x08A", {"flash": True}), (b"\x08\x09A", {}), (b"\x0dA", {"double": True}),
-                (b"\x0d\x0cA", {}), (b"\1\x1dA", {"ink": 1, "paper": 1}),
-                (b"\1\x1d\x1cA", {"ink": 1}), (b"\1\x1d\2A", {"ink": 2, "paper": 1}),
+                (b"\x0d\x0cA", {}), (b"\1\x1dA", {"ink": 1, "background": 1}),
+                (b"\1\x1d\x1cA", {"ink": 1}), (b"\1\x1d\2A", {"ink": 2, "background": 1}),
                 (b"\x8b\x8bA", {"boxed": True}), (b"\x18A", {}), (b"\x10A", {"ink": 0})]
         for row, change in rows:
             with self.subTest(row=row):
                 self.assertEqual(self.look(row)._replace(characters="A"), plain._replace(**change))
-        for number, wanted in ((22, True), (23, False), (24, False)):
-            self.assertEqual(self.look(b"\x0dA", number).double, wanted, number)
+        for number, expected in ((22, True), (23, False), (24, False)):
+            self.assertEqual(self.look(b"\x0dA", number).double, expected, number)
         for row in (b"A", b"\x0b\x0bA", b"\x0a\x0aA"):
             self.assertTrue(self.look(row, is_boxed_page=False).boxed, row)
 
     def test_applies_attributes_at_once_or_from_the_next_cell(self) -> None:
         rows: list[tuple[bytes, dict[str, Any]]] = [
                          (b"\1", {"ink": 7}), (b"\x08", {"flash": False}),
-                         (b"\x0d", {"double": False}), (b"\1\x1d", {"paper": 1}),
-                         (b"\1\x1d\x1c", {"paper": 0}), (b"\x08\x09", {"flash": False}),
+                         (b"\x0d", {"double": False}), (b"\1\x1d", {"background": 1}),
+                         (b"\1\x1d\x1c", {"background": 0}), (b"\x08\x09", {"flash": False}),
                          (b"\x0d\x0c", {"double": False}), (b"\x0b\x0b", {"boxed": True}),
                          (b"\x0b\x0b\x0a\x0a", {"boxed": False})]
         for row, own in rows:
-            found = self.look(row)
+            result = self.look(row)
             with self.subTest(row=row):
-                self.assertEqual({name: getattr(found, name) for name in own}, own)
+                self.assertEqual({name: getattr(result, name) for name in own}, own)
 
     def test_draws_rows_as_ffmpeg_and_libzvbi_do(self) -> None:
         for codes, *wanted in (
@@ -65,12 +65,12 @@ class Attributes(unittest.TestCase):
                  "     f      ", " ddddddd    "),
                 ("0b 61 0a 62 0b 0b 02 1d 07 61 0a 0a", "777777722777", "000000022222",
                  "     bbbbbb ", " " * 12, " " * 12)):
-            cells = [one for one in style_row(bytes.fromhex(codes), 20, ENGLISH.bits, True)
-                     for _ in one.characters]
-            found = ["".join(letters) for letters in zip(*(
-                (str(cell.ink), str(cell.paper), " b"[cell.boxed], " f"[cell.flash],
+            cells = [item for item in style_row(bytes.fromhex(codes), 20, ENGLISH.bits, True)
+                     for _ in item.characters]
+            result = ["".join(letters) for letters in zip(*(
+                (str(cell.ink), str(cell.background), " b"[cell.boxed], " f"[cell.flash],
                  " d"[cell.double]) for cell in cells))]
-            self.assertEqual(found, wanted, codes)
+            self.assertEqual(result, wanted, codes)
 
     def test_draws_mosaics_after_a_mosaic_colour(self) -> None:
         for row, letters in ((b"\x11a", "\u2592"), (b"\x11A", "A"), (b"\x11 ", " "),
@@ -116,23 +116,23 @@ class Drawings(unittest.TestCase):
                       markup_text(draw_frames([(6, 1), (5, 1)], set())))
 
     def test_shows_the_used_rows_and_one_more_on_each_side(self) -> None:
-        for pages, wanted in (
-                ([BLANK_PAGE], LOW_ROWS), ([page(r20=b"x")], (19, 21)),
+        for pages, expected in (
+                ([BLANK_PAGE], BLANK_PAGE_ROWS), ([page(r20=b"x")], (19, 21)),
                 ([page(r1=b"x")], (1, 2)), ([page(r24=b"x")], (23, 24)),
                 ([page(r20=b"x"), page(r5=b"x")], (4, 21))):
-            self.assertEqual(find_used_rows(pages), wanted, pages)
+            self.assertEqual(find_used_rows(pages), expected, pages)
 
     def test_finds_cells_whose_codes_differ(self) -> None:
-        one = page(r20=b"abc", r22=b"x")
-        for other, wanted in ((one, []), (page(r20=b"abd", r22=b"x"), [(20, 2)]),
-                              (page(r20=b"Abd"), [(20, 0), (20, 2), (22, 0)]),
-                              (page(r20=b"abc\xa0", r22=b"\xf8"), [])):
-            self.assertEqual(find_differences(one, other), wanted, other)
+        item = page(r20=b"abc", r22=b"x")
+        for other, expected in ((item, []), (page(r20=b"abd", r22=b"x"), [(20, 2)]),
+                                (page(r20=b"Abd"), [(20, 0), (20, 2), (22, 0)]),
+                                (page(r20=b"abc\xa0", r22=b"\xf8"), [])):
+            self.assertEqual(find_differences(item, other), expected, other)
         for row, column in itertools.product(range(24), range(40)):
-            cells = bytearray(one[row])
+            cells = bytearray(item[row])
             cells[column] ^= 1
-            other = (*one[:row], bytes(cells), *one[row + 1:])
-            self.assertEqual(find_differences(one, other), [(row + 1, column)], (row, column))
+            other = (*item[:row], bytes(cells), *item[row + 1:])
+            self.assertEqual(find_differences(item, other), [(row + 1, column)], (row, column))
 
     def test_draws_characters_of_the_header_option(self) -> None:
         for option, letter in ((0, "\u2190"), (4, "\u00c4"), (0, "\u2190"), (7, "\u25a1")):

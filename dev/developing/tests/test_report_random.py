@@ -12,21 +12,21 @@ from typing import Callable, NamedTuple
 
 from developing.pes import (
     DATA, UNIT, decode_pts, encode_pts, make_packet, reverse_bits, split_complete_packets)
-from developing.stl import box_line, make_gsi_block, make_subtitle_blocks, make_tti_block
-from subtitles.common.times import CLOCK, FRAMES_OF_A_DAY, TICKS, frame_of, time_of
+from developing.stl import make_box_line, make_gsi_block, make_subtitle_blocks, make_tti_block
+from subtitles.common.times import CLOCK, FRAMES_OF_A_DAY, TICKS, format_frame, parse_frame
 from subtitles.formats.listing import (
     BEGIN, ENDS_READING, FaultLine, SKIPPED_PACKETS, parse_fault_line)
 from subtitles.formats.stl import NEW_LINE, USER_DATA
 from subtitles.formats.teletext import page_name
-from .bench import BENCH, example_bytes
+from .bench import BENCH, read_example_file
 from .judged import JudgedPair, judge_files_with
 
 
 COUNT, EACH = 240, 8  # number of reports, and number of reports in each test
 TEXTS = [b"Good evening.", b"Here is the news.", b"No! <&>", b"Thank you, Anne."]
 HTML = "{http://www.w3.org/1999/xhtml}"
-FOREIGN = re.compile(r"<script|<link|<img|<iframe|@import|\burl\(|\bsrc=|\bon\w+="
-                     r"|https?://(?!www\.w3\.org/1999/xhtml)")
+FOREIGN_MARKUP = re.compile(r"<script|<link|<img|<iframe|@import|\burl\(|\bsrc=|\bon\w+="
+                            r"|https?://(?!www\.w3\.org/1999/xhtml)")
 BYTES = {3: (0, 0xF0, 0xFE, 7), 4: (1, 9), 5: (24,), 8: (25, 0), 9: (0, 23), 10: (60, 1),
          13: (0, 23, 24), 14: (4,), 15: (1, 2), 19: (0x61, 0xC2, 0x8A, 0x0E), 2: (1,),
          22: (0x81, 0x8A, 0x0D)}  # offset in a TTI block: invalid values
@@ -37,8 +37,8 @@ class RandomPair:
 
     def __init__(self, number: int, folder: str) -> None:
         self.chance = chance = random.Random(number)
-        self.path_of_stl, self.path_of_pes = (os.path.join(folder, name)
-                                              for name in ("one.stl", "one.pes"))
+        self.stl_path, self.pes_path = (os.path.join(folder, name)
+                                        for name in ("one.stl", "one.pes"))
         self.is_refused_file, self.is_long = number % 4 == 3, number % 12 == 2
         self.every = chance.choice((25, 100, 250) if self.is_long else (1, 25, 25, 100, 250))
         self.page = chance.choice(((0, 0x88), (0, 0x88), (1, 0x50)))
@@ -46,32 +46,32 @@ class RandomPair:
         self.begin = chance.choice((0, 100, 900_000, FRAMES_OF_A_DAY - 150_000))
         self.origin = chance.choice((0, 90_000, CLOCK - TICKS * self.begin - 90_000, CLOCK - 5))
         self.within = chance.choice((0, 0, 0, 1, 3))
-        self.stl = self.subtitle_file()
+        self.stl = self.make_random_stl_file()
 
-    def subtitle_file(self) -> bytes:
+    def make_random_stl_file(self) -> bytes:
         """Return a random subtitle file, sometimes with faults."""
-        chance, frame, made = self.chance, self.begin, list[bytes]()
+        chance, frame, result = self.chance, self.begin, list[bytes]()
         count = chance.choice((60, 300)) if self.is_long else chance.choice((2, 1, 3, 3, 5, 8))
         gaps = (0, 20, 1000) if self.is_long else (0, 0, 5, 40, 120, 700)
         for number in range(1, count + 1):
             end = frame + chance.choice((1, 12, 30, 60, 90))
-            lines = [box_line(chance.choice(TEXTS), chance.choice((b"", b"\3")))
+            lines = [make_box_line(chance.choice(TEXTS), chance.choice((b"", b"\3")))
                      for _ in range(chance.choice((1, 1, 2)))]
             low = 23 - 2 * len(lines)
-            made.append(make_subtitle_blocks(number + (number > 2), frame, end, chance.choice(
+            result.append(make_subtitle_blocks(number + (number > 2), frame, end, chance.choice(
                 (low, low, 1)), chance.choice((1, 2, 3)), (NEW_LINE * 2).join(lines)))
             frame = end + chance.choice(gaps)
-        head = make_gsi_block(b"Title & more", len(made), count)
+        head = make_gsi_block(b"Title & more", len(result), count)
         if self.is_refused_file:
-            made[1:1] = [make_tti_block(0, 0, 0, 20, 2, b"note", comment=1),
-                         make_tti_block(1, 0, 0, 20, 2, b"user", USER_DATA)]
-            made = [self.wrong_block(one) for one in made]
+            result[1:1] = [make_tti_block(0, 0, 0, 20, 2, b"note", comment=1),
+                           make_tti_block(1, 0, 0, 20, 2, b"user", USER_DATA)]
+            result = [self.damage_block(item) for item in result]
             at = chance.choice((*[0] * 12, 3, 6, 11, 13))
             head = head[:at] + b"9" * (at > 0) + head[at + (at > 0):]
-            made[-1:] = [made[-1][:chance.choice((128, 128, 99))]]
-        return head + b"".join(made)
+            result[-1:] = [result[-1][:chance.choice((128, 128, 99))]]
+        return head + b"".join(result)
 
-    def wrong_block(self, block: bytes) -> bytes:
+    def damage_block(self, block: bytes) -> bytes:
         """Return a TTI block in which up to two bytes have invalid values."""
         data = bytearray(block)
         for at in self.chance.choices(list(BYTES), k=self.chance.choice((0, 1, 1, 2))):
@@ -82,20 +82,20 @@ class RandomPair:
         """Return the PES packets that `schedule` makes, with random faults."""
         words = ["--every", str(self.every), "--origin", str(self.origin), "--option", self.option,
                  "--page", page_name(*self.page)]
-        subprocess.run([BENCH.program, "schedule", self.path_of_stl, self.path_of_pes, *words],
+        subprocess.run([BENCH.program, "schedule", self.stl_path, self.pes_path, *words],
                        check=False, stdout=subprocess.DEVNULL)
-        with open(self.path_of_pes, "rb") as file:
+        with open(self.pes_path, "rb") as file:
             # `schedule` writes no PES packets for an empty subtitle file.
-            pes = split_complete_packets(file.read() or example_bytes("hello.pes"))
+            pes = split_complete_packets(file.read() or read_example_file("hello.pes"))
         kinds: list[Callable[[list[bytes], int], None]] = [
-            self.lose, self.stop_reading, self.move, self.hit, self.swap, self.send_late, self.cut,
-            self.send_elsewhere]
+            self.remove_packets, self.stop_reading, self.move_packet, self.damage_bytes,
+            self.swap_packets, self.delay_packets, self.cut, self.change_packet_page]
         for kind in self.chance.choices(kinds, (3, 4, 2, 8, 1, 3, 1, 2),
                                         k=self.chance.choice((0, 1, 2, 3, 5))):
             kind(pes, self.chance.randrange(max(1, len(pes))))
         return b"".join(pes)
 
-    def lose(self, pes: list[bytes], at: int) -> None:
+    def remove_packets(self, pes: list[bytes], at: int) -> None:
         del pes[at:at + self.chance.choice((1, 1, 3))]
 
     def stop_reading(self, pes: list[bytes], at: int) -> None:
@@ -104,21 +104,21 @@ class RandomPair:
         for number in range(at, min(at + self.chance.choice((1, 1, 2)), len(pes))):
             pes[number] = pes[number][:byte] + b"\5" + pes[number][byte + 1:]
 
-    def move(self, pes: list[bytes], at: int) -> None:
+    def move_packet(self, pes: list[bytes], at: int) -> None:
         """Shift the PTS of one PES packet by up to a frame."""
         self.shift(pes, at, self.chance.choice((-90, 5, 1800, TICKS)), 1)
 
-    def send_late(self, pes: list[bytes], at: int) -> None:
+    def delay_packets(self, pes: list[bytes], at: int) -> None:
         """Move two PES packets, or all from the index `at` on, by a random number of frames."""
         self.shift(pes, at, TICKS * self.chance.choice((-2, 1, 3, 40)),
                    self.chance.choice((2, len(pes))))
 
     @staticmethod
     def shift(pes: list[bytes], at: int, ticks: int, count: int) -> None:
-        pes[at:at + count] = [one[:9] + encode_pts((decode_pts(one) + ticks) % CLOCK) + one[14:]
-                              for one in pes[at:at + count]]
+        pes[at:at + count] = [item[:9] + encode_pts((decode_pts(item) + ticks) % CLOCK) + item[14:]
+                              for item in pes[at:at + count]]
 
-    def hit(self, pes: list[bytes], at: int) -> None:
+    def damage_bytes(self, pes: list[bytes], at: int) -> None:
         """Flip one or two bits in an address, a header or a row of a PES packet."""
         if pes:
             data = bytearray(pes[at])
@@ -127,7 +127,7 @@ class RandomPair:
             data[byte % len(data)] ^= self.chance.choice((2, 3, 8, 0x80, 0x82))
             pes[at] = bytes(data)
 
-    def send_elsewhere(self, pes: list[bytes], at: int) -> None:
+    def change_packet_page(self, pes: list[bytes], at: int) -> None:
         """Replace the first row in a PES packet with another row of the page."""
         if pes:
             sent = make_packet(self.page[0], self.chance.choice((1, 2, 24)), (),
@@ -135,33 +135,33 @@ class RandomPair:
             place = DATA + UNIT + 4
             pes[at] = pes[at][:place] + reverse_bits(sent) + pes[at][place + len(sent):]
 
-    def swap(self, pes: list[bytes], at: int) -> None:
+    def swap_packets(self, pes: list[bytes], at: int) -> None:
         pes[at:at + 2] = pes[at:at + 2][::-1]
 
     def cut(self, pes: list[bytes], at: int) -> None:
         """Truncate the transmission at a PES packet or within it."""
-        pes[at:] = [one[:self.chance.choice((20, 100))] for one in pes[at:at + self.chance.choice(
+        pes[at:] = [item[:self.chance.choice((20, 100))] for item in pes[at:at + self.chance.choice(
             (0, 1))]]
 
     def words(self) -> list[str]:
         """Write the files of the pair, and return the arguments for qc."""
         chance = self.chance
-        with open(self.path_of_stl, "wb") as file:
+        with open(self.stl_path, "wb") as file:
             file.write(self.stl)
-        words = [self.path_of_stl]
+        words = [self.stl_path]
         if not self.is_refused_file:
             data = self.transmission()
-            with open(self.path_of_pes, "wb") as file:
+            with open(self.pes_path, "wb") as file:
                 file.write(data)
-            words.append(self.path_of_pes)
+            words.append(self.pes_path)
         words += ["--page", page_name(*self.page), "--origin", str(self.origin), "--option",
                   self.option, "--within", str(self.within), "--every", str(chance.choice(
                       (self.every, self.every, 25))), "--pace", "none"]
         return words + ["--no-complete"] * (chance.random() < 0.75)
 
 
-def run(*words: str) -> list[str]:
-    return subprocess.run([BENCH.program, *words], stdin=subprocess.DEVNULL, check=False,
+def run(*args: str) -> list[str]:
+    return subprocess.run([BENCH.program, *args], stdin=subprocess.DEVNULL, check=False,
                           stdout=subprocess.PIPE, text=True).stdout.splitlines()
 
 
@@ -169,18 +169,18 @@ def text_of(item: tree.Element) -> str:
     return "".join(item.itertext())
 
 
-def report_made(number: int, folder: str) -> tuple[JudgedPair, str]:
+def make_report_of_pair(number: int, folder: str) -> tuple[JudgedPair, str]:
     """Judge the random pair with the seed `number`. Return the judged pair and its report.
 
     The report is an empty string if qc writes no report.
     """
     out = os.path.join(folder, "out")
-    found = judge_files_with(BENCH.program, *RandomPair(number, folder).words(), "-o", out)
+    result = judge_files_with(BENCH.program, *RandomPair(number, folder).words(), "-o", out)
     path = os.path.join(out, "one.html")
     if not os.path.exists(path):
-        return found, ""
+        return result, ""
     with open(path, encoding="utf-8") as file:
-        return found, file.read()
+        return result, file.read()
 
 
 class CueRow(NamedTuple):
@@ -192,10 +192,10 @@ class CueRow(NamedTuple):
 
     def frame(self, at: int) -> int | None:
         """Return the frame of the time code in a cell, or `None` if it has no time code."""
-        return frame_of(self.cells[at])
+        return parse_frame(self.cells[at])
 
 
-def cue_rows(page: tree.Element) -> list[CueRow]:
+def read_cue_rows(page: tree.Element) -> list[CueRow]:
     return [CueRow(int(row.get("id", "")[1:]), set(row.get("class", "").split()),
                    [text_of(cell) for cell in row])
             for row in page.iter(HTML + "tr") if re.fullmatch(r"s\d+", row.get("id", ""))]
@@ -208,7 +208,7 @@ class Reports(unittest.TestCase):
         Its anchors must be unique, its links valid, and its headers and links accessible.
         """
         items = list(tree.fromstring(page).iter())
-        self.assertIsNone(FOREIGN.search(page))
+        self.assertIsNone(FOREIGN_MARKUP.search(page))
         names = [item.get("id") for item in items if item.get("id")]
         self.assertEqual(len(names), len(set(names)))
         links = [item for item in items if item.tag == f"{HTML}a"]
@@ -221,13 +221,14 @@ class Reports(unittest.TestCase):
             elif item.tag == f"{HTML}a":
                 self.assertTrue("".join(item.itertext()).strip())
 
-    def check_rows(self, found: JudgedPair, told: list[FaultLine], rows: list[CueRow]) -> None:
+    def check_rows(self, judged_pair: JudgedPair, told: list[FaultLine],
+                   rows: list[CueRow]) -> None:
         """Check that each judged subtitle has a row, and that verdicts `right` are correct.
 
         No fault may be reported while a subtitle with this verdict was expected.
         """
-        part = found.verdict.parts[0]
-        judged = [one.index for one in part.expected_pages().subtitles]
+        part = judged_pair.verdict.parts[0]
+        judged = [item.index for item in part.expected_pages().subtitles]
         self.assertLessEqual(set(judged), {row.position for row in rows})
         self.assertEqual(sorted(row.position for row in rows), [row.position for row in rows])
         frames = [fault.frame for fault in told
@@ -235,29 +236,29 @@ class Reports(unittest.TestCase):
         for row in rows:
             begin, end = row.frame(2), row.frame(3)
             if "ok" in row.classes and begin is not None and end is not None:
-                self.assertEqual([one for one in frames if begin <= one < end], [], row)
-        if found.verdict.word == "accepted":
+                self.assertEqual([item for item in frames if begin <= item < end], [], row)
+        if judged_pair.verdict.word == "accepted":
             self.assertEqual(set[str]().union(*(row.classes for row in rows)), {"ok"})
 
-    def check_counts(self, found: JudgedPair, page: tree.Element) -> None:
+    def check_counts(self, judged_pair: JudgedPair, page: tree.Element) -> None:
         """Check that the report's table has each fault number with its count."""
         table = {row.get("id"): text_of(row[1]) for row in page.iter(HTML + "tr")
                  if re.fullmatch(r"n\d+", row.get("id", ""))}
-        self.assertEqual(table, {f"n{number}": f"{count:,}" for number, count in
-                                 found.verdict.parts[0].check_output.counts_by_number.items()})
+        counts = judged_pair.verdict.parts[0].check_output.counts_by_number
+        self.assertEqual(table, {f"n{number}": f"{count:,}" for number, count in counts.items()})
 
-    def check_times(self, found: JudgedPair, rows: list[CueRow]) -> None:
+    def check_times(self, judged_pair: JudgedPair, rows: list[CueRow]) -> None:
         """Check that the expected page is displayed at the actual in-cue.
 
         Another page must be displayed in the frame before it and at the actual out-cue.
         """
-        request = found.verdict.request
+        request = judged_pair.verdict.request
         receiver = ["--origin", str(request.origin), "--page", page_name(*request.page)]
         due = request.stl + ".due"
         run("schedule", request.stl, due, "--every", "1500", "--option", request.option, *receiver)
 
         def held(path: str, frame: int, *words: str) -> list[str]:
-            lines = run("listen", path, *receiver, *words, "--at", time_of(frame))
+            lines = run("listen", path, *receiver, *words, "--at", format_frame(frame))
             return lines[2:] if lines[:1] != ["heard no"] else ["blank"]
 
         right = [row for row in rows if row.classes == {"ok"}]
@@ -274,26 +275,26 @@ class Reports(unittest.TestCase):
                 self.assertNotEqual(held(request.recording or "", end, *within), page, row)
 
     def check_report(self, number: int, folder: str) -> None:
-        found, page = report_made(number, folder)
+        result, page = make_report_of_pair(number, folder)
         out = os.path.join(folder, "out")
         if not page:
             return
         self.check_page(page)
-        if found.verdict.word != "not judged" and found.verdict.parts:
+        if result.verdict.word != "not judged" and result.verdict.parts:
             root = tree.fromstring(page)
-            rows = cue_rows(root)
+            rows = read_cue_rows(root)
             with open(os.path.join(out, "one.txt"), encoding="utf-8") as file:
                 reported = [fault for fault in map(parse_fault_line, file.read().splitlines())
                         if fault and fault.is_fault]
-            self.check_rows(found, reported, rows)
-            self.check_counts(found, root)
-            numbers = found.verdict.parts[0].check_output.fault_numbers
+            self.check_rows(result, reported, rows)
+            self.check_counts(result, root)
+            numbers = result.verdict.parts[0].check_output.fault_numbers
             passed = numbers & {*SKIPPED_PACKETS, *ENDS_READING, 62}
-            if found.verdict.request.recording and not passed:
-                self.check_times(found, rows)
+            if result.verdict.request.recording and not passed:
+                self.check_times(result, rows)
 
 
-def reports_from(first: int) -> Callable[[Reports], None]:
+def make_report_test(first: int) -> Callable[[Reports], None]:
     """Return a test method for `EACH` reports with consecutive seeds from `first` on."""
 
     def test(self: Reports) -> None:
@@ -305,4 +306,4 @@ def reports_from(first: int) -> Callable[[Reports], None]:
 
 
 for FIRST in range(0, COUNT, EACH):
-    setattr(Reports, f"test_from_{FIRST:03}", reports_from(FIRST))
+    setattr(Reports, f"test_from_{FIRST:03}", make_report_test(FIRST))

@@ -20,7 +20,7 @@ from unittest import mock
 from subtitles.cli import batch, collection, main, measure, single
 from subtitles.cli.main import (
     OPTION_MODES, find_mode, make_parser, find_output_path, find_pair_name, read_jobs,
-    read_line_number, read_seconds, refuse_options)
+    parse_line_number, read_seconds, refuse_options)
 from subtitles.common.command_line import Stop, run_main
 from subtitles.common.program import TOP, read
 from subtitles.request.commands import CommandPaths
@@ -28,8 +28,8 @@ from subtitles.request.lines import make_line_request
 from subtitles.request.request import (
     ALONE, BATCH, COLLECT, LINE, MEASURE, MODES, Mode, PAIR, WATCH)
 from subtitles.results.files import FORMULA_BEGINNINGS
-from .bench import Case, Done, example, is_python, import_script, tool_path
-from .parts import default_options
+from .bench import Case, CompletedCall, get_example_path, is_python, import_script, get_tool_path
+from .parts import make_default_options
 
 
 # Test that each mode of tools/qc accepts its options and refuses all other options.
@@ -48,7 +48,7 @@ MANUAL = os.path.join(TOP, "docs", "manual", "qc.md")
 MODE_OPTIONS = {"--batch", "--watch", "--collect", "--measure", "--help", "-h", "--version"}
 
 
-def option_arguments(name: str, folder: str) -> list[str]:
+def list_option_arguments(name: str, folder: str) -> list[str]:
     """Return an option with a valid value, as arguments."""
     if name == "--profile":
         return [name, os.path.join(folder, "house")]
@@ -59,9 +59,10 @@ def refusal(mode: Mode, name: str, folder: str) -> str | None:
     """Return the error message about an option in a mode, or `None` if the mode accepts it."""
     try:
         if mode is LINE:
-            make_line_request(["a.stl", "a.ts", *option_arguments(name, folder)], default_options())
+            make_line_request(["a.stl", "a.ts", *list_option_arguments(name, folder)],
+                              make_default_options())
         else:
-            line = [*CALLS[mode], *option_arguments(name, folder)]
+            line = [*CALLS[mode], *list_option_arguments(name, folder)]
             refuse_options(make_parser(""), line, find_mode(make_parser("").parse_args(line)))
     except Stop as reason:
         return str(reason)
@@ -77,14 +78,14 @@ class Modes(Case):
                 is_right = error is None if mode in taken_by else name in (error or "")
                 self.must(f"{name} and {mode.text}", is_right, error)
 
-    def test_takes_the_last_of_repeated_options(self) -> None:
+    def test_the_last_of_repeated_options_wins(self) -> None:
         for words, name, value in (
                 ("--every 25 --every 50", "every", 50), ("--json a --json b", "json", "b"),
                 ("--no-complete --complete", "is_complete", True),
                 ("--complete --no-complete", "is_complete", False), ("-o a -o b", "out", "b"),
                 ("--page 801 --page 8A2", "page", (0, 0xA2))):
-            found = vars(make_parser("").parse_args(["a.stl", "a.ts", *words.split()]))
-            self.must(words, found[name] == value, found)
+            result = vars(make_parser("").parse_args(["a.stl", "a.ts", *words.split()]))
+            self.must(words, result[name] == value, result)
         for words, mode, printed in (
                 ("--every 25 --every 50", COLLECT, "--every may be given with"),
                 ("--complete --no-complete", ALONE, "--complete may be given with"),
@@ -114,12 +115,13 @@ class Modes(Case):
              {"measure": ["a.stl", "a.ts"], "stl": None}),
             (CALLS[WATCH], batch, "watch", {"settled": 5}),
             ([*CALLS[WATCH], "--settled", "0"], batch, "watch", {"settled": 0})]
-        for line, module, name, wanted in rows:
+        for line, module, name, expected in rows:
             with mock.patch.object(module, name, return_value=7) as called:
                 self.must(f"{line}", main.dispatch("", "tools/qc", line) == 7)
             words, *others = called.call_args.args
-            self.must(f"{line}: words", {one: vars(words)[one] for one in wanted} == wanted and
-                      others == ["tools/qc"] * (module is not collection), words)
+            self.must(f"{line}: words",
+                      {item: vars(words)[item] for item in expected} == expected
+                      and others == ["tools/qc"] * (module is not collection), words)
         nothing: list[str] = []
         for line in (nothing, [*CALLS[PAIR], "--keep"]):
             with self.assertRaises(Stop):
@@ -131,8 +133,8 @@ class Modes(Case):
 
     def test_finds_the_mode_of_a_call(self) -> None:
         for mode, line in CALLS.items():
-            found = find_mode(make_parser("").parse_args(line))
-            self.must(mode.text, found is mode, found)
+            result = find_mode(make_parser("").parse_args(line))
+            self.must(mode.text, result is mode, result)
         for line in (["--batch", "a", "--collect", "b"], ["--watch", "a", "--batch", "b"],
                      ["--batch", "a", "b.stl"]):
             with self.assertRaises(Stop):
@@ -142,11 +144,11 @@ class Modes(Case):
         self.write("list", b"one.stl\n")
         for words in (["a.stl", "--pid", "5"], ["--collect", ".", "-o", "out"],
                       ["--batch", "list", "--settled", "5"]):
-            done = self.tool("qc", *words)
-            self.must(" ".join(words), done.status == 2 and len(done.told) == 1
-                      and words[2] in done.told[0] + words[2] and " may be given "
-                                                                  "with " in done.told[0],
-                      done)
+            process = self.tool("qc", *words)
+            self.must(" ".join(words), process.status == 2 and len(process.told) == 1
+                      and words[2] in process.told[0] + words[2] and " may be given "
+                                                                  "with " in process.told[0],
+                      process)
 
     def test_prints_the_names_of_tools_as_typed(self) -> None:
         self.write("subttx-qc", b"#!/bin/sh\n")
@@ -159,9 +161,9 @@ class Modes(Case):
                     ("/some/subttx-qc", "/some/subttx-air", "/some/subttx"),
                     (self.path("subttx-qc"), "subttx-air", "subttx")):
                 typed = CommandPaths(called, program)
-                self.must(called, (typed.tool_command("air"), typed.default_program()) ==
+                self.must(called, (typed.get_tool_command("air"), typed.get_default_program()) ==
                           (tool, beside), (
-                    typed.tool_command("air"), typed.default_program()))
+                    typed.get_tool_command("air"), typed.get_default_program()))
 
 
 class PartialCommandLines(unittest.TestCase):
@@ -198,9 +200,9 @@ class PartialCommandLines(unittest.TestCase):
                     self.assertEqual(("the reason" in data, data == "other"),
                                      (kind == "new", kind == "other"), (kinds, option))
 
-    def test_takes_numbers_within_their_limits(self) -> None:
+    def test_accepts_numbers_within_their_limits(self) -> None:
         for taken, good, bad in (
-                (read_line_number, ("1", "9999999"), ("0", "10000000", "-1", "", "x", "\u00b2")),
+                (parse_line_number, ("1", "9999999"), ("0", "10000000", "-1", "", "x", "\u00b2")),
                 (read_jobs, ("1", "9999"), ("0", "10000", "-1", "", "x", "\u00b2")),
                 (read_seconds, ("0", "99999"), ("100000", "-1", "", "1.5", "\u0663"))):
             self.assertEqual([taken(word) for word in good], list(map(int, good)),
@@ -211,7 +213,7 @@ class PartialCommandLines(unittest.TestCase):
 
 # Test that tools with wrong arguments print one line of error output, return 2 and write no file.
 
-STL, PES = example("hello.stl"), example("hello.pes")
+STL, PES = get_example_path("hello.stl"), get_example_path("hello.pes")
 WRONG: dict[str, list[list[str]]] = {
     "poke": [[], ["none.stl"], [STL, "x"], [STL, "1=0"], [STL, "1=@3"], [STL, "1152=00"],
              [STL, "0=@1150+3"], [STL, "-c", "-1"], [STL, "-c", "x"], [STL, "1=00", "--colour"],
@@ -237,62 +239,62 @@ WRONG: dict[str, list[list[str]]] = {
 }
 
 
-def tool_names() -> list[str]:
+def list_tool_names() -> list[str]:
     """Return the names of all executable files in tools/ and dev/."""
     listed = {name for folder in ("tools", "dev") for name in os.listdir(os.path.join(TOP, folder))}
     return [name for name in sorted(listed)
-            if os.access(tool_path(name), os.X_OK) and os.path.isfile(tool_path(name))]
+            if os.access(get_tool_path(name), os.X_OK) and os.path.isfile(get_tool_path(name))]
 
 
 @functools.lru_cache(None)
-def tool_module(name: str) -> Any:
+def load_tool_module(name: str) -> Any:
     """Import a Python tool as a module, and cache the module."""
     return import_script(name)
 
 
-def call_in_process(name: str, words: Sequence[str]) -> Done:
-    module, out, errors = tool_module(name), io.StringIO(), io.StringIO()
-    with mock.patch.object(sys, "argv", [tool_path(name), *words]), \
+def call_in_process(name: str, words: Sequence[str]) -> CompletedCall:
+    module, out, errors = load_tool_module(name), io.StringIO(), io.StringIO()
+    with mock.patch.object(sys, "argv", [get_tool_path(name), *words]), \
             contextlib.redirect_stdout(out), contextlib.redirect_stderr(errors):
         status = run_main(module.call_main if name == "qc" else module.main, words)
-    return Done(status, out.getvalue().encode(), errors.getvalue().splitlines())
+    return CompletedCall(status, out.getvalue().encode(), errors.getvalue().splitlines())
 
 
 class WrongArguments(Case):
     def test_refuses_wrong_arguments(self) -> None:
         self.addCleanup(os.chdir, os.getcwd())
         os.chdir(self.folder)
-        for name in tool_names():
+        for name in list_tool_names():
             for words in [*WRONG.get(name, []), ["--colour"], ["---"]]:
                 before = sorted(os.listdir(self.folder))
-                done = call_in_process(name, words) if is_python(tool_path(name)) else \
+                process = call_in_process(name, words) if is_python(get_tool_path(name)) else \
                     self.tool(name, *words)
-                self.must(f"{name} {' '.join(words)}", done.status == 2 and not done.out
-                          and len(done.told) == 1 and done.told[0].startswith(name + ": ")
-                          and sorted(os.listdir(self.folder)) == before, done)
+                self.must(f"{name} {' '.join(words)}", process.status == 2 and not process.out
+                          and len(process.told) == 1 and process.told[0].startswith(name + ": ")
+                          and sorted(os.listdir(self.folder)) == before, process)
 
     def test_writes_one_unjudged_entry_into_each_requested_file(self) -> None:
         names = {"--json": "one.json", "--csv": "one.csv", "--junit": "one.xml"}
         files = [f"{option}={self.path(name)}" for option, name in names.items()]
         for words in ([STL, PES, "--page", "8FF"], [STL, PES, "--colour"],
                       [STL, PES, "--jobs", "2"], ["none.stl", PES], [STL, PES, PES]) * 2:
-            done = self.tool("qc", *words, *files)
+            process = self.tool("qc", *words, *files)
             there = [os.path.exists(self.path(name)) for name in names.values()]
             if not self.must(f"{words}: files", all(there), there):
                 return
             known = json.loads(self.read("one.json"))
             head, row, *more = csv.reader(self.read("one.csv").decode().splitlines())
             suite = tree.fromstring(self.read("one.xml"))
-            reported = done.told[0].partition(": ")[2]
-            self.must(f"{words}", done.status == 2 and known["verdict"] == "not judged" and
+            reported = process.told[0].partition(": ")[2]
+            self.must(f"{words}", process.status == 2 and known["verdict"] == "not judged" and
                       known["reason"] == reported, known)
-            one = dict(zip(head, row))
+            item = dict(zip(head, row))
             cell = "'" * reported.startswith(FORMULA_BEGINNINGS) + reported
             self.must(f"{words}: table", not more and
-                      (one["verdict"], one["reason"]) == ("not judged", cell), row)
+                      (item["verdict"], item["reason"]) == ("not judged", cell), row)
             cases = list(suite.iter("testcase"))
             self.must(f"{words}: case", len(cases) == 1 and suite.get("errors") == "1" and
-                      [one.get("message") for one in cases[0].iter("error")] == [
+                      [item.get("message") for item in cases[0].iter("error")] == [
                           known.get("sentence", reported)],
                       self.read("one.xml"))
         for option, name in names.items():
@@ -303,23 +305,24 @@ class WrongArguments(Case):
     def test_prints_the_help_and_the_version(self) -> None:
         with open(os.path.join(TOP, "VERSION"), encoding="utf-8") as file:
             version = file.read().strip()
-        for name in tool_names():
-            done = self.tool(name, "--version")
-            self.must(f"{name} --version", (done.status, done.out.decode()) ==
-                      (0, f"{name} {version}\n"), done)
-            done = self.tool(name, "--help")
-            with open(tool_path(name), encoding="utf-8") as file:
+        for name in list_tool_names():
+            process = self.tool(name, "--version")
+            self.must(f"{name} --version", (process.status, process.out.decode()) ==
+                      (0, f"{name} {version}\n"), process)
+            process = self.tool(name, "--help")
+            with open(get_tool_path(name), encoding="utf-8") as file:
                 first = file.read().splitlines()[1].lstrip('"# ')
-            self.must(name, done.status == 0 and done.out.decode().startswith(first), done)
+            self.must(name, process.status == 0 and process.out.decode().startswith(first), process)
 
     def test_reports_a_full_device(self) -> None:
         if not os.path.exists("/dev/full"):
             self.skipTest("a full device, since there is no /dev/full")
         for name, *words in (["qc", STL, PES, "-p", self.bench.program],
                              ["pes2ts", PES, "0x101"], ["poke", STL], ["qc", "--help"]):
-            done = self.call(["sh", "-c", 'exec "$@" >/dev/full', "sh",
-                              tool_path(name), *words])
-            self.must(name, done.status == 2 and done.told and "No space" in done.told[-1], done)
+            process = self.call(["sh", "-c", 'exec "$@" >/dev/full', "sh",
+                                 get_tool_path(name), *words])
+            self.must(name, process.status == 2 and process.told and "No space" in process.told[-1],
+                      process)
 
     def test_refuses_endless_devices(self) -> None:
         os.symlink("/dev/zero", self.path("link"))
@@ -329,34 +332,36 @@ class WrongArguments(Case):
                 continue
             for words in (["poke", device], ["poke", device, "-c", "4"],
                           ["qc", STL, "--severity", device], ["qc", "--batch", device]):
-                done = self.tool(*words)
-                wanted = "a file" if "--severity" in words else "a file or a pipe"
-                self.must(" ".join(words), done ==
-                          (2, b"", [f"{words[0]}: {device} is a device: give {wanted}"]), done)
+                process = self.tool(*words)
+                expected = "a file" if "--severity" in words else "a file or a pipe"
+                self.must(" ".join(words), process ==
+                          (2, b"", [f"{words[0]}: {device} is a device: give {expected}"]), process)
             for words in ["poke", "-"], ["poke", "/dev/stdin"]:
-                done = self.call(["sh", "-c", 'exec "$0" "$@" <' + device,
-                                  tool_path(words[0]), *words[1:]])
-                self.must(f"{' '.join(words)} <{device}", done.status == 2 and not done.out
-                          and done.told == [f"{words[0]}: {words[1]} is a device: give a file or a "
-                                            "pipe"], done)
+                process = self.call(["sh", "-c", 'exec "$0" "$@" <' + device,
+                                     get_tool_path(words[0]), *words[1:]])
+                self.must(f"{' '.join(words)} <{device}", process.status == 2 and not process.out
+                          and process.told
+                          == [f"{words[0]}: {words[1]} is a device: give a file or a "
+                                               "pipe"], process)
 
     def test_reads_pipes_and_no_device(self) -> None:
-        done = self.tool("poke", "/dev/stdin", data=b"abc")
-        self.must("a pipe by its name", done == (0, b"abc", []), done)
-        done = self.tool("poke", "/dev/null")
-        self.must("/dev/null", done ==
-                  (2, b"", ["poke: /dev/null is a device: give a file or a pipe"]), done)
+        process = self.tool("poke", "/dev/stdin", data=b"abc")
+        self.must("a pipe by its name", process == (0, b"abc", []), process)
+        process = self.tool("poke", "/dev/null")
+        self.must("/dev/null", process ==
+                  (2, b"", ["poke: /dev/null is a device: give a file or a pipe"]), process)
 
     def test_changes_bytes_up_to_the_last_one(self) -> None:
-        for words, wanted in (
+        for words, expected in (
                 (["0=41", "5=5A"], b"AbcdeZ"), (["0=4142", "1=5A"], b"AZcdef"),
                 (["0=@3+3"], b"defdef"), (["3=@0+3", "0=5A"], b"Zbcabc"),
                 (["0=5A", "3=@0+3"], b"ZbcZbc"), (["1=@0+5"], b"aabcde"), (["0=@6+0"], b"abcdef"),
                 (["1=41", "-c", "2"], b"aA"), (["-c", "0"], b""), (["-c", "9"], b"abcdef"),
                 (["6=41"], None), (["5=4142"], None), (["0=@4+3"], None), (["4=@0+3"], None)):
-            done = self.tool("poke", "-", *words, data=b"abcdef")
+            process = self.tool("poke", "-", *words, data=b"abcdef")
             refused = 2, b"", ["poke: - has only 6 bytes"]
-            self.must(f"{words}", done == (refused if wanted is None else (0, wanted, [])), done)
+            self.must(f"{words}", process == (refused if expected is None else (0, expected, [])),
+                      process)
 
     def test_names_files_as_they_were_given(self) -> None:
         for words, named in ((["qc", STL, "no/folder.pes"], "no/folder.pes"),
@@ -364,6 +369,6 @@ class WrongArguments(Case):
                              (["qc", "--", "-x.stl"], "qc: -x.stl"),
                              (["qc", STL, self.write("cut.pes", b"\0\0\1"), "-p",
                                self.bench.program], self.path("cut.pes"))):
-            done = self.tool(*words)
-            self.must(" ".join(words), done.status in (1, 2) and named in done.told[-1]
-                      and "subttx-" not in done.told[-1], done)
+            process = self.tool(*words)
+            self.must(" ".join(words), process.status in (1, 2) and named in process.told[-1]
+                      and "subttx-" not in process.told[-1], process)

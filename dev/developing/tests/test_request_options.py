@@ -14,21 +14,21 @@ from subtitles.common.command_line import (
     Lateness, Stop, ToolParser, format_lateness, parse_lateness)
 from subtitles.common.shapes import Flag, Text
 from subtitles.common.times import FRAMES_OF_A_DAY
-from subtitles.request.commands import CommandPaths, make_qc_command, profile_line
+from subtitles.request.commands import CommandPaths, format_profile, make_qc_command
 from subtitles.request.lines import read_pairs, read_profile, make_line_request
 from subtitles.request.request import (
     ALONE, JUDGED, LINE, MEASURE, OPTIONS, Option, Request, add_options, keep_stl,
     list_arguments as options_of, remove_markup, make_file_request)
 from subtitles.results.schema import REQUEST
 from .. import DEV
-from .bench import Case, example
+from .bench import Case, get_example_path
 from .judged import judge_files
-from .parts import request_for, call_arguments, default_options
+from .parts import make_example_request, list_call_arguments, make_default_options
 from .transmissions import write_subtitle_file
 
 
 # Program that adds two options to the table of options, and prints everything derived from them.
-ADDED = """
+ADDED_OPTION = """
 import dataclasses, json, sys, developing
 from subtitles.common.shapes import Flag, Maybe, Text
 from subtitles.request import request as options
@@ -41,8 +41,8 @@ options.OPTIONS = (*options.OPTIONS, options.Option(
 options.Request = dataclasses.make_dataclass("Request", [
     ("new_one", object, None), ("newer", bool, False)], bases=(options.Request,))
 from developing import pages
-from developing.tests.parts import default_options
-from developing.tests.parts import call_arguments
+from developing.tests.parts import make_default_options
+from developing.tests.parts import list_call_arguments
 from subtitles.cli.main import make_parser
 from subtitles.results.schema import REQUEST
 from subtitles.cli.main import find_mode, refuse_options
@@ -72,15 +72,15 @@ print(json.dumps({
     "chapter": pages.make_chapter_parts()["options"],
     "completion": pages.make_completion_parts("  check STL PES  does\\n", "", [help])["values"],
     "asked": REQUEST.to_json(asked), "left out": REQUEST.to_json(none),
-    "call": call_arguments(asked),
+    "call": list_call_arguments(asked),
     "again": make_qc_command(asked, CommandPaths("tools/qc", program)),
     "check": asked.check_arguments(),
-    "file": asked.check_arguments(True), "pages": asked.schedule_arguments(),
+    "file": asked.check_arguments(True), "pages": asked.list_schedule_arguments(),
     "schema": schema()["definitions"]["request"]["properties"],
-    "same": make_request(make_parser("").parse_args(call_arguments(asked))) == asked,
+    "same": make_request(make_parser("").parse_args(list_call_arguments(asked))) == asked,
     "not with": [taken("a.stl", *given), taken(*pair, *given),
                  taken("--collect", "x", "--new-one", "5")],
-    "line": REQUEST.to_json(make_line_request([*pair, *given], default_options()))}))
+    "line": REQUEST.to_json(make_line_request([*pair, *given], make_default_options()))}))
 """
 # Options, their values, and their values in a JSON result.
 ROWS: list[tuple[str, str, Any]] = [
@@ -97,11 +97,12 @@ BACK = {"--complete", "--no-allow-lost", "--no-keeping"}  # options that restore
 
 class NewOptions(Case):
     def test_a_new_option_is_used_everywhere(self) -> None:
-        done = self.call([sys.executable, "-c", ADDED, self.bench.program, self.folder], env={
+        process = self.call([sys.executable, "-c", ADDED_OPTION, self.bench.program, self.folder],
+                            env={
             **os.environ, "COLUMNS": "2000", "PYTHONPATH": os.pathsep.join(
                 [DEV, *os.environ.get("PYTHONPATH", "").split(":")])})
-        self.must("made", done.status == 0, done.told)
-        made = json.loads(done.out)
+        self.must("made", process.status == 0, process.told)
+        output = json.loads(process.out)
         given = ["--new-one", "5", "--newer"]
         for name, line in (
                 ("help", "  --new-one K           a new one (default: none)\n"),
@@ -112,66 +113,69 @@ class NewOptions(Case):
                 ("chapter", "| `--new-one K` | a [new](x.md) `one` |\n"),
                 ("chapter", "| `--newer` | it is newer |\n"),
                 ("completion", " --new-one ")):
-            self.must(name, line in made[name], made[name])
-        self.must("a flag has no value", "--newer" not in made["completion"])
+            self.must(name, line in output[name], output[name])
+        self.must("a flag has no value", "--newer" not in output["completion"])
         for name, members in (("asked", ("5", True)), ("left out", (None, False)),
                               ("line", ("5", True))):
-            found = made[name]["new_one"], made[name]["newer"]
-            self.must(name, found == members, found)
-        self.must("call", made["call"] == [*given, "--", "a.stl", "a.ts"] and made["same"], made)
-        self.must("again", made["again"] == "tools/qc a.stl a.ts " + " ".join(given), made["again"])
-        self.must("check", made["check"] == ["--complete", *given] and made["file"] == given[:2] ==
-                  made["pages"], made)
-        self.must("schema", made["schema"]["new_one"]["description"] ==
-                  "A new one. What is new." and made["schema"]["newer"] == {
-                      "description": "It is newer.", "type": "boolean"}, made["schema"])
-        alone, pair, collect = made["not with"]
+            result = output[name]["new_one"], output[name]["newer"]
+            self.must(name, result == members, result)
+        self.must("call", output["call"] == [*given, "--", "a.stl", "a.ts"]
+                  and output["same"], output)
+        self.must("again", output["again"] == "tools/qc a.stl a.ts " + " ".join(given),
+                  output["again"])
+        self.must("check", output["check"] == ["--complete", *given]
+                  and output["file"] == given[:2] == output["pages"], output)
+        self.must("schema", output["schema"]["new_one"]["description"] ==
+                  "A new one. What is new." and output["schema"]["newer"] == {
+                      "description": "It is newer.", "type": "boolean"}, output["schema"])
+        alone, pair, collect = output["not with"]
         self.must("modes", pair is None and "--newer may be given with" in alone and
-                  "--new-one may be given with" in collect, made["not with"])
+                  "--new-one may be given with" in collect, output["not with"])
 
 
 class OptionRows(Case):
     def test_each_option_survives_all_conversions(self) -> None:
-        names = [one.name for one in OPTIONS]
+        names = [item.name for item in OPTIONS]
         self.must("all", {*names} == {*BACK, "--profile", *(name for name, _, _ in ROWS)})
         parser = ToolParser("")
         add_options(parser)
         plain_words = parser.parse_args([])
-        without = REQUEST.to_json(request_for("one.stl", "one.pes"))
+        without = REQUEST.to_json(make_example_request("one.stl", "one.pes"))
         for name, value, member in ROWS:
             words = [name, value] if value else [name]
             words += ["--within", "5"] if name == "--late" else []
-            request = request_for("one.stl", "one.pes", *words)
+            request = make_example_request("one.stl", "one.pes", *words)
             self.must(f"{name}: a call",
-                      sorted(call_arguments(request)) == sorted([*words, "--", "one.stl",
-                                                                 "one.pes"]))
+                      sorted(list_call_arguments(request)) == sorted([*words, "--", "one.stl",
+                                                                      "one.pes"]))
             once_more = make_file_request("one.stl", "one.pes", parser.parse_args(words))
             self.must(f"{name}: again", once_more == request)
             known = REQUEST.to_json(request)
             key = name.replace("--no-", "--").strip("-").replace("-", "_")
             self.must(f"{name}: result", known == {
                 **without, **({"within": 5} if name == "--late" else {}), key: member}, known)
-            self.must(f"{name}: pages", request.schedule_arguments() == (
-                words if name in ("--layout", "--open") else []), request.schedule_arguments())
+            self.must(f"{name}: pages", request.list_schedule_arguments() == (
+                words if name in ("--layout", "--open") else []), request.list_schedule_arguments())
             line = make_line_request(["one.stl", "one.pes", *words], plain_words)
             self.must(f"{name}: line", line == request, line)
         every = [word for name, value, _ in ROWS if name != "--start"
                  for word in ([name, value] if value else [name])]
-        request = request_for("one.stl", "one.pes", *every)
+        request = make_example_request("one.stl", "one.pes", *every)
         typed = make_qc_command(request, CommandPaths("tools/qc", self.bench.program))
         for name, _, _ in ROWS:
             self.must(f"{name}: typed", (f" {name}" in typed) == (name != "--start"), typed)
         self.must("complete",
-                  options_of(request_for("a", "b", "--complete")) == [[]] * len(OPTIONS))
+                  options_of(make_example_request("a", "b", "--complete")) == [[]] * len(OPTIONS))
 
     def test_each_row_is_complete(self) -> None:
-        for one in OPTIONS:
-            self.must(one.name, bool(one.description and one.default_text and one.modes) and
-                      {*one.modes} <= {*JUDGED, MEASURE} and one.help == remove_markup(one.help),
-                      one)
-            self.must(f"{one.name}: member", (one.member is None) == one.name.startswith("--no-"))
-            self.must(f"{one.name}: lines", LINE in one.modes, one.modes)
-        self.must("of a file", [one.name for one in OPTIONS if ALONE in one.modes] == [
+        for item in OPTIONS:
+            self.must(item.name, bool(item.description and item.default_text and item.modes) and
+                      {*item.modes} <= {*JUDGED, MEASURE} and item.help == remove_markup(item.help),
+                      item)
+            self.must(f"{item.name}: member",
+                      (item.member is None) == item.name.startswith("--no-"))
+            self.must(f"{item.name}: lines", LINE in item.modes, item.modes)
+        self.must("of a file", [item.name for item in OPTIONS if ALONE in item.modes] == [
             "--option", "--severity", "--strict", "--from", "--to", "--layout", "--open",
             "--profile"])
 
@@ -181,30 +185,30 @@ class OptionRows(Case):
                 ("", 0, day), ("--from 00:00:00:00", 0, day), ("--to 00:00:00:00", 0, 0),
                 ("--to 00:00:00:01", 0, 1), ("--from 23:59:59:24", day - 1, day),
                 ("--from 00:00:01:00 --to 23:59:59:24", 25, day - 1)):
-            request = request_for("a.stl", "a.ts", *words.split())
+            request = make_example_request("a.stl", "a.ts", *words.split())
             self.assertEqual(request.between, (first, end), words)
-            self.assertEqual(request.restrict_to(first, end).between, (first, end), words)
+            self.assertEqual(request.limit_to_range(first, end).between, (first, end), words)
         for option, time in itertools.product(("--from", "--to"), (
                 "24:00:00:00", "00:00:00:25", "00:00:00", "10", "")):
             with self.assertRaises(Stop):
-                request_for("a.stl", "a.ts", option, time)
+                make_example_request("a.stl", "a.ts", option, time)
 
     def test_omits_default_values(self) -> None:
         number = Option("--n", "N", "", JUDGED, field="n", default=5, shape=Text())
         flag = Option("--f", None, "", JUDGED, field="f", default=False, shape=Flag())
         other = Option("--no-f", None, "", JUDGED, field="f", default=True, flag_value=False)
-        for one, value, words in ((number, 5, []), (number, None, []), (number, 0, ["--n", "0"]),
-                                  (flag, False, []), (flag, True, ["--f"]), (other, True, []),
-                                  (other, False, ["--no-f"])):
-            self.must(f"{one.name} {value}", one.format_arguments(value, one.default) == words)
-        for text, wanted in (("a [b c](d.md#e) `f` [g](h)", "a b c f g"), ("none", "none"),
-                             ("[a](b)", "a"), ("`[x]`", "[x]")):
-            self.must(text, remove_markup(text) == wanted, remove_markup(text))
+        for item, value, words in ((number, 5, []), (number, None, []), (number, 0, ["--n", "0"]),
+                                   (flag, False, []), (flag, True, ["--f"]), (other, True, []),
+                                   (other, False, ["--no-f"])):
+            self.must(f"{item.name} {value}", item.format_arguments(value, item.default) == words)
+        for text, expected in (("a [b c](d.md#e) `f` [g](h)", "a b c f g"), ("none", "none"),
+                               ("[a](b)", "a"), ("`[x]`", "[x]")):
+            self.must(text, remove_markup(text) == expected, remove_markup(text))
 
 
-STORY, RECORDING = example("story.stl"), example("recording.ts")
-MAY = "--page, --every, --option, --origin, --complete, --no-complete, --pid, --allow-lost, " \
-    "--severity, --start, --relative, --within, --late, --layout, --keeping, --pace"
+STORY, RECORDING = get_example_path("story.stl"), get_example_path("recording.ts")
+PROFILE_OPTIONS = "--page, --every, --option, --origin, --complete, --no-complete, --pid, " \
+    "--allow-lost, --severity, --start, --relative, --within, --late, --layout, --keeping, --pace"
 
 
 class ProfileFiles(Case):
@@ -223,10 +227,10 @@ class ProfileFiles(Case):
                 "within": 2, "late": Lateness({0: 31, 2: 69}, {0: 1})}),
             ("--start tcp\n--relative", {"start": "tcp", "is_relative_allowed": True}),
             ("--origin 5", {"origin": 5})]
-        for text, wanted in rows:
+        for text, expected in rows:
             profile = read_profile(self.write("house", text.encode()))
-            found = {field: setting.value for field, setting in profile.settings.items()}
-            self.must(text, found == wanted, found)
+            result = {field: setting.value for field, setting in profile.settings.items()}
+            self.must(text, result == expected, result)
             self.must(f"{text}: sum", (profile.name, profile.sha256) == (
                 self.path("house"), hashlib.sha256(text.encode()).hexdigest()))
 
@@ -234,7 +238,7 @@ class ProfileFiles(Case):
         data = write_subtitle_file(self, [(0, 9, b"text")], "one.stl", language=b"08")
         os.mkfifo(self.path("pipe"))
         for name in (data, self.path("pipe")):
-            request = request_for(name, "a.ts", "--option", "auto")
+            request = make_example_request(name, "a.ts", "--option", "auto")
             self.must("not read yet", (request.stl_path, request.language) == (
                 name, "08" if name == data else None), request)
             writer = threading.Thread(target=lambda: self.write("pipe", self.read("one.stl")))
@@ -247,15 +251,15 @@ class ProfileFiles(Case):
             with open(kept, "rb") as file:
                 self.must(f"{name}: whole", file.read() == self.read("one.stl"))
         writer.join()
-        typed = request_for(self.path("pipe"), "a.ts", "--option", "swedish")
+        typed = make_example_request(self.path("pipe"), "a.ts", "--option", "swedish")
         writer = threading.Thread(target=lambda: self.write("pipe", self.read("one.stl")))
         writer.start()
         keep_stl(typed, self.folder)
         writer.join()
         self.must("typed", (typed.option, typed.language) == ("swedish", None), typed)
 
-    def test_refuses_wrong_lines_by_number(self) -> None:
-        not_there = f"is not allowed in a profile: use {MAY}"
+    def test_refuses_wrong_lines_with_their_number(self) -> None:
+        not_there = f"is not allowed in a profile: use {PROFILE_OPTIONS}"
         for text, number, printed in (
                 ("--every 25\n\n--breaks 1", 3, f"--breaks {not_there}"),
                 *((f"{name}=1", 1, f"{name} {not_there}") for name in (
@@ -281,7 +285,8 @@ class ProfileFiles(Case):
                       refused.exception)
 
     def test_allows_the_options_that_its_message_lists(self) -> None:
-        self.assertEqual(", ".join(one.name for one in OPTIONS if one.is_in_profile), MAY)
+        self.assertEqual(", ".join(item.name for item in OPTIONS if item.is_in_profile),
+                         PROFILE_OPTIONS)
 
     def test_reads_delay_counts(self) -> None:
         for text, begins, ends in (
@@ -301,15 +306,15 @@ class ProfileFiles(Case):
 class Overrides(Case):
     def request(self, call: str, line: str | None) -> Request:
         """Return the request made from arguments, or from a line in a list of pairs."""
-        words = default_options(*call.split())
-        return request_for("a.stl", "a.ts", *call.split()) if line is None else \
+        words = make_default_options(*call.split())
+        return make_example_request("a.stl", "a.ts", *call.split()) if line is None else \
             make_line_request(["a.stl", "a.ts", *line.split()], words, self.folder)
 
     def test_given_options_override_the_profile(self) -> None:
         house = self.write("house", b"--every 25\n--keeping\n--within 2\n--late 0:1,2:1/0:1\n")
         self.write("other", b"--every 50\n--no-complete\n")
         shares = Lateness({0: 1, 2: 1}, {0: 1})
-        for call, line, wanted in (
+        for call, line, expected in (
                 (f"--profile {house}", None, (25, True, 2, shares, True)),
                 (f"--profile {house} --every 9 --no-keeping", None, (9, False, 2, shares, True)),
                 (f"--profile {house} --every 250 --within 0", None, (250, True, 0, None, True)),
@@ -333,10 +338,10 @@ class Overrides(Case):
                 ("--every 9", "--profile house --within 3", (25, True, 3, None, True)),
                 ("--within 1 --late 0:1,1:1/0:1", "--within 0", (250, False, 0, None, True))):
             request = self.request(call, line)
-            found = (request.every, request.may_keep, request.within, request.late,
-                     request.is_complete)
-            self.must(f"{call} | {line}", found == wanted, found)
-            again = request_for("a.stl", "a.ts", *call_arguments(request)[:-3])
+            result = (request.every, request.may_keep, request.within, request.late,
+                      request.is_complete)
+            self.must(f"{call} | {line}", result == expected, result)
+            again = make_example_request("a.stl", "a.ts", *list_call_arguments(request)[:-3])
             self.must(f"{call} | {line}: again", again == request, again)
 
     def test_replaces_one_clock_by_another(self) -> None:
@@ -353,17 +358,17 @@ class Overrides(Case):
             ("--origin 9", "--start tcp", (None, "tcp")),
             ("--origin 9", "--profile other --start tcp", (None, "tcp")),
             ("--start tcp", "--profile other --origin=0", (0, None))]
-        for call, line, wanted in rows:
+        for call, line, expected in rows:
             request = self.request(call, line)
-            self.must(f"{call} | {line}", (request.origin, request.start) == wanted, request)
+            self.must(f"{call} | {line}", (request.origin, request.start) == expected, request)
         two = self.write("two", b"--start tcp\n--origin 0\n")
         for words in ("--start tcp --origin 0", f"--profile {two}"):
             with self.assertRaisesRegex(Stop, "--start and --origin both give the clock"):
                 self.request(words, None)
 
-    def test_delay_counts_need_a_tolerance(self) -> None:
+    def test_requires_a_tolerance_for_delay_counts(self) -> None:
         for words in ("--late 0:1,1:1/0:1", "--late 0:1/0:1,3:1 --within 2"):
-            self.assertRaises(Stop, request_for, "a.stl", "a.ts", *words.split())
+            self.assertRaises(Stop, make_example_request, "a.stl", "a.ts", *words.split())
 
     def test_finds_a_profile_in_the_folder_of_the_list(self) -> None:
         os.mkdir(self.path("in"))
@@ -372,7 +377,7 @@ class Overrides(Case):
             self.write(name, data)
         pair = f"{self.path('a.stl')} {self.path('a.ts')} --profile"
         path = self.write("in/list", f"{pair} house\n{pair} bad\n{pair} none\n".encode())
-        good, bad, none = read_pairs(path, default_options())
+        good, bad, none = read_pairs(path, make_default_options())
         self.must("good", good.request and good.request.every == 25 and self.path("in/house") in
                   good.files, good)
         printed = f"{path}, line 2: {self.path('in/bad')}, line 2: --breaks is not allowed in a "
@@ -400,20 +405,21 @@ class ProfileVerdicts(Case):
                 (["--severity", levels, "--every", "25"], waived),
                 (["--profile", relative], accepted)):
             self.write("levelsx", b"")
-            found = judge_files(self, STORY, RECORDING, "--origin", "5000000000", *words)
-            self.must(f"{words}", found.said[-1] == last == found.result["line"], found.said[-1])
+            judged_pair = judge_files(self, STORY, RECORDING, "--origin", "5000000000", *words)
+            self.must(f"{words}", judged_pair.said[-1] == last == judged_pair.result["line"],
+                      judged_pair.said[-1])
 
-    def test_prints_and_stores_what_a_profile_sets(self) -> None:
+    def test_prints_and_stores_profile_options(self) -> None:
         data = b"--every 25  # each second\n--no-complete\n--layout 'fit,up'\n"
         path = self.write("house", data)
-        request = request_for("a.stl", "a.ts", "--profile", path, "--every", "50")
-        self.must("line", request.profile and profile_line(request.profile) ==
+        request = make_example_request("a.stl", "a.ts", "--profile", path, "--every", "50")
+        self.must("line", request.profile and format_profile(request.profile) ==
                   f"profile {path}: --every 25 --no-complete --layout fit,up")
         none = read_profile(self.write("none", b"#\n"))
-        self.must("nothing", profile_line(none) == f"profile {none.name}: no options")
-        found = judge_files(self, STORY, RECORDING, "--profile", path, "--layout", "up", "--every",
-                            "50")
-        known = found.result["request"]
+        self.must("nothing", format_profile(none) == f"profile {none.name}: no options")
+        judged_pair = judge_files(self, STORY, RECORDING, "--profile", path, "--layout", "up",
+                                  "--every", "50")
+        known = judged_pair.result["request"]
         self.must("result", known["profile"] == {
             "name": path, "sha256": hashlib.sha256(data).hexdigest()} and
             (known["every"], known["complete"], known["layout"]) == (50, False, "up"), known)
@@ -426,7 +432,7 @@ class ProfileVerdicts(Case):
                                                       "name"),
                 (["--profile", bad, "--json", "x.json"],
                  f"{bad}, line 2: argument --every: expected one argument")):
-            done = self.tool("qc", STORY, RECORDING, *words)
-            self.must(printed, done.status == 2 and done.told == [f"qc: {printed}"], done)
+            process = self.tool("qc", STORY, RECORDING, *words)
+            self.must(printed, process.status == 2 and process.told == [f"qc: {printed}"], process)
         self.must("as it was", self.read("house") == b"--every 25\n" and
                   b"line 2" in self.read("x.json"))

@@ -12,31 +12,31 @@ from typing import Any, Iterator, Sequence
 from unittest import mock
 
 from subtitles.cli import collection
-from subtitles.cli.batch import PairRunner, resumed_rows
+from subtitles.cli.batch import PairRunner, read_resumed_rows
 from subtitles.common.command_line import Stop
 from subtitles.common.program import ProgramInfo, TOP, read
-from subtitles.common.shapes import Integer, Listed
+from subtitles.common.shapes import Integer, ListOf
 from subtitles.formats.listing import SILENT, UNDECIDED
 from subtitles.judging.verdict import Unjudged
 from subtitles.request.commands import CommandPaths
 from subtitles.request.lines import BatchItem
 from subtitles.results import files
-from subtitles.results.files import read_result, write_result, table_lines, make_unjudged
+from subtitles.results.files import read_result, write_result, make_table_lines, make_unjudged
 from subtitles.results.schema import (
     FAULT as ROWS_OF_FAULT, FORMAT, LISTS, VERDICT, find_misfit, schema)
 from ..pages import SCHEMA, format_json
-from .bench import Case, example_bytes
+from .bench import Case, read_example_file
 from .judged import judge_files
-from .parts import request_for, default_options
+from .parts import make_example_request, make_default_options
 from .results import (
-    REQUEST, FAULT, make_result, row, schema as read_schema, second_validator, all_violations,
-    violations)
+    REQUEST, FAULT, make_result, row, schema as read_schema, make_second_validator,
+    list_all_violations, list_violations)
 
 
 # Test that all results match the schema, and that other files are read as unjudged pairs.
 
 SEED, CHANGES = 20261128, 900
-STRANGE: list[Any] = [
+INVALID_VALUES: list[Any] = [
     None, True, False, -1, 0, 1, 80, 5.5, 1 << 53, 1 << 62, "", "x", "refused 72 X", "\x1b[31m",
     "\ud800", "\udce9", "<script>alert(1)</script>", "=1+1", "99:99:99:99", "x" * 70_000, "\n", [],
     {}, [[]], [{}], {"a": 1}, "accepted", "refused", "not judged", "2026-99-99T99:99:99Z"]
@@ -52,8 +52,8 @@ TEXTS = {
 
 def changed(known: Any, chance: random.Random) -> Any:
     """Return a copy of a result in which one value is replaced, deleted or added."""
-    made = copy.deepcopy(known)
-    places = [*places_in(made)]
+    result = copy.deepcopy(known)
+    places = [*list_places(result)]
     holder, key = chance.choice(places)
     how = chance.randrange(8)
     if how == 0:
@@ -65,56 +65,58 @@ def changed(known: Any, chance: random.Random) -> Any:
         with contextlib.suppress(KeyError, IndexError):
             holder[key] = copy.deepcopy(other[place])
     else:
-        holder[key] = chance.choice(STRANGE)
-    return made
+        holder[key] = chance.choice(INVALID_VALUES)
+    return result
 
 
-def places_in(value: Any) -> Iterator[tuple[Any, Any]]:
+def list_places(value: Any) -> Iterator[tuple[Any, Any]]:
     """Yield, for each dictionary and list in a JSON value, the container and each key or index."""
     keys: Sequence[Any] = list(value) if isinstance(value, dict) else \
         range(len(value)) if isinstance(value, list) else ()
     for key in keys:
         yield value, key
-        yield from places_in(value[key])
+        yield from list_places(value[key])
 
 
 class WrittenResults(Case):
     def test_the_schema_file_is_up_to_date(self) -> None:
         self.must("made", read(os.path.join(TOP, SCHEMA)) == format_json(schema()) + "\n",
                   "dev/make-pages")
-        self.must("read", second_validator() is None or second_validator().schema == read_schema())
+        self.must("read", make_second_validator() is None
+                  or make_second_validator().schema == read_schema())
 
     def test_a_new_row_of_the_table_is_used_everywhere(self) -> None:
         row = ROWS_OF_FAULT.members[0]._replace(name="new", shape=Integer(3, 3), getter=lambda _: 3)
         with mock.patch.multiple(ROWS_OF_FAULT, members=(*ROWS_OF_FAULT.members, row),
                                  shapes={**ROWS_OF_FAULT.shapes, "new": row.shape},
                                  needed={*ROWS_OF_FAULT.needed, "new"}):
-            found = self.judge()
-            self.must("written", [one["new"] for one in found["faults"]] == [3] * 4, found)
+            result = self.judge()
+            self.must("written", [item["new"] for item in result["faults"]] == [3] * 4, result)
             known = schema()["definitions"]["fault"]
             self.must("schema", known["properties"]["new"] == {
                 "description": row.meaning, "type": "integer", "minimum": 3, "maximum": 3} or
                 known["properties"]["new"]["maximum"] == 3, known["properties"]["new"])
             self.must("read", find_misfit(make_result(faults=[FAULT])) == ".faults[0].new" and
-                      find_misfit(found) is None)
-        self.must("no more", find_misfit(found) == ".faults[0].new")
+                      find_misfit(result) is None)
+        self.must("no more", find_misfit(result) == ".faults[0].new")
 
     def judge(self) -> dict[str, Any]:
         """Judge a recording with faults, and return its JSON result."""
-        stl = self.write("story.stl", example_bytes("story.stl"))
-        return judge_files(self, stl, self.write("x.pes", example_bytes("five-faults.pes"))).result
+        stl = self.write("story.stl", read_example_file("story.stl"))
+        return judge_files(self, stl,
+                           self.write("x.pes", read_example_file("five-faults.pes"))).result
 
     def test_the_schema_allows_all_fault_numbers(self) -> None:
         for number, fits in ((9, False), (10, True), (UNDECIDED, True), (SILENT, True),
                              (80, False)):
             known = make_result(faults=[{**FAULT, "number": number}])
             self.must(f"{number}", (find_misfit(known) is None) == fits != any(
-                violations(known, read_schema())))
+                list_violations(known, read_schema())))
 
     def test_counts_omitted_items_of_each_list(self) -> None:
         whole = self.judge()
         self.must("all", not any(whole["omitted"].values()), whole["omitted"])
-        faults = next(one for one in LISTS if one.name == "faults").shape
+        faults = next(item for item in LISTS if item.name == "faults").shape
         for most in (0, 1, 3, 4):
             with mock.patch.object(faults, "most", most):
                 known = self.judge()
@@ -122,15 +124,15 @@ class WrittenResults(Case):
                       known["omitted"] == {**whole["omitted"], "faults": 4 - most}, known)
         with mock.patch.object(files, "MAX_BYTES", 0):
             known = self.judge()
-        counts = {one.name: len(whole[one.name]) for one in LISTS}
+        counts = {item.name: len(whole[item.name]) for item in LISTS}
         self.must("none", known["omitted"] == counts and known["fault_count"] == 4, known)
-        size = sum(len(json.dumps(one, ensure_ascii=False).encode()) for name in counts
-                   for one in whole[name])
+        size = sum(len(json.dumps(item, ensure_ascii=False).encode()) for name in counts
+                   for item in whole[name])
         for room, left in ((size, 0), (size - 1, 1)):
             with mock.patch.object(files, "MAX_BYTES", room):
                 self.must(f"{room}", self.judge()["omitted"]["subtitles"] == left)
 
-    def test_allows_no_accepted_result_without_a_clock(self) -> None:
+    def test_rejects_an_accepted_result_without_a_clock(self) -> None:
         rows: list[tuple[str, int, dict[str, Any], bool]] = [
             ("accepted", 0, {"origin": 0}, True), ("accepted", 0, {"start": "tcp"}, True),
             ("accepted", 0, {}, False), ("accepted", 0, {"relative": True}, False),
@@ -142,15 +144,15 @@ class WrittenResults(Case):
         for word, status, request, fits in rows:
             known = make_result(word, status=status, request={**REQUEST, "origin": None, **request})
             self.must(f"{word} {status} {request}", (find_misfit(known) is None) == fits and
-                      (not [*all_violations(known)]) == fits, find_misfit(known))
+                      (not [*list_all_violations(known)]) == fits, find_misfit(known))
 
     def test_cuts_a_text_that_is_too_long(self) -> None:
         self.must("cut", len(make_unjudged("x", "y" * 70_000)["reason"]) == 65_536 and
                   find_misfit(make_unjudged("x", "y" * 70_000)) is None)
-        found = judge_files(self, self.write("story.stl", example_bytes("story.stl")))
+        result = judge_files(self, self.write("story.stl", read_example_file("story.stl")))
         program = ProgramInfo("1", "0" * 64, None)
-        found.verdict.unjudged = Unjudged("why")
-        known = json.loads("".join(write_result(found.verdict, program)))
+        result.verdict.unjudged = Unjudged("why")
+        known = json.loads("".join(write_result(result.verdict, program)))
         self.must("not judged", known["verdict"] == "not judged" and find_misfit(known) is None)
 
 
@@ -159,35 +161,35 @@ class UntrustedResults(Case):
         chance, fitting = random.Random(SEED), 0
         known = [self.known(), make_unjudged("one", "why")]
         for number in range(CHANGES):
-            made = changed(known[number % 9 == 8], chance)
-            wrong = [*violations(made, read_schema())]
-            is_pair = isinstance(made, dict) and "pairs" not in made
-            self.must(f"{number}", not is_pair or (find_misfit(made) is None) == (not wrong),
-                      (wrong, find_misfit(made)))
-            if second_validator() and number % 9 == 0:
+            result = changed(known[number % 9 == 8], chance)
+            wrong = [*list_violations(result, read_schema())]
+            is_pair = isinstance(result, dict) and "pairs" not in result
+            self.must(f"{number}", not is_pair or (find_misfit(result) is None) == (not wrong),
+                      (wrong, find_misfit(result)))
+            if make_second_validator() and number % 9 == 0:
                 self.must(f"{number}: second reader",
-                          second_validator().is_valid(made) == (not wrong), wrong)
+                          make_second_validator().is_valid(result) == (not wrong), wrong)
             fitting += not wrong
         self.must("some of each", CHANGES // 20 < fitting < CHANGES // 2, fitting)
 
     def known(self) -> dict[str, Any]:
         """Judge a recording with faults, and return a result with values of all types."""
-        stl = self.write("story.stl", example_bytes("story.stl"))
-        ts = self.write("x.pes", example_bytes("five-faults.pes"))
+        stl = self.write("story.stl", read_example_file("story.stl"))
+        ts = self.write("x.pes", read_example_file("five-faults.pes"))
         return judge_files(self, stl, ts, "--every", "25").result
 
     def words(self, **more: Any) -> argparse.Namespace:
         """Return the parsed arguments for a folder of results."""
         for name in ("in", "out"):
             os.makedirs(self.path(name), exist_ok=True)
-        words = argparse.Namespace(**vars(default_options()))
+        words = argparse.Namespace(**vars(make_default_options()))
         vars(words).update({
             "watch": self.path("in"), "out": self.path("out"), "collect": self.path("out"),
             "settled": 0, "is_kept": False, "csv": self.path("x.csv"), "junit": self.path("x.xml"),
             "json": self.path("x.json"), **more})
         return words
 
-    def all_read(self) -> list[dict[str, Any]]:
+    def read_all_results(self) -> list[dict[str, Any]]:
         """Collect the results in a folder, and return the pairs of the JSON output."""
         words, typed = self.words(), CommandPaths("tools/qc", self.bench.program)
         with contextlib.redirect_stdout(io.StringIO()), contextlib.redirect_stderr(io.StringIO()):
@@ -198,50 +200,50 @@ class UntrustedResults(Case):
                        if name.endswith(".json"))
         self.must("names", sorted(rows) == names, rows)
         calls = PairRunner(typed, self.folder, self.path("out"), False)
-        request = request_for(self.path("story.stl"), self.path("x.pes"))
-        resumed_rows(calls, [BatchItem(name, request, None) for name in names])
+        request = make_example_request(self.path("story.stl"), self.path("x.pes"))
+        read_resumed_rows(calls, [BatchItem(name, request, None) for name in names])
         pairs: list[dict[str, Any]] = json.loads(self.read("x.json"))["pairs"]
         self.must("all pairs", len(pairs) == len(names) and status == 2, (len(pairs), names))
-        self.must("all fit", all(find_misfit(one) is None for one in pairs))
+        self.must("all fit", all(find_misfit(pair) is None for pair in pairs))
         return pairs
 
     def test_reads_any_changed_result(self) -> None:
         chance, known = random.Random(SEED + 1), self.known()
         self.words()
         for number in range(CHANGES // 6):
-            made = changed(known, chance)
-            if isinstance(made, dict) and "verdict" in made:
-                self.write(f"out/{number:03}.json", json.dumps(made).encode())
+            result = changed(known, chance)
+            if isinstance(result, dict) and "verdict" in result:
+                self.write(f"out/{number:03}.json", json.dumps(result).encode())
         self.write("out/none.json", b"{")
-        pairs = self.all_read()
-        self.must("some fit", sum("request" in one for one in pairs) > 5)
-        self.must("by name", all("request" in one or one["name"] in {"none", *(
-            f"{number:03}" for number in range(CHANGES))} for one in pairs))
+        pairs = self.read_all_results()
+        self.must("some fit", sum("request" in pair for pair in pairs) > 5)
+        self.must("by name", all("request" in pair or pair["name"] in {"none", *(
+            f"{number:03}" for number in range(CHANGES))} for pair in pairs))
 
     def test_refuses_deep_large_and_invalid_json(self) -> None:
         self.known()
         self.words()
         for number, (text, reported) in enumerate(TEXTS.items()):
             path = self.write(f"out/{number}.json", text)
-            found = read_result(path)
-            self.must(reported, found is not None and found["verdict"] == "not judged" and
-                      found["name"] == f"{number}" and reported in found["reason"], found)
+            result = read_result(path)
+            self.must(reported, result is not None and result["verdict"] == "not judged" and
+                      result["name"] == f"{number}" and reported in result["reason"], result)
         self.write("out/whole.json", json.dumps(make_result("accepted")).encode())
-        self.all_read()
+        self.read_all_results()
         size = os.path.getsize(self.path("out/whole.json"))
         for most, is_read in ((size, True), (size - 1, False)):
             with mock.patch.object(files, "MAX_RESULT_BYTES", most):
-                found = read_result(self.path("out/whole.json"))
-            self.must(f"{most}", found is not None and (found["verdict"] == "accepted") == is_read,
-                      found)
+                result = read_result(self.path("out/whole.json"))
+            self.must(f"{most}", result is not None
+                      and (result["verdict"] == "accepted") == is_read, result)
         os.mkdir(self.path("empty"))
         self.assertRaises(Stop, collection.collect, self.words(collect=self.path("empty")))
 
     def test_reads_back_the_largest_result(self) -> None:
         known = self.known()
         self.must("it fits", find_misfit(known) is None and known["format"] == FORMAT)
-        self.must("all lists", {one.name for one in VERDICT.members
-                                if isinstance(one.shape, Listed)} == {one.name for one in LISTS})
+        self.must("all lists", {item.name for item in VERDICT.members
+                                if isinstance(item.shape, ListOf)} == {item.name for item in LISTS})
         self.must("room", files.MAX_RESULT_BYTES == 2 * files.MAX_BYTES)
         text = json.dumps({**FAULT, "cause": {"name": "late", "line": "a, b, c", "subtitle": 1}})
         values = 20_000 * 2 * sum(map(text.count, ",{[")) + 100_000 * 4
@@ -255,11 +257,12 @@ class CollectedResults(Case):
             row("d", "waived", "waived: refused 5 X", "", 3)]
 
     def test_notes_an_estimated_clock(self) -> None:
-        for sources, wanted in (("", ""), ("given", ""), ("recording", files.NO_CLOCK),
-                                ("recording start", files.NO_CLOCK),
-                                ("start recording", files.LATER_CLOCK)):
+        for sources, expected in (("", ""), ("given", ""), ("recording", files.NO_CLOCK),
+                                  ("recording start", files.NO_CLOCK),
+                                  ("start recording", files.LATER_CLOCK)):
             parts = [{"clock": {"source": source}} for source in sources.split()]
-            self.check(sources, files.describe_clock({"parts": [*parts, {"clock": None}]}), wanted)
+            self.check(sources, files.describe_clock({"parts": [*parts, {"clock": None}]}),
+                       expected)
 
     def test_prints_columns_as_wide_as_their_widest_cell(self) -> None:
         self.must("table", list(collection.format_summary(self.ROWS)) == [
@@ -274,10 +277,10 @@ class CollectedResults(Case):
         """Collect all rows, and return the exit status, the output and the error output."""
         words = argparse.Namespace(csv=None, junit=None, json=None)
         vars(words).update(outputs)
-        paths = [self.path(f"{one.name}.json") for one in self.ROWS]
-        for one, path in zip(self.ROWS, paths):
-            have = make_unjudged("c", "why\nmore") if one.name == "c" else \
-                make_result(one.verdict, line=one.line)
+        paths = [self.path(f"{item.name}.json") for item in self.ROWS]
+        for item, path in zip(self.ROWS, paths):
+            have = make_unjudged("c", "why\nmore") if item.name == "c" else \
+                make_result(item.verdict, line=item.line)
             self.write(os.path.basename(path), json.dumps(have).encode())
         out, errors = io.StringIO(), io.StringIO()
         with contextlib.redirect_stdout(out), contextlib.redirect_stderr(errors):
@@ -300,7 +303,7 @@ class CollectedResults(Case):
         have = json.loads(self.read("all"))
         self.must("as it is written", self.read("all").startswith(
             b'{\n "format": %d,\n "status": 2,\n "date": "' % FORMAT))
-        self.must("objects", [one["verdict"] for one in have["pairs"]] ==
+        self.must("objects", [item["verdict"] for item in have["pairs"]] ==
                   ["accepted", "refused", "not judged", "waived"] and have["status"] == 2, have)
         self.must("lines", len(self.read("lines").splitlines()) == 6)
         self.must("cases", self.read("cases").count(b"<testcase") == 4)
@@ -357,12 +360,12 @@ class CollectedResults(Case):
         known = make_result(faults=[FAULT])
         self.write("gone.json", b'{"status": 0, ' + json.dumps(known, indent=3).encode()[1:])
         self.must("as it was read", collection.load_result(path) == known)
-        lines = table_lines(map(collection.load_for_csv, [path, path]))
+        lines = make_table_lines(map(collection.load_for_csv, [path, path]))
         self.check("lines", len(b"".join(lines).splitlines()), 5)
         known["omitted"]["faults"] = 7
         self.write("gone.json", json.dumps(known).encode())
         with contextlib.redirect_stderr(io.StringIO()) as errors:
-            lines = table_lines([collection.load_for_csv(path)])
+            lines = make_table_lines([collection.load_for_csv(path)])
             self.check("lines of some", len([*lines]), 3)
         self.must("told", errors.getvalue().endswith(
             f": {path} omits 7 faults, so the CSV file does too\n"), errors.getvalue())

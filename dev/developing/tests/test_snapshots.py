@@ -7,16 +7,16 @@ from typing import Callable
 
 from .bench import BENCH, Case
 from .failures import Mismatch
-from .snapshots import FOLDER, compare, summary, text_of, changes_in
+from .snapshots import FOLDER, compare, summary, read_snapshot, changes_in
 
 
 class Snapshots(Case):
     """Tests of stored outputs, one method for each file in dev/snapshots/."""
 
 
-def test_of(group: str) -> Callable[[Snapshots], None]:
+def make_test(group: str) -> Callable[[Snapshots], None]:
     def test(_: Snapshots) -> None:
-        failure = compare(group, text_of, BENCH.is_updated)
+        failure = compare(group, read_snapshot, BENCH.is_updated)
         if failure:
             raise Mismatch(failure)
 
@@ -25,7 +25,7 @@ def test_of(group: str) -> Callable[[Snapshots], None]:
 
 for FILE in sorted(os.listdir(FOLDER)):
     GROUP = FILE.partition(".")[0]
-    setattr(Snapshots, f"test_{GROUP}", test_of(GROUP))
+    setattr(Snapshots, f"test_{GROUP}", make_test(GROUP))
 
 
 class Failures(unittest.TestCase):

@@ -8,19 +8,20 @@ from typing import Any, Sequence
 
 from subtitles.clock.alignment import CueOffset, EarlyCues, MAX_CUE_OFFSET, OriginFit
 from subtitles.clock.origin import find_equal_origins, is_clear
-from subtitles.clock.start import Clock, StartClock, TCP, find_frame_offset, refuse_outside
+from subtitles.clock.start import (
+    Clock, StartClock, TCP, find_frame_offset, refuse_outside_recording)
 from subtitles.common.times import CLOCK, EARLY_TICKS, FRAMES_A_SECOND, NO_FRAME, Span, TICKS
 from subtitles.recording.recording import Recording
 from subtitles.request.request import Unclear
 from subtitles.stream.gaps import (
-    LossPlace, MAX_LISTED, SECOND, first_lines, gap_marker_lines, is_within)
-from subtitles.stream.pace import Pauses, Silence, USUAL_EVERY, select_idle_silences
-from subtitles.stream.repeats import NEAR, measure_repeats
+    LossPlace, MAX_LISTED_PLACES, SECOND, describe_gap_markers, is_within, limit_lines)
+from subtitles.stream.pace import DEFAULT_REPEAT_LIMIT, Pauses, Silence, select_idle_silences
+from subtitles.stream.repeats import MAX_CUE_DISTANCE, measure_repeats
 from subtitles.stream.packets import GapMarker, PCRStep, PacketRun, Packets, Texts
 from subtitles.stream.receiver import (
     BLANK_PAGE, HIT, OLD, OLD_PAGE, ReceivedPackets, SpanIndex, Timeline, clear_unsent_cells,
-    decode_near)
-from .parts import request_for
+    decode_pages_around)
+from .parts import make_example_request
 
 ORIGINS = 0, 7, CLOCK - 100 * SECOND - 5, CLOCK - 20 * SECOND, CLOCK - 5
 
@@ -29,14 +30,14 @@ def pts_at(seconds: float | None, origin: int = 0) -> int | None:
     return None if seconds is None else round(origin + seconds * SECOND) % CLOCK
 
 
-def packets_at(times: Sequence[float | None], origin: int = 0, does: str = "he") -> Packets:
+def make_packets_at(times: Sequence[float | None], origin: int = 0, does: str = "he") -> Packets:
     """Return PES packets at these seconds after `origin`. A packet at `None` has no PTS."""
-    return Packets(257, [PacketRun(number, 1, pts_at(one, origin), 0, does, "")
-                         for number, one in enumerate(times)])
+    return Packets(257, [PacketRun(number, 1, pts_at(item, origin), 0, does, "")
+                         for number, item in enumerate(times)])
 
 
 class Silences(unittest.TestCase):
-    def test_needs_room_for_missing_packets(self) -> None:
+    def test_a_silence_needs_time_for_missing_packets(self) -> None:
         for origin, (before, after, ticks, wanted) in itertools.product(ORIGINS, (
                 (0, 2, 2 * SECOND, True), (0, 2, 2 * SECOND + 1, False), (0, 2, 1, True),
                 (None, 2, 9 * SECOND, True), (0, None, 9 * SECOND, True))):
@@ -47,30 +48,32 @@ class Silences(unittest.TestCase):
         every, begin, end = 400, 1000, 1500
         pause: Pauses = [(begin, end)]
         rows: list[tuple[tuple[int, int], Pauses, bool]] = [
-            ((0, 50), [], False), ((0, USUAL_EVERY), [], False), ((0, USUAL_EVERY + 1), [], True),
+            ((0, 50), [], False), ((0, DEFAULT_REPEAT_LIMIT), [], False),
+            ((0, DEFAULT_REPEAT_LIMIT + 1), [], True),
             ((0, every), [], True), ((0, every + 1), [], False),
             ((begin, end), pause, True), ((begin - 1, end), pause, False),
-            ((begin + 490, end + NEAR), pause, True),
-            ((begin + 490, end + NEAR + 1), pause, False),
-            ((begin + 490, end - NEAR), pause, True),
-            ((begin + 490, end - NEAR - 1), pause, False),
-            ((900, 940 + NEAR), [(None, 940)], True), ((900, 941 + NEAR), [(None, 940)], False),
+            ((begin + 490, end + MAX_CUE_DISTANCE), pause, True),
+            ((begin + 490, end + MAX_CUE_DISTANCE + 1), pause, False),
+            ((begin + 490, end - MAX_CUE_DISTANCE), pause, True),
+            ((begin + 490, end - MAX_CUE_DISTANCE - 1), pause, False),
+            ((900, 940 + MAX_CUE_DISTANCE), [(None, 940)], True),
+            ((900, 941 + MAX_CUE_DISTANCE), [(None, 940)], False),
             ((940, 980), [(940, None)], True), ((939, 980), [(940, None)], False)]
-        for (first, last), pauses, wanted in rows:
+        for (first, last), pauses, expected in rows:
             for is_near in (False, True):
                 lull = Silence(first, last, is_near)
                 self.assertEqual(select_idle_silences([lull], every, pauses),
-                                 [lull] * (wanted or is_near), (first, last, pauses))
+                                 [lull] * (expected or is_near), (first, last, pauses))
         # An interval without PES packets (a silence) at the end of a pause is idle if most pauses
         # that are at least as long also end with a silence.
         silence = Silence(begin + 400, end, False)
         of_others: list[tuple[list[int], bool]] = [
             ([], True), ([500], False), ([499], True), ([499, 499], True), ([500, 499], False),
             ([600, 700], False)]
-        for others, wanted in of_others:
+        for others, expected in of_others:
             pauses = [(begin, end), *((5000 * at, 5000 * at + length)
                                       for at, length in enumerate(others, 1))]
-            self.assertEqual(select_idle_silences([silence], 50, pauses), [silence] * wanted,
+            self.assertEqual(select_idle_silences([silence], 50, pauses), [silence] * expected,
                              others)
 
     def test_finds_the_longest_time_without_a_header(self) -> None:
@@ -83,43 +86,45 @@ class Silences(unittest.TestCase):
             ([-9, 0, 10], -1, [], (2, 10, 0, None)), ([0, 9.75, 15], None, [], (3, 10, 0, None)),
             ([*steady], None, [], (10, 10, 0, 10)), ([*steady], 99, [20, 50], (10, 10, 0, 10)),
             ([*steady], None, [20, 40, 60, 80], (10, 10, 0, None))]
-        origins = *ORIGINS, *(CLOCK - TICKS * one for one in (5, 10, 19, 39, 40, 99))
+        origins = *ORIGINS, *(CLOCK - TICKS * item for item in (5, 10, 19, 39, 40, 99))
         for origin, (frames, last, cues, wanted) in itertools.product(origins, rows):
-            pts = [round(origin + TICKS * one) % CLOCK for one in frames]
+            pts = [round(origin + TICKS * item) % CLOCK for item in frames]
             end = None if last is None else round(origin + TICKS * last) % CLOCK
-            found = measure_repeats(pts, end, origin, [*zip(cues, cues[1:])])
-            self.assertEqual(found and (*found[:4],), wanted, (origin, frames, last, cues))
+            repeats = measure_repeats(pts, end, origin, [*zip(cues, cues[1:])])
+            self.assertEqual(repeats and (*repeats[:4],), wanted, (origin, frames, last, cues))
 
     def test_prints_twenty_losses_and_counts_the_others(self) -> None:
-        for count in (0, 1, MAX_LISTED - 1, MAX_LISTED, MAX_LISTED + 1, MAX_LISTED + 2):
+        for count in (0, 1, MAX_LISTED_PLACES - 1, MAX_LISTED_PLACES, MAX_LISTED_PLACES + 1,
+                      MAX_LISTED_PLACES + 2):
             lines = [f"{number}" for number in range(count)]
-            more = count - MAX_LISTED
+            more = count - MAX_LISTED_PLACES
             reported = [f"and at {more} more place{'s' * (more > 1)}"] * (more > 0)
-            self.assertEqual(first_lines(lines), lines[:MAX_LISTED] + reported, count)
+            self.assertEqual(limit_lines(lines), lines[:MAX_LISTED_PLACES] + reported, count)
             pts = [SECOND + at * TICKS for at in range(2 * count + 1)]
-            packets = Packets(5, [PacketRun(at, 1, None if at % 2 else one, 0, "", "")
-                                  for at, one in enumerate(pts)])
+            packets = Packets(5, [PacketRun(at, 1, None if at % 2 else item, 0, "", "")
+                                  for at, item in enumerate(pts)])
             packets.gap_markers = [GapMarker(at, pts[at - 1], 1, 0)
                                    for at in range(1, 2 * count, 2)]
             packets.pcr_steps = [PCRStep(TICKS * 90, TICKS * 91, TICKS * 9, 9, 1, 9, "broken")]
-            found = gap_marker_lines(packets)
-            others = [line for line in found if line.startswith("and at")]
-            self.assertEqual((len(found), others), (
-                min(count, MAX_LISTED), [f"and at {more + 1} more places"] * (more > 0)), count)
+            result = describe_gap_markers(packets)
+            others = [line for line in result if line.startswith("and at")]
+            self.assertEqual((len(result), others), (
+                min(count, MAX_LISTED_PLACES), [f"and at {more + 1} more places"] * (more > 0)),
+                             count)
             times = f"PTS {SECOND} and {SECOND + 2 * TICKS} (00:00:00:00 and 00:00:00:02 after " \
                 "the first PTS)"
-            self.assertEqual(found[:1], [f"between {times}: 1 TS packet was lost"][:count], count)
+            self.assertEqual(result[:1], [f"between {times}: 1 TS packet was lost"][:count], count)
 
 
 class FirstPictures(unittest.TestCase):
-    def test_takes_the_later_of_the_last_pts_and_pcr(self) -> None:
+    def test_uses_the_later_of_last_pts_and_pcr(self) -> None:
         for origin, (pts, pcr, last) in itertools.product(ORIGINS, (
                 (None, None, None), (4, None, 4), (None, 7, 7), (4, 7, 7), (7, 4, 7))):
-            clock, begun, wanted = ((None if one is None else (origin + one) % CLOCK)
-                                    for one in (pcr, pts, last))
+            clock, begun, expected = ((None if item is None else (origin + item) % CLOCK)
+                                      for item in (pcr, pts, last))
             known: Any = SimpleNamespace(packets=Packets(5, last_pts=begun), survey=SimpleNamespace(
-                clock_of=lambda _: None if clock is None else (0, clock)))
-            self.assertEqual(Recording.find_last_time(known), wanted, (origin, pts, pcr))
+                get_pcr_range=lambda _: None if clock is None else (0, clock)))
+            self.assertEqual(Recording.find_last_time(known), expected, (origin, pts, pcr))
 
     def test_computes_ticks_after_a_frame(self) -> None:
         for origin, (times, exact, near) in itertools.product(ORIGINS, (
@@ -128,14 +133,15 @@ class FirstPictures(unittest.TestCase):
                 ([EARLY_TICKS + 1, 1800, 1800], 1800, 1800), ([-EARLY_TICKS, 1800, 1800], 1800,
                                                               TICKS - EARLY_TICKS),
                 ([-EARLY_TICKS - 1, 1800, 1800], 1800, 1800))):
-            packets = Packets(5, [PacketRun(at, 1, (origin + TICKS * (at + 3) + one) % CLOCK, 0, "",
-                                            "")
-                                  for at, one in enumerate(times)])
-            found = [find_frame_offset(packets, origin, within) for within in (0, 1)]
-            self.assertEqual(found, [exact, near], (origin, times))
+            packets = Packets(5,
+                              [PacketRun(at, 1, (origin + TICKS * (at + 3) + item) % CLOCK, 0, "",
+                                         "")
+                               for at, item in enumerate(times)])
+            result = [find_frame_offset(packets, origin, within) for within in (0, 1)]
+            self.assertEqual(result, [exact, near], (origin, times))
 
     def test_refuses_subtitles_before_and_after_the_recording(self) -> None:
-        request, last = request_for("a.stl", "a.ts"), 1000
+        request, last = make_example_request("a.stl", "a.ts"), 1000
         for origin, (begin, end, is_told, is_refused) in itertools.product((
                 *ORIGINS, CLOCK - last * TICKS), (
                 (100, last + FRAMES_A_SECOND, True, False),
@@ -144,13 +150,14 @@ class FirstPictures(unittest.TestCase):
             began = StartClock(Clock(origin, TCP), [], 100)
             pts = (origin + TICKS * last) % CLOCK if is_told else None
             try:
-                refuse_outside(request, began, begin, end, pts)
-                found = False
+                refuse_outside_recording(request, began, begin, end, pts)
+                result = False
             except Unclear:
-                found = True
-            self.assertEqual(found, is_refused, (origin, begin, end))
+                result = True
+            self.assertEqual(result, is_refused, (origin, begin, end))
             with self.assertRaises(Unclear):  # the recording ends with the programme's first frame
-                refuse_outside(request, began._replace(frame=0), 0, FRAMES_A_SECOND + 1, origin)
+                refuse_outside_recording(request, began._replace(frame=0), 0,
+                                         FRAMES_A_SECOND + 1, origin)
 
 
 class ReceivedFrames(unittest.TestCase):
@@ -167,15 +174,15 @@ class ReceivedFrames(unittest.TestCase):
         for number in range(-1, 12):
             before = [frame for other, frame in known.items() if other < number]
             after = [frame for other, frame in known.items() if other > number]
-            self.assertEqual((order.frame_before(number), order.frame_after(number)),
+            self.assertEqual((order.find_frame_before(number), order.find_frame_after(number)),
                              (before[-1] if before else None, after[0] if after else None), number)
         for frame in range(9, 32):
-            self.assertEqual([run.first for run in order.runs_in_frame(frame)],
-                             [number for number, one in known.items() if one == frame], frame)
+            self.assertEqual([run.first for run in order.list_frame_runs(frame)],
+                             [number for number, item in known.items() if item == frame], frame)
         self.assertEqual((order.first, order.last, order.count), (10, 30, 8))
         self.assertEqual(ReceivedPackets().first, NO_FRAME)
 
-    def test_knows_which_frames_were_received_completely(self) -> None:
+    def test_finds_completely_received_frames(self) -> None:
         for frames, gap in itertools.product(itertools.product(range(4), repeat=4), range(5)):
             lost = [Span(3, 3)] * (gap % 2)
             order = ReceivedPackets(lost)
@@ -189,15 +196,15 @@ class ReceivedFrames(unittest.TestCase):
                 count, falls[0] if falls else None, doubts), (frames, gap))
             for first, last in itertools.combinations_with_replacement(range(5), 2):
                 is_seen = (not falls or last <= frames[count - 1]) and not any(
-                    one.first <= last and first <= one.last for one in doubts + lost)
+                    item.first <= last and first <= item.last for item in doubts + lost)
                 self.assertEqual(order.was_received(first, last), is_seen, (frames, gap))
 
-    def test_finds_spans_that_meet(self) -> None:
-        some = [Span(*one) for one in itertools.combinations_with_replacement(range(4), 2)]
+    def test_finds_overlapping_spans(self) -> None:
+        some = [Span(*item) for item in itertools.combinations_with_replacement(range(4), 2)]
         for several in ((), *itertools.permutations(some, 3)):
             for first, last in some:
-                self.assertEqual(SpanIndex(several).has(first, last), any(
-                    one.first <= last and first <= one.last for one in several), (first, last))
+                self.assertEqual(SpanIndex(several).includes(first, last), any(
+                    item.first <= last and first <= item.last for item in several), (first, last))
 
     @staticmethod
     def timeline(sent: str, **more: Any) -> Timeline:
@@ -231,9 +238,9 @@ class ReceivedFrames(unittest.TestCase):
             ("then told", "10:heo:a 15!:heo:b 20:o:c 30:ho", "10 a 20 c", [10], [10, 30])]
         for name, sent, pages, turns, sendings in rows:
             decoded = self.timeline(sent)
-            found = " ".join(f"{frame} {page[19].decode().strip()}"
-                             for frame, page in zip(decoded.frames, decoded.pages))
-            self.assertEqual((found, [*decoded.open_changes], [*decoded.header_frames]),
+            result = " ".join(f"{frame} {page[19].decode().strip()}"
+                              for frame, page in zip(decoded.frames, decoded.pages))
+            self.assertEqual((result, [*decoded.open_changes], [*decoded.header_frames]),
                              (pages, turns, sendings),
                              name)
             self.assertEqual(decoded.find_closed_frame(99), None if len(turns) % 2 else 99, name)
@@ -244,7 +251,7 @@ class ReceivedFrames(unittest.TestCase):
             self.assertEqual(decoded.halt, halt, frame)
         twice = "10:heo:a 10:c 11:c"
         decoded = self.timeline(twice)
-        self.assertEqual((decoded.halt, [run.first for run in decoded.runs_in_frame(10)]),
+        self.assertEqual((decoded.halt, [run.first for run in decoded.list_frame_runs(10)]),
                          (None, [0, 1]))
         before, behind = "200:heos:a 205!:he 220:c ", "150:heos:b 160!:h 170:c 310:ho:c"
         alone, both = (self.timeline(sent, begin=300) for sent in (behind, before + behind))
@@ -259,7 +266,7 @@ class ReceivedFrames(unittest.TestCase):
                           for came in (NO_FRAME, 0, 7)],
                          [10, 0, 7])
         decoded = self.timeline(twice, lost=[Span(5, 6)])
-        self.assertEqual([decoded.lost.has(*one) for one in ((6, 9), (7, 9))], [True, False])
+        self.assertEqual([decoded.lost.includes(*item) for item in ((6, 9), (7, 9))], [True, False])
         runs = [PacketRun(0, 3, 0, 5 * TICKS, "s", ""), PacketRun(3, 1, 20 * TICKS, 0, "s", ""),
                 PacketRun(4, 1, 30 * TICKS, 0, "s", "")]
         texts = [((20, b"a"),), ((20, b"b"),)]
@@ -275,22 +282,22 @@ class ReceivedFrames(unittest.TestCase):
         packets = Packets(5, runs, decoded_rows=[(at, ((20, b"%d" % at),)) for at in range(300)])
         for every, inside, first, last in ((25, None, 750, 1450), (400, None, 600, 1600),
                                            (25, (90, 110), 900, 1100)):
-            decoded = decode_near(packets, (0, 0x88), 0, 0, Span(1000, 1200), every, inside,
-                                  [Span(5, 6)])
-            self.assertEqual((decoded.first, decoded.last, decoded.lost.has(6, 7)),
+            decoded = decode_pages_around(packets, (0, 0x88), 0, 0, Span(1000, 1200), every, inside,
+                                          [Span(5, 6)])
+            self.assertEqual((decoded.first, decoded.last, decoded.lost.includes(6, 7)),
                              (first, last, True),
                              (every, inside, first))
-            self.assertEqual([decoded.page_span(at) for at in (0, len(decoded.frames) - 1)], [
+            self.assertEqual([decoded.get_page_span(at) for at in (0, len(decoded.frames) - 1)], [
                 Span(decoded.frames[0], decoded.frames[0] + 9), Span(last, last)],
                              (every, inside, first))
-        decoded = decode_near(packets, (0, 0x88), EARLY_TICKS, 1, Span(1000, 1200), 25)
+        decoded = decode_pages_around(packets, (0, 0x88), EARLY_TICKS, 1, Span(1000, 1200), 25)
         self.assertEqual((decoded.first, decoded.last), (750, 1450))
-        decoded = decode_near(packets, (0, 0x88), 0, 0, Span(9000, 9100), 25)
+        decoded = decode_pages_around(packets, (0, 0x88), 0, 0, Span(9000, 9100), 25)
         self.assertEqual((decoded.count, decoded.first), (0, NO_FRAME))
 
     def test_starts_a_range_with_the_last_printed_rows(self) -> None:
         for does, is_told in itertools.product(("he", "h"), (True, False)):
-            runs = [PacketRun(at, 1, TICKS * at, 0, one, "0") for at, one in enumerate(
+            runs = [PacketRun(at, 1, TICKS * at, 0, item, "0") for at, item in enumerate(
                 (does, "h", "ho", "he"))]
             decoded: list[tuple[int, Texts]] = [(at, ((20, text),)) for at, text in enumerate(
                 (b"w", b"x", b"y", b"z"))]
@@ -317,7 +324,7 @@ class ClearOrigins(unittest.TestCase):
 
     def test_compares_origins_by_cues_and_characters(self) -> None:
         five, four, apart = self.fit(5, 5, 2), self.fit(4, 4, 2), CueOffset(True, 3, 5, 5)
-        for best, other, is_apart, wanted in (
+        for best, other, is_apart, expected in (
                 (five, self.fit(5, 4, 9), False, False), (five, self.fit(5, 5), False, True),
                 (five, self.fit(6, 4), False, True), (four, self.fit(4, 3, 1), False, False),
                 (four, self.fit(4, 3, 2), False, True), (four, self.fit(4, 4, 0), False, True),
@@ -326,17 +333,18 @@ class ClearOrigins(unittest.TestCase):
                 (five, self.fit(5, 5, 2, start=MAX_CUE_OFFSET + 1), True, True),
                 (five, self.fit(5, 5, 0, start=MAX_CUE_OFFSET + 1), True, False)):
             part = self.part(best, self.fit(1, 1), other, apart=apart if is_apart else None)
-            self.assertEqual(find_equal_origins(part), [other] * wanted, (best, other))
-            self.assertEqual([is_clear(part), is_clear(part, True)], [not wanted] * 2,
+            self.assertEqual(find_equal_origins(part), [other] * expected, (best, other))
+            self.assertEqual([is_clear(part), is_clear(part, True)], [not expected] * 2,
                              (best, other, is_apart))
 
     def test_accepts_an_origin_with_which_half_of_the_cues_agree(self) -> None:
-        for matches, total, is_apart, wanted in ((5, 10, False, True), (5, 11, False, False),
-                                                 (5, 11, True, True), (0, 0, False, True)):
+        for matches, total, is_apart, expected in ((5, 10, False, True), (5, 11, False, False),
+                                                   (5, 11, True, True), (0, 0, False, True)):
             part = self.part(self.fit(matches, matches, total=total),
                              apart=CueOffset(True, 3, 5, 5) if is_apart else None)
-            self.assertEqual([is_clear(part), is_clear(part, True)], [wanted] * 2, (matches, total))
-        for early, wanted, known in ((None, True, True), (EarlyCues(1, 21, 2), True, True),
-                                     (EarlyCues(1, 20, 2), False, True)):
+            self.assertEqual([is_clear(part), is_clear(part, True)], [expected] * 2,
+                             (matches, total))
+        for early, expected, known in ((None, True, True), (EarlyCues(1, 21, 2), True, True),
+                                       (EarlyCues(1, 20, 2), False, True)):
             part = self.part(self.fit(5, 5), early=early)
-            self.assertEqual((is_clear(part), is_clear(part, True)), (wanted, known), early)
+            self.assertEqual((is_clear(part), is_clear(part, True)), (expected, known), early)

@@ -5,8 +5,8 @@ from __future__ import annotations
 from subtitles.recording.recording import find_unreadable_packets
 from subtitles.stream.gaps import explain_refusal
 from subtitles.stream.packets import PacketRun, Packets
-from subtitles.stream.survey import Survey, language_names
-from .bench import Case, example, example_bytes
+from subtitles.stream.survey import Survey, list_language_codes
+from .bench import Case, get_example_path, read_example_file
 from .transmissions import packets
 
 
@@ -29,40 +29,43 @@ class ExtractMessages(Case):
                 (2, 7, 0, 31, 0, "PID 0x2 has no PES packets of private_stream_1, which carry "
                                  "Teletext"),
                 (1, 1, 0, 0, 0, "PID 0x1 has no complete PES packet in 1 TS packet")):
-            one = Packets(pid, packets=packets, scrambled=scrambled, refusal=refusal)
-            one.runs += [PacketRun(0, count, 0, 0, "", "")] * bool(count)
-            known.by_pid[pid] = one
-            self.must(f"{pid:#x}", explain_refusal(one) == words, explain_refusal(one))
-        silent = [one.pid for one in find_unreadable_packets(known)]
+            item = Packets(pid, packets=packets, scrambled=scrambled, refusal=refusal)
+            item.runs += [PacketRun(0, count, 0, 0, "", "")] * bool(count)
+            known.by_pid[pid] = item
+            self.must(f"{pid:#x}", explain_refusal(item) == words, explain_refusal(item))
+        silent = [item.pid for item in find_unreadable_packets(known)]
         self.must("silent", silent == [1, 2, 5, 6, 9], silent)
 
     def test_names_the_languages_of_ebu_tech_3264(self) -> None:
-        for code, wanted in (
+        for code, expected in (
                 ("09", "eng"), ("08", "deu ger"), ("0A", "spa"), ("0a", "spa"), ("28", "swe"),
                 ("27", "fin"), ("15", "ita"), ("0F", "fra fre"), ("06", "ces cze"), ("1B", "hun"),
                 ("21", "por"), ("25", "slk slo"), ("07", "dan"), ("1D", "nld dut"), ("20", "pol"),
                 ("1E", "nor nob nno"), ("22", "ron rum"), ("26", "slv"), ("29", "tur"),
                 ("7f", ""), ("00", ""), ("x", ""), ("", "")):
-            self.must(code, language_names(code) == wanted.split(), language_names(code))
+            self.must(code, list_language_codes(code) == expected.split(),
+                      list_language_codes(code))
 
 
 class ConvertedStreams(Case):
     def test_extracts_the_multiplexed_pes_packets(self) -> None:
-        done = self.tool("pes2ts", example("story.pes"), "0x101")
-        self.check("made", (done.status, done.told), (0, ["pes2ts: 5 PES packets as PID 0x101"]))
-        made = [done.out[at:at + 188] for at in range(0, len(done.out), 188)]
+        process = self.tool("pes2ts", get_example_path("story.pes"), "0x101")
+        self.check("made", (process.status, process.told),
+                   (0, ["pes2ts: 5 PES packets as PID 0x101"]))
+        result = [process.out[at:at + 188] for at in range(0, len(process.out), 188)]
         for name, data, size in (
-                ("188 bytes", b"".join(made), "188"),
-                ("192 bytes", b"".join(b"TIME" + one for one in made), "192"),
-                ("204 bytes", b"".join(one + b"\x47" * 16 for one in made), "204"),
-                ("from the midst of a packet", made[0][77:] + b"".join(made), "188")):
-            done = self.call([self.bench.program, "extract", self.write("one.ts", data),
-                              self.path("back.pes"), "--pid", "0x101", "--packet-size", size])
-            self.check(name, (done.status, done.out), (0, b"written 5 pes 0 gaps\n"))
-            self.check(f"{name}: bytes", self.read("back.pes") == example_bytes("story.pes"), True)
+                ("188 bytes", b"".join(result), "188"),
+                ("192 bytes", b"".join(b"TIME" + item for item in result), "192"),
+                ("204 bytes", b"".join(item + b"\x47" * 16 for item in result), "204"),
+                ("from the midst of a packet", result[0][77:] + b"".join(result), "188")):
+            process = self.call([self.bench.program, "extract", self.write("one.ts", data),
+                                 self.path("back.pes"), "--pid", "0x101", "--packet-size", size])
+            self.check(name, (process.status, process.out), (0, b"written 5 pes 0 gaps\n"))
+            self.check(f"{name}: bytes",
+                       self.read("back.pes") == read_example_file("story.pes"), True)
 
     def test_reports_the_first_packet_that_is_no_teletext(self) -> None:
-        data = example_bytes("story.pes")
+        data = read_example_file("story.pes")
         first = packets(data)[0]
         for name, pes, count, line in (
                 ("cut", data[:-1], 4, "PES packet 4 is incomplete"),
@@ -73,11 +76,11 @@ class ConvertedStreams(Case):
                 ("another length", data[:4] + b"\0\xb3" + data[6:184] + b"x", 0,
                  "PES packet 0 is not a Teletext packet")):
             path = self.write("wrong.pes", pes)
-            done = self.tool("pes2ts", path, "0x101")
-            self.check(name, (done.status, done.told), (1, [
+            process = self.tool("pes2ts", path, "0x101")
+            self.check(name, (process.status, process.told), (1, [
                 f"pes2ts: {path}: {line}",
                 f"pes2ts: {count} PES packet{'s' * (count != 1)} as PID 0x101"]))
-            own = [one for at in range(0, len(done.out), 188)
-                   if (one := done.out[at:at + 188])[1] & 0x1F == 1 and one[2] == 1]
-            self.check(f"{name}: before it", b"".join(one[4:] for one in own),
+            own = [item for at in range(0, len(process.out), 188)
+                   if (item := process.out[at:at + 188])[1] & 0x1F == 1 and item[2] == 1]
+            self.check(f"{name}: before it", b"".join(item[4:] for item in own),
                        b"".join(packets(data)[:count]))

@@ -8,10 +8,10 @@ from typing import Iterable
 from developing.pes import decode_address
 from developing.stl import make_gsi_block, make_subtitle_blocks
 from subtitles.formats.layout import (
-    Layout, PLAIN, TextFault, draw_text, parse_layout, format_layout, find_text_letters,
-    find_page_letters, make_page_rows, complexity_key)
+    Layout, PLAIN, TextFault, draw_text, parse_layout, format_layout, encode_text_characters,
+    list_page_characters, make_page_rows, compute_complexity)
 from subtitles.formats.listing import parse_fault_line
-from subtitles.formats.teletext import BY_WORD, ENGLISH, Page
+from subtitles.formats.teletext import ENGLISH, OPTION_BY_WORD, Page
 from subtitles.stream.layout import (
     LayoutChoice, SentSubtitle, choose_layouts, count_misdrawn, is_found)
 from .. import DEV
@@ -20,7 +20,7 @@ from ..every_place.reading import decode_header, split_packets, read_packet
 from .bench import Case
 
 
-GERMAN = BY_WORD["german"]
+GERMAN = OPTION_BY_WORD["german"]
 # Texts that are not valid layouts.
 NONE = ("", "fit,fit", "before=0", "before=0E", "before=00", "before=0B0B0B0B0B0B0B",
         "after=0A0A0A0A0A", "strip=20", "strip=0A0A", "left=40", "left=007", "row=-23", "row=23",
@@ -30,11 +30,12 @@ NONE = ("", "fit,fit", "before=0", "before=0E", "before=00", "before=0B0B0B0B0B0
         "before=0B0B0B*0B0B0B0B", "before=*0E", "after=0A*", "strip=*0A", "before", "row=1\n",
         "left=\u0661", "left=-0", "free=-1")
 # Texts of layouts, each with the shortest text of the same layout.
-MEANS = [("row=-0,left=00,free=01", ""), ("before=*", "before="), ("before=0b*0d", "before=0B*0D"),
-         ("white,up", "up,white"), ("before=0B0B,after=0A0A,strip=", ""), ("row=-22", "row=-22"),
-         ("row=22", "row=22"),
-         ("strip=1f00", "strip=1F00"), ("right=09", "right=9"), ("before=0B*", "before=0B"),
-         ("before=0B0B*07", "before=0B0B*07")]
+EQUAL_LAYOUTS = [("row=-0,left=00,free=01", ""), ("before=*", "before="),
+                 ("before=0b*0d", "before=0B*0D"),
+                 ("white,up", "up,white"), ("before=0B0B,after=0A0A,strip=", ""),
+                 ("row=-22", "row=-22"), ("row=22", "row=22"),
+                 ("strip=1f00", "strip=1F00"), ("right=09", "right=9"), ("before=0B*", "before=0B"),
+                 ("before=0B0B*07", "before=0B0B*07")]
 # Subtitle text, VP, JC, layout, and the drawn rows (row, column, cells) or the error.
 DRAWN = [
     ("Hi", 22, 2, "", "22 17 0B0B4869 0A0A"), ("Hi", 22, 2, "white", "22 16 0B0B074869 0A0A"),
@@ -62,7 +63,7 @@ DRAWN = [
 WORDS = "the cat sat on a mat and then it went to see what was there Hi Ho no yes".split()
 # Layouts of inserters: whether the subtitle file has control codes, whether it leaves an empty
 # line for double height, and the layout.
-HOUSES = [
+BROADCASTER_LAYOUTS = [
     (False, False, "before=0D0B0B,double"), (True, True, ""), (False, False, "text"),
     (False, False, "last"), (False, False, "after=0A"), (False, False, "after="),
     (False, False, "before=070B0B"), (False, False, "before=*0B0B"), (False, False, "free=2"),
@@ -71,29 +72,29 @@ HOUSES = [
     (True, False, "row=-1,double,last"), (False, False, "left=2,right=3")]
 
 
-def text_bytes(printed: str) -> bytes:
+def encode_printed_text(printed: str) -> bytes:
     """Return the bytes of a subtitle text that is written as in DRAWN."""
-    return b"".join(one.encode() if one in ("Hi", "Ho") else bytes.fromhex(one)
-                    for one in printed.split(" "))
+    return b"".join(item.encode() if item in ("Hi", "Ho") else bytes.fromhex(item)
+                    for item in printed.split(" "))
 
 
-def drawing_of(text: bytes, row: int, justify: int, layout: Layout) -> str:
+def draw_with_program(text: bytes, row: int, justify: int, layout: Layout) -> str:
     """Return the rows that a layout draws, written as in DRAWN."""
-    found = draw_text(text, row, justify, layout, ENGLISH)
-    if isinstance(found, TextFault):
-        return f"{found.number} at {found.at}"
-    return " ".join(f"{one.row} {one.column} {one.cells[:-2].hex().upper()} "
-                    f"{one.cells[-2:].hex().upper()}" for one in found)
+    result = draw_text(text, row, justify, layout, ENGLISH)
+    if isinstance(result, TextFault):
+        return f"{result.number} at {result.at}"
+    return " ".join(f"{item.row} {item.column} {item.cells[:-2].hex().upper()} "
+                    f"{item.cells[-2:].hex().upper()}" for item in result)
 
 
-def line(some: random.Random, has_codes: bool) -> bytes:
+def line(chance: random.Random, has_codes: bool) -> bytes:
     """Return a random line, with any control codes if `has_codes`, otherwise at most a colour."""
-    text = " ".join(some.choice(WORDS) for _ in range(some.randrange(1, 5)))[:30].encode()
-    colour = some.choice([b"", b"", b"\3", b"\6"])
+    text = " ".join(chance.choice(WORDS) for _ in range(chance.randrange(1, 5)))[:30].encode()
+    colour = chance.choice([b"", b"", b"\3", b"\6"])
     return b"\x0d" + colour + b"\x0b\x0b" + text + b"\x0a\x0a" if has_codes else colour + text
 
 
-def programme(some: random.Random, has_codes: bool, leaves_room: bool, layout: Layout,
+def programme(chance: random.Random, has_codes: bool, leaves_room: bool, layout: Layout,
               count: int = 120) -> list[SentSubtitle]:
     """Return random subtitles, each with its transmission in a layout.
 
@@ -102,8 +103,8 @@ def programme(some: random.Random, has_codes: bool, leaves_room: bool, layout: L
     sent: list[SentSubtitle] = []
     while len(sent) < count:
         between = b"\x8a\x8a" if leaves_room else b"\x8a"
-        text = between.join(line(some, has_codes) for _ in range(some.choice([1, 2, 2])))
-        row, justify = some.choice([16, 18, 20]), some.choice([2, 2, 2, 1, 3, 0])
+        text = between.join(line(chance, has_codes) for _ in range(chance.choice([1, 2, 2])))
+        row, justify = chance.choice([16, 18, 20]), chance.choice([2, 2, 2, 1, 3, 0])
         lines = draw_text(text, row, justify, layout, ENGLISH)
         if not isinstance(lines, TextFault):
             sent.append(SentSubtitle(text, row, justify, make_page_rows(lines)))
@@ -114,22 +115,22 @@ class Layouts(Case):
     def test_each_text_means_one_layout(self) -> None:
         for text in NONE:
             self.must(f"none: {text!r}", parse_layout(text) is None, parse_layout(text))
-        for text, simple in MEANS:
+        for text, simple in EQUAL_LAYOUTS:
             found = parse_layout(text)
             self.must(text, found and format_layout(found) == simple, found)
             self.must(f"{text}, read again", (parse_layout(simple) if simple else PLAIN) == found)
         order = ["", "up", "fit", "text", "last", "after=", "row=-1", "before=0D070B0B", "fit,up"]
-        self.must("the simplest first", sorted(order[::-1], key=lambda text: complexity_key(
+        self.must("the simplest first", sorted(order[::-1], key=lambda text: compute_complexity(
             parse_layout(text) or PLAIN)) == ["", "up", "fit", "last", "text", *order[5:]])
 
-    def test_draws_each_line(self) -> None:
+    def test_draws_each_line_of_the_table(self) -> None:
         for printed, row, justify, text, want in DRAWN:
             layout = parse_layout(text) if text else PLAIN
             assert layout is not None, text
-            found = drawing_of(text_bytes(printed), row, justify, layout)
-            self.must(f"{printed} {text}", found == want, (found, want))
+            result = draw_with_program(encode_printed_text(printed), row, justify, layout)
+            self.must(f"{printed} {text}", result == want, (result, want))
         pair = draw_text(b"a\x0a\xc8a", 5, 2, Layout(strip=b"\x0a"), GERMAN)
-        self.must("letters", [find_text_letters(text, ENGLISH) for text in (
+        self.must("letters", [encode_text_characters(text, ENGLISH) for text in (
             b"a\xe6b", b" \x03 ", b"a\x8a\x03b")] == [None, b"", b"ab"])
         self.must("a pair", not isinstance(pair, TextFault)
                   and pair[0].cells == b"\x0b\x0ba{\x0a\x0a", pair)
@@ -140,13 +141,13 @@ class Layouts(Case):
 class LayoutSearch(Case):
     def test_finds_each_layout(self) -> None:
         some = random.Random(7)
-        for has_codes, leaves_room, text in HOUSES:
+        for has_codes, leaves_room, text in BROADCASTER_LAYOUTS:
             layout = parse_layout(text) if text else PLAIN
             assert layout is not None, text
             sent = programme(some, has_codes, leaves_room, layout)
-            found = choose_layouts(sent, ENGLISH)[1]
-            self.must(text, found.as_sent == found.total == len(sent) and found.is_clear
-                      and complexity_key(found.layout) <= complexity_key(layout), found)
+            result = choose_layouts(sent, ENGLISH)[1]
+            self.must(text, result.as_sent == result.total == len(sent) and result.is_clear
+                      and compute_complexity(result.layout) <= compute_complexity(layout), result)
 
     def test_a_wrong_page_shows_no_layout(self) -> None:
         some = random.Random(8)
@@ -154,36 +155,36 @@ class LayoutSearch(Case):
         wrong = sent[20]._replace(rows=tuple(row.replace(b"e", b"c") for row in sent[20].rows))
         moved = sent[30]._replace(rows=tuple(row[-3:] + row[:-3] for row in sent[30].rows))
         sent[20:21], sent[30:31] = [wrong], [moved]
-        found = choose_layouts(sent, ENGLISH)[1]
-        self.must("the house's", found.layout == Layout(text=True) and found.is_clear, found)
-        self.must("counted", (found.total - found.as_sent) == 1
-                  and found.total == sum(is_found(one, ENGLISH) for one in sent), found)
+        result = choose_layouts(sent, ENGLISH)[1]
+        self.must("the house's", result.layout == Layout(text=True) and result.is_clear, result)
+        self.must("counted", (result.total - result.as_sent) == 1
+                  and result.total == sum(is_found(item, ENGLISH) for item in sent), result)
 
     def test_finds_columns_although_one_subtitle_differs(self) -> None:
         house, other = parse_layout("left=3,text"), parse_layout("left=3,text,after=0A")
         assert house is not None and other is not None
-        sent, otherwise = (programme(random.Random(10), False, False, one)
-                           for one in (house, other))
+        sent, otherwise = (programme(random.Random(10), False, False, item)
+                           for item in (house, other))
         for place in (0, len(sent) - 1):
             mixed = [*sent[:place], otherwise[place], *sent[place + 1:]]
-            found = choose_layouts(mixed, ENGLISH)[1]
-            self.must(f"{place}", found[:3] == (house, len(sent) - 1, len(sent)), found)
+            result = choose_layouts(mixed, ENGLISH)[1]
+            self.must(f"{place}", result[:3] == (house, len(sent) - 1, len(sent)), result)
 
     def test_finds_no_layout_without_evidence(self) -> None:
         some = random.Random(9)
         sent = programme(some, False, False, PLAIN)
-        others = [one._replace(rows=other.rows) for one, other in zip(sent, sent[1:])]
+        others = [item._replace(rows=other.rows) for item, other in zip(sent, sent[1:])]
         self.must("another programme", not choose_layouts(others, ENGLISH)[1].is_clear)
         self.must("nine", not choose_layouts(sent[:9], ENGLISH)[1].is_clear)
         self.must("ten", choose_layouts(sent[:10], ENGLISH)[1] == LayoutChoice(PLAIN, 10, 10))
         self.must("none", choose_layouts([], ENGLISH)[1] == LayoutChoice(PLAIN, 0, 0))
-        turns = [one for pair in zip(programme(some, False, False, PLAIN, 60),
-                                     programme(some, False, False, Layout(row=-1), 60))
-                 for one in pair]
-        found = choose_layouts(turns, ENGLISH)[0]
-        self.must("in turns", not found.is_clear and found.total == 120
-                  and found.as_sent >= len(turns) - count_misdrawn(PLAIN, turns, ENGLISH,
-                                                                   len(turns)), found)
+        turns = [item for pair in zip(programme(some, False, False, PLAIN, 60),
+                                      programme(some, False, False, Layout(row=-1), 60))
+                 for item in pair]
+        result = choose_layouts(turns, ENGLISH)[0]
+        self.must("in turns", not result.is_clear and result.total == 120
+                  and result.as_sent >= len(turns) - count_misdrawn(PLAIN, turns, ENGLISH,
+                                                                    len(turns)), result)
         self.must("nine in ten", LayoutChoice(PLAIN, 90, 100).is_clear
                   and not LayoutChoice(PLAIN, 89, 100).is_clear
                   and not LayoutChoice(PLAIN, 9, 9).is_clear)
@@ -204,14 +205,14 @@ class StoredRows(Case):
                 continue
             lines = draw_text(bytes.fromhex(text), int(row), int(justify), layout, ENGLISH)
             fault = parse_fault_line(want)
-            found: object = lines if isinstance(lines, TextFault) else format_rows(
+            result: object = lines if isinstance(lines, TextFault) else format_rows(
                 enumerate(make_page_rows(lines), 1))
-            self.must(f"{text} {row} {justify} {words}", found == (
-                TextFault(fault.number, fault.at or 0) if fault else want), (found, want))
-            letters = find_text_letters(bytes.fromhex(text), ENGLISH)
+            self.must(f"{text} {row} {justify} {words}", result == (
+                TextFault(fault.number, fault.at or 0) if fault else want), (result, want))
+            letters = encode_text_characters(bytes.fromhex(text), ENGLISH)
             if not isinstance(lines, TextFault):
-                self.must(f"letters of {text}", letters == find_page_letters(make_page_rows(lines)),
-                          letters)
+                self.must(f"letters of {text}",
+                          letters == list_page_characters(make_page_rows(lines)), letters)
 
     def test_the_program_sends_and_accepts_each_row(self) -> None:
         for number, (text, row, justify, layout, want) in enumerate(self.rows()):
@@ -219,22 +220,23 @@ class StoredRows(Case):
                 1, 0, 50, int(row), int(justify), bytes.fromhex(text)))
             words = [] if layout == "-" else ["--layout", layout]
             name = f"{number}: {text} {row} {justify} {layout}"
-            done = self.call([self.bench.program, "schedule", stl, "one.pes", *words])
-            if done.status:
-                self.must(name, done.out.decode() == f"{want}\n", (done, want))
+            process = self.call([self.bench.program, "schedule", stl, "one.pes", *words])
+            if process.status:
+                self.must(name, process.out.decode() == f"{want}\n", (process, want))
                 continue
-            self.must(name, sent_in(self.read("one.pes")) == want,
-                      (sent_in(self.read("one.pes")), want))
-            done = self.call([self.bench.program, "check", stl, "one.pes", *words])
-            self.must(f"{name}: check", done.out == b"accepted 51 frames 2 transmissions\n", done)
+            self.must(name, list_sent_rows(self.read("one.pes")) == want,
+                      (list_sent_rows(self.read("one.pes")), want))
+            process = self.call([self.bench.program, "check", stl, "one.pes", *words])
+            self.must(f"{name}: check", process.out == b"accepted 51 frames 2 transmissions\n",
+                      process)
 
 
-def sent_in(pes: bytes) -> str:
+def list_sent_rows(pes: bytes) -> str:
     """Return the rows of the first page transmission, in the format of `format_rows`."""
     page: Page = (0, 0x88)
     sending = read_packet(split_packets(pes)[0][0], 0, 0)
     assert not isinstance(sending, int)
-    packets = [Packet(one, decode_address(one), decode_header(one)) for one in sending[1]]
+    packets = [Packet(item, decode_address(item), decode_header(item)) for item in sending[1]]
     return format_rows(sorted(read_rows(find_page_span(packets, page)[0], page).items()))
 
 

@@ -8,7 +8,7 @@ from typing import Any, Mapping, Sequence
 
 from developing.pes import decode_pts
 from subtitles.clock.start import Clock, GIVEN, RECORDING, START, TimedPart
-from subtitles.common.times import CLOCK, TICKS, pts_of, time_of
+from subtitles.common.times import CLOCK, TICKS, format_frame, pts_of
 from subtitles.formats.listing import PICTURES_LEFT
 from subtitles.judging.timing import NOT_CHECKED, find_departures, find_desync, find_late_jumps
 from subtitles.stream.pace import Pace, REGULAR
@@ -27,27 +27,27 @@ PID, VIDEO = 0x101, 0x200
 SECOND = 25  # frames in a second
 
 
-def leads_of(leads: Sequence[float], steps: Mapping[int, float] = {}, first: int = 0,
-             each: int = SECOND) -> list[VideoLead]:
+def make_video_leads(leads: Sequence[float], steps: Mapping[int, float] = {}, first: int = 0,
+                     each: int = SECOND) -> list[VideoLead]:
     """Return `lead` lines at regular intervals with these leads in frames.
 
     `steps` maps the index of a line to the number of frames by which decoding times jump at this
     line.
     """
-    found, missing = list[VideoLead](), 0.0
+    result, missing = list[VideoLead](), 0.0
     for at, ahead in enumerate(leads):
         missing += steps.get(at, 0)
         time = first + round(TICKS * (each * at + missing))
         lead = round(TICKS * ahead)
-        found.append(VideoLead((time + lead) % CLOCK, lead, each * at))
-    return found
+        result.append(VideoLead((time + lead) % CLOCK, lead, each * at))
+    return result
 
 
 class PictureDepartures(Case):
-    def ticks_of(self, leads: Sequence[VideoLead]) -> list[int | None] | None:
+    def measure_step_ticks(self, leads: Sequence[VideoLead]) -> list[int | None] | None:
         """Return the size of each jump in ticks, or `None` if the intervals are irregular."""
         departures = locate_departures(leads)
-        return None if departures is None else [one.ticks for one in departures]
+        return None if departures is None else [departure.ticks for departure in departures]
 
     def test_finds_steps_of_the_pictures_against_the_teletext(self) -> None:
         for by, first in itertools.product((1, 2, 12, 250, -1, -2, -250, 0.5, -0.5),
@@ -57,16 +57,17 @@ class PictureDepartures(Case):
                 "the pictures leave": (6 - by, step, [round(TICKS * by)]),
                 "both clocks step": (6, step, []), "the multiplexer": (6 + by, {}, [])}
             for name, (after, steps, wanted) in rows.items():
-                self.check(f"{name} by {by} from {first}", self.ticks_of(
-                    leads_of([6.0] * 40 + [after] * 40, steps, first)), wanted)
+                self.check(f"{name} by {by} from {first}", self.measure_step_ticks(
+                    make_video_leads([6.0] * 40 + [after] * 40, steps, first)), wanted)
 
     def test_finds_several_departures_in_order(self) -> None:
-        leads = leads_of([6.0] * 20 + [3.0] * 20 + [6.0] * 20 + [6.0] * 20, {20: 3, 40: -3, 60: 9})
+        leads = make_video_leads([6.0] * 20 + [3.0] * 20 + [6.0] * 20 + [6.0] * 20,
+                                 {20: 3, 40: -3, 60: 9})
         self.check("three steps", locate_departures(leads), [
             Departure(leads[20].pts, leads[19].pts, 3 * TICKS),
             Departure(leads[40].pts, leads[39].pts, -3 * TICKS)])
         for after, ticks in ((0.0, 6 * TICKS), (4.0, None)):
-            near = leads_of([6.0] * 20 + [3.0] + [after] * 20, {20: 3, 21: 3})
+            near = make_video_leads([6.0] * 20 + [3.0] + [after] * 20, {20: 3, 21: 3})
             self.check(f"two steps with one line between, then {after}", locate_departures(near), [
                 Departure(near[21].pts, near[19].pts, ticks)])
         for count in (0, 1):
@@ -74,61 +75,67 @@ class PictureDepartures(Case):
 
     def test_finds_departures_with_lost_pictures(self) -> None:
         for lost in (0, 1, 2, 5, 12):
-            self.check(f"{lost} lost", self.ticks_of(
-                leads_of([6.0] * 40 + [6.0 - 50] * 40, {40: 50 + lost})), [50 * TICKS])
-        self.check("50 lost alone", self.ticks_of(leads_of([6.0] * 80, {40: 50})), [])
+            self.check(f"{lost} lost", self.measure_step_ticks(
+                make_video_leads([6.0] * 40 + [6.0 - 50] * 40, {40: 50 + lost})), [50 * TICKS])
+        self.check("50 lost alone",
+                   self.measure_step_ticks(make_video_leads([6.0] * 80, {40: 50})), [])
 
-    def test_compares_the_lead_to_half_a_frame(self) -> None:
-        for moved, wanted in ((5.0, [5 * TICKS]), (5.4, [5 * TICKS]), (0.4, []), (0.0, []),
-                              (-3.0, [None])):
-            self.check(f"moved by {moved}", self.ticks_of(
-                leads_of([8.0] * 9 + [8 - moved] * 9, {9: 5})), wanted)
+    def test_compares_the_video_lead_to_half_a_frame(self) -> None:
+        for moved, expected in ((5.0, [5 * TICKS]), (5.4, [5 * TICKS]), (0.4, []), (0.0, []),
+                                (-3.0, [None])):
+            self.check(f"moved by {moved}", self.measure_step_ticks(
+                make_video_leads([8.0] * 9 + [8 - moved] * 9, {9: 5})), expected)
 
     def test_reports_unclear_departures(self) -> None:
         chance = random.Random(1)
 
-        def around(frames: float, jitter: float, count: int = 40) -> list[float]:
+        def make_leads_around(frames: float, jitter: float, count: int = 40) -> list[float]:
             return [frames - chance.uniform(0, jitter) for _ in range(count)]
 
         rows: dict[str, tuple[list[VideoLead], list[int | None]]] = {
-            "steady": (leads_of(around(6, 0) + around(4, 0), {40: 2}), [2 * TICKS]),
-            "a frame of jitter": (leads_of(around(6, 1) + around(4, 1), {40: 2}), [2 * TICKS]),
-            "eight frames of jitter": (leads_of(around(6, 8, 9) + around(4, 8, 9), {9: 2}), [None]),
-            "one line before": (leads_of([6.0] + [5, 3] * 9, {1: 2}), [None]),
-            "one line behind": (leads_of([6, 4] * 9 + [3.0], {18: 2}), [None]),
+            "steady": (make_video_leads(make_leads_around(6, 0) + make_leads_around(4, 0), {40: 2}),
+                       [2 * TICKS]),
+            "a frame of jitter": (make_video_leads(make_leads_around(6, 1) + make_leads_around(4,
+                                                                                               1),
+                                                   {40: 2}), [2 * TICKS]),
+            "eight frames of jitter": (make_video_leads(make_leads_around(6, 8, 9)
+                                                        + make_leads_around(4, 8, 9), {9: 2}),
+                                       [None]),
+            "one line before": (make_video_leads([6.0] + [5, 3] * 9, {1: 2}), [None]),
+            "one line behind": (make_video_leads([6, 4] * 9 + [3.0], {18: 2}), [None]),
             "a line that is away alone": (
-                leads_of([6.0] * 20 + [3.0] + [6.0] * 20, {20: 3, 21: -3}), [None])}
+                make_video_leads([6.0] * 20 + [3.0] + [6.0] * 20, {20: 3, 21: -3}), [None])}
         for name, (leads, wanted) in rows.items():
-            self.check(name, self.ticks_of(leads), wanted)
+            self.check(name, self.measure_step_ticks(leads), wanted)
 
-    def test_needs_a_usual_step(self) -> None:
+    def test_requires_a_usual_step(self) -> None:
         chance = random.Random(1)
         steps = {at: float(chance.randrange(-9, 9)) for at in range(40)}
-        self.check("at random", locate_departures(leads_of([6.0] * 40, steps)), None)
+        self.check("at random", locate_departures(make_video_leads([6.0] * 40, steps)), None)
         for each in (1, 12.5, 50):  # pictures per second
             steady = [lead._replace(number=round(each * at))
-                      for at, lead in enumerate(leads_of([6.0] * 40))]
+                      for at, lead in enumerate(make_video_leads([6.0] * 40))]
             self.check(f"{each} a second", locate_departures(steady), [])
 
 
 # Tables of jumps that are reported as faults or as notes.
 
-def lines_of(steps: Sequence[tuple[float, int]], origin: int = 0, video: int = VIDEO,
-             jitter: int = 0) -> list[str]:
+def survey_leads(steps: Sequence[tuple[float, int]], origin: int = 0, video: int = VIDEO,
+                 jitter: int = 0) -> list[str]:
     """Return `lead` lines for the frames 500 to 2500.
 
     `steps` contains jumps: the number of frames, and the frame of the jump. `jitter` is subtracted
     from the lead in odd frames.
     """
-    found = []
+    result = []
     for frame in range(500, 2500, SECOND):
         away = sum(by for by, at in steps if at <= frame)
         lead = round(TICKS * (6 - away - jitter * (frame % 2)))
-        found.append(f"lead {PID} {(origin + TICKS * frame) % CLOCK} {lead} {video} {frame}")
-    return found
+        result.append(f"lead {PID} {(origin + TICKS * frame) % CLOCK} {lead} {video} {frame}")
+    return result
 
 
-def survey_with(lines: Sequence[str] = ()) -> Survey:
+def survey_extra_lines(lines: Sequence[str] = ()) -> Survey:
     """Return a survey of two programmes.
 
     The first has the video in `lines` and a video without jumps, the second a video that jumps.
@@ -138,21 +145,22 @@ def survey_with(lines: Sequence[str] = ()) -> Survey:
     for line in [f"programme 1 {VIDEO}", f"stream {PID} 6", f"programme 2 {others}",
                  f"stream {others} 2", f"programme 1 {VIDEO}", f"stream {PID} 6",
                  *(f"stream {video} 2" for video in (quiet, VIDEO)),
-                 *lines_of([], video=quiet), *lines, *lines_of([(9, 1500)], video=others)]:
+                 *survey_leads([], video=quiet), *lines, *survey_leads([(9, 1500)], video=others)]:
         survey.read_line(line)
     return survey
 
 
 class DepartureFaults(Case):
-    def faults_and_notes(self, steps: Sequence[tuple[float, int]], within: int = 0,
-                         source: str = GIVEN,
+    def list_faults_and_notes(self, steps: Sequence[tuple[float, int]], within: int = 0,
+                              source: str = GIVEN,
               origin: int = 0) -> tuple[list[tuple[str | None, str | None, str]], list[str]]:
         """Return the start, end and direction of each fault, and all notes."""
-        faults, notes = find_desync(survey_with(lines_of(steps, origin)), PID, TimedPart(
+        faults, notes = find_desync(survey_extra_lines(survey_leads(steps, origin)), PID, TimedPart(
             1000, 2000, Clock(origin, source)), within, 1)
-        self.check("kinds", {(one.name, one.part) for one in faults} - {(PICTURES_LEFT, 1)}, set())
-        return [(one.time, one.until, one.text.partition(" on, subtitles are ")[2].partition(
-            " for viewers")[0]) for one in faults], notes
+        self.check("kinds",
+                   {(fault.name, fault.part) for fault in faults} - {(PICTURES_LEFT, 1)}, set())
+        return [(fault.time, fault.until, fault.text.partition(" on, subtitles are ")[2].partition(
+            " for viewers")[0]) for fault in faults], notes
 
     def test_reports_departures_as_early_or_late(self) -> None:
         middle, end = "00:01:00:00", "00:01:19:24"
@@ -183,29 +191,30 @@ class DepartureFaults(Case):
             "a second behind": ([(2, 2001)], 0, [], [])}
         for origin, (name, (steps, within, faults, notes)) in itertools.product(
                 (0, CLOCK - 1400 * TICKS), rows.items()):
-            self.check(f"{name} from {origin}", self.faults_and_notes(steps, within, origin=origin),
-                       (faults, notes))
+            self.check(f"{name} from {origin}",
+                       self.list_faults_and_notes(steps, within, origin=origin), (faults, notes))
 
     def test_counts_steps_from_the_first_picture_on(self) -> None:
-        self.check("by a recording", self.faults_and_notes([(2, 900)], source=RECORDING), ([], []))
-        self.check("by the picture", self.faults_and_notes([(2, 900)], source=START)[0],
+        self.check("by a recording", self.list_faults_and_notes([(2, 900)], source=RECORDING),
+                   ([], []))
+        self.check("by the picture", self.list_faults_and_notes([(2, 900)], source=START)[0],
                    [("00:00:40:00", "00:01:19:24", "2 frames early")])
         places = [(899, 900), (999, 1000), (1000, 1001), (1998, 1999), (1999, 2000), (2000, 2001)]
         several = [Departure(TICKS * pts, TICKS * since, 9) for since, pts in places]
-        for source, wanted in ((GIVEN, [None, 9, 9, None]), (START, [9, 9, 9, 9, None])):
-            found = find_departures(several, TimedPart(1000, 2000, Clock(0, source)))
-            self.check(source, [one.ticks for one in found], wanted)
+        for source, expected in ((GIVEN, [None, 9, 9, None]), (START, [9, 9, 9, 9, None])):
+            departures = find_departures(several, TimedPart(1000, 2000, Clock(0, source)))
+            self.check(source, [item.ticks for item in departures], expected)
 
-    def test_notes_that_no_step_is_usual(self) -> None:
+    def test_notes_a_missing_usual_step(self) -> None:
         chance = random.Random(1)
         steps = [(chance.randrange(-9, 9), frame) for frame in range(500, 2500, SECOND)]
-        lines = [line for line in lines_of([(by + 0.5, at) for by, at in steps])]
-        for name, survey, wanted in (
-                ("at random", survey_with(lines),
+        lines = [line for line in survey_leads([(by + 0.5, at) for by, at in steps])]
+        for name, survey, expected in (
+                ("at random", survey_extra_lines(lines),
                  [f"{NOT_CHECKED}: the video's decoding times have no usual step"]),
                 ("no line", Survey(), [])):
-            found = find_desync(survey, PID, TimedPart(1000, 2000, Clock(0, GIVEN)), 0, 1)
-            self.check(name, found, ([], wanted))
+            desync = find_desync(survey, PID, TimedPart(1000, 2000, Clock(0, GIVEN)), 0, 1)
+            self.check(name, desync, ([], expected))
 
 
 class Pairs(Case):
@@ -218,15 +227,19 @@ class Pairs(Case):
             (-3, [], "refused", "3 frames late"), (-3, ["--within", "3"], "accepted",
                                                    "3 frames late")]
         for frames, words, word, way in rows:
-            made = Programme({TELETEXT_PID: pes}, TICKS * begin, later=[(1500, TICKS * frames)])
-            path = self.write("one.ts", multiplex_programmes([made], end - begin).data)
-            found = judge_files(self, stl, path, "--origin", "0", *words)
+            programme = Programme({TELETEXT_PID: pes}, TICKS * begin,
+                                  later=[(1500, TICKS * frames)])
+            path = self.write("one.ts", multiplex_programmes([programme], end - begin).data)
+            judged_pair = judge_files(self, stl, path, "--origin", "0", *words)
             line = f" on, subtitles are {way} for viewers: the video's timestamps jump"
-            self.must(f"{frames} {words}", found.word == word and (not way or any(
-                line in one for one in found.said)), found.said)
-            several = [time_of(begin + 1500 + frame) for frame in range(-25, 26)]  # within a second
-            self.must(f"{frames} {words}: line", word == "accepted" or found.result["line"] in [
-                f"refused pictures left frame {time}" for time in several], found.result["line"])
+            self.must(f"{frames} {words}", judged_pair.word == word and (not way or any(
+                line in item for item in judged_pair.said)), judged_pair.said)
+            # within a second
+            several = [format_frame(begin + 1500 + frame) for frame in range(-25, 26)]
+            self.must(f"{frames} {words}: line", word == "accepted"
+                      or judged_pair.result["line"] in [
+                f"refused pictures left frame {time}" for time in several],
+                      judged_pair.result["line"])
 
 
 class AnnouncedJumps(Case):
@@ -237,12 +250,12 @@ class AnnouncedJumps(Case):
         frames = [0, 1, 2, 5, 6, 8, 9, 12]
         for origin, (usual, inside, wanted) in itertools.product((0, CLOCK - 5 * TICKS), rows):
             pts = [pts_of(frame, origin) for frame in frames]
-            packets = Packets(PID, [PacketRun(at, 1, one, 0, "-", "") for at,
-                                    one in enumerate(pts)],
+            packets = Packets(PID, [PacketRun(at, 1, item, 0, "-", "") for at,
+                                    item in enumerate(pts)],
                               counter_jumps=[0, *(frames.index(frame) for frame in (2, 5, 5, 8)),
                                              99])
             self.check(f"{origin} {usual} {inside}", find_announced_jumps(packets, inside, usual), [
-                (pts[frames.index(one)], pts[frames.index(other)]) for one, other in wanted])
+                (pts[frames.index(item)], pts[frames.index(other)]) for item, other in wanted])
 
     def test_counts_jumps_with_more_time_than_usual(self) -> None:
         frames = [0, 1, 3, 4, 7, 8, 12, 13]
@@ -259,5 +272,5 @@ class AnnouncedJumps(Case):
             part: Any = SimpleNamespace(judged_recording=(recording, None), pes=(0, 7))
             reported = find_late_jumps(part, Pace(REGULAR, apart))
             self.must(f"{origin} {apart}", reported == ([
-                (pts_of(one, origin), pts_of(other, origin)) for one, other in late], others),
+                (pts_of(item, origin), pts_of(other, origin)) for item, other in late], others),
                 reported)

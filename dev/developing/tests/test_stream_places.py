@@ -8,7 +8,7 @@ from typing import Optional, Tuple
 
 from developing.multiplex import PACKET
 from developing.pes import decode_pts
-from developing.stl import box_line
+from developing.stl import make_box_line
 from subtitles.cli.main import make_parser
 from subtitles.common.command_line import Stop
 from subtitles.common.program import ProgramInfo
@@ -18,8 +18,8 @@ from subtitles.request.request import make_request
 from subtitles.results.files import describe_inputs, is_current
 from subtitles.results.schema import PROGRAM, REQUEST
 from subtitles.stream.gaps import (
-    ClockJump, LossPlace, MAX_LATE, SECOND, describe_loss, find_clock_jumps, find_loss_places,
-    find_pts_delay, find_recorded_range, gap_marker_lines, overlap)
+    ClockJump, LossPlace, MAX_LATE, SECOND, describe_gap_markers, describe_loss, do_overlap,
+    find_clock_jumps, find_loss_places, find_pts_delay, find_recorded_range)
 from subtitles.stream.packets import GapMarker, PCRStep, PacketRun, Packets
 from subtitles.stream.survey import ProgramMap, Survey, survey
 from ..cited import find_long_readings
@@ -28,13 +28,13 @@ from ..promises import list_indexed_clauses, find_unknown_clauses
 from .bench import Case
 from .judged import judge_files
 from .streams import (
-    Packet, Shape, TELETEXT_PID, multiplex_frames, make_multiplex, stream_bytes, delete_between)
-from .parts import request_for, call_arguments
+    Packet, Shape, TELETEXT_PID, multiplex_frames, make_multiplex, join_packets, delete_between)
+from .parts import make_example_request, list_call_arguments
 from .transmissions import write_programme, schedule_pes
 
 
 Jump = Tuple[int, int]  # PTS before and after a clock jump
-Around = Tuple[Optional[int], Optional[int]]  # PTS before and after a loss
+LossBounds = Tuple[Optional[int], Optional[int]]  # PTS before and after a loss
 
 
 class LossPlaces(Case):
@@ -46,26 +46,26 @@ class LossPlaces(Case):
             mark, ends = GapMarker(4, pts[3], 2, 0), [GapMarker(0, None, 0, 0),
                                                       GapMarker(8, pts[7], 0, 1)]
             rows: list[tuple[list[GapMarker], list[PCRStep], list[Jump],
-                             list[tuple[Around, bool]]]] = [
+                             list[tuple[LossBounds, bool]]]] = [
                 ([], [], [], []), ([], [], [jump], [(jump, True)]),
                 ([], [], [jump, other], [(jump, True), (other, True)]),
                 ([], [clocked], [jump], [(jump, False)]),
                 (ends, [], [], [((None, pts[1]), False), ((pts[7], None), False)]),
                 ([mark], [], [jump, other], [(jump, False), (other, True)])]
-            for marks, clocks, jumps, wanted in rows:
-                missing = {one.number for one in marks}
-                own = [PacketRun(at, 1, None if at in missing else one, 0, "-", "",
+            for marks, clocks, jumps, expected in rows:
+                missing = {item.number for item in marks}
+                own = [PacketRun(at, 1, None if at in missing else item, 0, "-", "",
                                  fault=45 * (at in missing))
-                       for at, one in enumerate(pts)]
+                       for at, item in enumerate(pts)]
                 packets = Packets(5, own, gap_markers=marks, pcr_steps=clocks)
-                reported = [((one.before, one.after), one.is_announced)
-                        for one in find_loss_places(packets, jumps)]
-                self.must(f"{shift} {marks} {clocks} {jumps}", reported == wanted, reported)
-                where = [line.partition(" (")[0] for line in gap_marker_lines(packets)]
+                reported = [((item.before, item.after), item.is_announced)
+                        for item in find_loss_places(packets, jumps)]
+                self.must(f"{shift} {marks} {clocks} {jumps}", reported == expected, reported)
+                where = [line.partition(" (")[0] for line in describe_gap_markers(packets)]
                 self.must(f"{shift} {marks}: lines", where == [
                     f"between PTS {before} and {after}" if None not in (before, after) else
                     f"before PTS {after}" if before is None else f"after PTS {before}"
-                    for (before, after), _ in wanted[:len(marks)]], where)
+                    for (before, after), _ in expected[:len(marks)]], where)
         self.must("said", describe_loss(LossPlace(1, 2, is_announced=True)) ==
                   "the interval between PES packets is unusually long, and the stream announces a "
                   "jump of the continuity counter")
@@ -76,21 +76,21 @@ class LossPlaces(Case):
                  if first is None or last is None or first < last]
         for origin, pair, other in itertools.product((0, CLOCK - 2 * TICKS), pairs, pairs):
             places = [LossPlace(begin, end) for begin, end in (
-                [None if at is None else (origin + TICKS * at) % CLOCK for at in one]
-                for one in (pair, other))]
-            (first, last), (begin, end) = ((-9 if one[0] is None else one[0],
-                                            9 if one[1] is None else one[1])
-                                           for one in (pair, other))
-            self.assertEqual(overlap(*places), max(first, begin) < min(last, end), places)
+                [None if at is None else (origin + TICKS * at) % CLOCK for at in item]
+                for item in (pair, other))]
+            (first, last), (begin, end) = ((-9 if item[0] is None else item[0],
+                                            9 if item[1] is None else item[1])
+                                           for item in (pair, other))
+            self.assertEqual(do_overlap(*places), max(first, begin) < min(last, end), places)
 
-    def test_takes_the_longer_of_two_losses(self) -> None:
+    def test_keeps_the_longer_of_two_losses(self) -> None:
         runs = [PacketRun(at, 1, None if at == 4 else at * TICKS, 0, "-", "") for at in range(9)]
         for ticks in ((2, 3), (3, 2), (3, 3)):
-            clocks = [PCRStep(3 * TICKS, 5 * TICKS, one * TICKS, 9, TICKS, 9, "broken")
-                      for one in ticks]
+            clocks = [PCRStep(3 * TICKS, 5 * TICKS, item * TICKS, 9, TICKS, 9, "broken")
+                      for item in ticks]
             packets = Packets(5, runs, gap_markers=[GapMarker(4, 3 * TICKS, 2, 0)],
                               pcr_steps=clocks)
-            reported = [one.missing for one in find_loss_places(packets)]
+            reported = [item.missing for item in find_loss_places(packets)]
             self.must(f"{ticks}", reported == [2 * TICKS], reported)
 
 
@@ -102,7 +102,8 @@ class LatePts(Case):
             ([-30, *[5] * (MAX_LATE - 1)], 30, 5), ([*[5] * MAX_LATE, 7], 0, 5),
             ([*[5] * (MAX_LATE - 1), 7], 0, 7)]
         for samples, late, ahead in rows:
-            packets = Packets(5, samples=[(at * SECOND, one) for at, one in enumerate(samples)])
+            packets = Packets(5,
+                              samples=[(at * SECOND, sample) for at, sample in enumerate(samples)])
             known = Survey()
             self.must(f"{samples}: no PCR", find_recorded_range(known, packets) is None)
             known.programmes = [ProgramMap(1, 0x200, {5: 6})]
@@ -121,13 +122,13 @@ class StreamLosses(Case):
     def programme(self, every: int = 1) -> list[bytes]:
         """Return the PES packets of a programme that lasts eight seconds."""
         stl = write_programme(self, [(begin, begin + 20) for begin in range(
-            BEGIN, BEGIN + 25 * COUNT, 25)], text=box_line(b"Number %d"), name="story.stl")
+            BEGIN, BEGIN + 25 * COUNT, 25)], text=make_box_line(b"Number %d"), name="story.stl")
         return schedule_pes(self, stl, "--every", str(every))
 
-    def survey_losses(self, made: list[Packet]) -> tuple[list[LossPlace], list[ClockJump]]:
-        path = self.write("heard.ts", stream_bytes(made))
-        found = survey(self.bench.program, path, PAGE).by_pid[TELETEXT_PID]
-        return find_loss_places(found), list(find_clock_jumps(found))
+    def survey_losses(self, packets: list[Packet]) -> tuple[list[LossPlace], list[ClockJump]]:
+        path = self.write("heard.ts", join_packets(packets))
+        result = survey(self.bench.program, path, PAGE).by_pid[TELETEXT_PID]
+        return find_loss_places(result), list(find_clock_jumps(result))
 
     def test_finds_no_loss_in_complete_streams(self) -> None:
         pes = self.programme()
@@ -135,62 +136,63 @@ class StreamLosses(Case):
                       Shape(jump=(60, 500_000), is_announced=True)):
             places, jumps = self.survey_losses(make_multiplex(pes, shape))
             self.must(f"{shape}", not places and not jumps, (places, jumps))
-        made = b"".join(multiplex_frames(pes, decode_pts(pes[0]), 80))
-        own = [at for at in range(0, len(made), PACKET)
-               if made[at + 1] & 0x1F == TELETEXT_PID >> 8 and made[at + 2] == TELETEXT_PID & 255]
-        torn = made[:own[40]] + made[own[56] - 5 * PACKET:]
-        for name, data, count in (("whole", made, 0), ("torn", torn, 1)):
+        result = b"".join(multiplex_frames(pes, decode_pts(pes[0]), 80))
+        own = [at for at in range(0, len(result), PACKET)
+               if result[at + 1] & 0x1F == TELETEXT_PID >> 8
+               and result[at + 2] == TELETEXT_PID & 255]
+        torn = result[:own[40]] + result[own[56] - 5 * PACKET:]
+        for name, data, count in (("whole", result, 0), ("torn", torn, 1)):
             places, jumps = self.survey_losses([Packet(0, data)])
             self.must(name, (len(places), len(jumps)) == (count, 0), (places, jumps))
 
     def test_finds_losses_of_16_packets_and_more(self) -> None:
         pes = self.programme()
         for shape in (Shape(4000, 1800), Shape(2000, 3600, True)):
-            made = make_multiplex(pes, shape)
+            multiplex = make_multiplex(pes, shape)
             for count in (16, 64):
-                places, _ = self.survey_losses(delete_between(made, 70, count))
-                known = [(one.before, one.after) for one in places]
+                places, _ = self.survey_losses(delete_between(multiplex, 70, count))
+                known = [(item.before, item.after) for item in places]
                 first, last = known[0] if known else (None, None)
                 self.must(f"{shape} {count}", len(known) == 1 and first is not None
                           and last is not None and decode_pts(pes[66]) <= first <=
                           decode_pts(pes[69])
                           and decode_pts(pes[70 + count]) <= last <= decode_pts(pes[74 + count]),
                           known)
-        places, _ = self.survey_losses(delete_between(made, 70, 17))
-        self.must("by its counter", [one.lost for one in places] == [1], places)
+        places, _ = self.survey_losses(delete_between(multiplex, 70, 17))
+        self.must("by its counter", [item.lost for item in places] == [1], places)
         for ticks in (8641 * SECOND, -SECOND, CLOCK // 2 - 10 * SECOND):
-            made = make_multiplex(pes, Shape(jump=(60, ticks)))
-            places, jumps = self.survey_losses(made)
+            multiplex = make_multiplex(pes, Shape(jump=(60, ticks)))
+            places, jumps = self.survey_losses(multiplex)
             self.must(f"{ticks}", len(jumps) == 1 and abs(jumps[0].ticks - ticks) < 400
                       and not places, (jumps, places))
-            number = [at for at, one in enumerate(made) if one.pid == TELETEXT_PID][60]
-            places, jumps = self.survey_losses(made[:number - 40] + made[number + 5:])
-            missing = [one for one in places if one.missing]
+            number = [at for at, item in enumerate(multiplex) if item.pid == TELETEXT_PID][60]
+            places, jumps = self.survey_losses(multiplex[:number - 40] + multiplex[number + 5:])
+            missing = [item for item in places if item.missing]
             self.must(f"{ticks}: a loss", len(missing) <= (ticks > 0) and not jumps, places)
 
     def test_judges_a_stream_with_losses_and_jumps(self) -> None:
         pes = self.programme()
-        made = make_multiplex(pes, Shape())
+        multiplex = make_multiplex(pes, Shape())
         words = [self.path("story.stl"), self.path("one.ts"), "--origin", "0"]
-        own = [one for one in made if one.pid == TELETEXT_PID]
+        own = [item for item in multiplex if item.pid == TELETEXT_PID]
         jumped = make_multiplex(pes, Shape(jump=(60, 8641 * SECOND)))
         hole = "s of TS packets are missing according to the PCR and the counters of other PIDs"
         for name, sent, word, more, line in (
-                ("whole", made, "accepted", "--pid=0x101", ""),
-                ("a hole", delete_between(made, 27, 16), "lost", "--pace=none", hole),
-                ("and the pace", delete_between(made, 27, 16), "refused", "--page=888", hole),
-                ("allowed", delete_between(made, 27, 16), "waived", "--allow-lost", hole),
+                ("whole", multiplex, "accepted", "--pid=0x101", ""),
+                ("a hole", delete_between(multiplex, 27, 16), "lost", "--pace=none", hole),
+                ("and the pace", delete_between(multiplex, 27, 16), "refused", "--page=888", hole),
+                ("allowed", delete_between(multiplex, 27, 16), "waived", "--allow-lost", hole),
                 ("a jump", jumped, "accepted", "--page=888", "the clock jumps by 2:24:01 at "
                  "10:00:02:08, but no packet is missing: was an encoder restarted?"),
                 ("alone", own, "accepted", "--pid=0x101", ""),
                 ("not asked", own, "accepted", "--pace=none",
                  " has no PCR, so a loss that ")):
-            self.write("one.ts", stream_bytes(sent))
-            found = judge_files(self, *words, more)
-            reported = [one for one in found.told if one.startswith("warning: the clock") or
-                    " has no PCR, " in one or hole in one]
-            self.must(name, found.word == word and len(reported) == bool(line) and
-                      line in "".join(reported), found.said)
+            self.write("one.ts", join_packets(sent))
+            result = judge_files(self, *words, more)
+            reported = [item for item in result.told if item.startswith("warning: the clock") or
+                    " has no PCR, " in item or hole in item]
+            self.must(name, result.word == word and len(reported) == bool(line) and
+                      line in "".join(reported), result.said)
             if word == "lost":
                 judge_files(self, *words, more, "-o", self.path("out"))
                 self.must("in the report", reported[0] in self.read("out/one.html").decode(),
@@ -203,23 +205,24 @@ class PaceOptions(Case):
         for name in ("one.stl", "one.ts", "two.stl"):
             self.write(name, b"")
 
-    def options(self, *words: str) -> argparse.Namespace:
-        return make_parser("").parse_args(words)
+    def options(self, *args: str) -> argparse.Namespace:
+        return make_parser("").parse_args(args)
 
     def test_passes_the_pace_to_check(self) -> None:
         for word, pace in (("none", None), ("1", 1), ("0025", 25), ("2160000", 2160000)):
-            request = request_for("one.stl", "one.ts", "--pace", word)
+            request = make_example_request("one.stl", "one.ts", "--pace", word)
             given = ["--pace", str(pace)] if pace else []
             self.must(word, request.check_arguments() == ["--complete", *given] and request.pace ==
                       pace
-                      and make_request(self.options(*call_arguments(request))) == request)
+                      and make_request(self.options(*list_call_arguments(request))) == request)
             self.must(f"{word}: result", REQUEST.to_json(request)["pace"] == str(pace or "none"))
-        self.must("left out", REQUEST.to_json(request_for("one.stl", "one.ts"))["pace"] is None)
+        self.must("left out",
+                  REQUEST.to_json(make_example_request("one.stl", "one.ts"))["pace"] is None)
         for word in ("0", "", "-1", "x", "None", "2160001", "9" * 5000, "1.5", "\u0661"):
             with self.assertRaises(Stop, msg=word):
-                request_for("one.stl", "one.ts", "--pace", word)
+                make_example_request("one.stl", "one.ts", "--pace", word)
 
-    def test_takes_the_pace_of_a_line_of_a_list(self) -> None:
+    def test_reads_the_pace_of_each_line_of_a_list(self) -> None:
         line = f"{self.path('one.stl')} {self.path('one.ts')}"
         items = read_pairs(self.write("list", f"{line}\n{line} --pace 9\n{line} --pace none\n"
                                             f"{line} --pace 0\n".encode()),
@@ -232,16 +235,16 @@ class PaceOptions(Case):
 
     def test_judges_again_with_another_pace(self) -> None:
         program = ProgramInfo("1", "0" * 64, None)
-        request = [request_for(self.path("one.stl"), self.path("one.ts"), *words)
+        request = [make_example_request(self.path("one.stl"), self.path("one.ts"), *words)
                  for words in ((), ("--pace", "none"), ("--pace", "16"))]
-        for one in request:
-            words = REQUEST.to_json(one)
-            known = {"request": words, "files_at_start": describe_inputs(one),
+        for item in request:
+            words = REQUEST.to_json(item)
+            known = {"request": words, "files_at_start": describe_inputs(item),
                      "program": PROGRAM.to_json(program)}
-            self.must(f"{one.pace}", [is_current(known, other, program) for other in request] ==
-                      [other == one for other in request])
+            self.must(f"{item.pace}", [is_current(known, other, program) for other in request] ==
+                      [other == item for other in request])
             del words["pace"]
-            self.must(f"{one.pace}: of an earlier tool", not is_current(known, one, program))
+            self.must(f"{item.pace}: of an earlier tool", not is_current(known, item, program))
 
 
 # Test tools/reading-list in a repository with two crates.
@@ -318,19 +321,20 @@ class ReadingLists(Case):
                 "high/count.other": "low.size high.size high.IsSize",
                 "law": "low.size high.size high.IsSize",
                 "count": "low.size low.pair high.size high.total high.IsSize"}.items():
-            found = " ".join(f"{one.file.crate}.{one.name}" for one in them.list_reading(name)[0])
-            self.must(name, found == want, found)
+            result = " ".join(f"{item.file.crate}.{item.name}"
+                              for item in them.list_reading(name)[0])
+            self.must(name, result == want, result)
         total = count_lines_to_read(*them.list_reading("total"))
         self.must("counts, with no comment", total == (3, 6, 2), total)
 
-    def test_lists_users_before_what_they_use(self) -> None:
+    def test_lists_definitions_before_their_dependencies(self) -> None:
         them = library(self)
         for name, want in {
                 "total": "high.total low.pair low.size", "law": "high.IsSize high.size low.size",
                 "count": "high.total high.IsSize high.size low.pair low.size"}.items():
-            found = " ".join(f"{one.file.crate}.{one.name}"
-                             for one in them.sort_highest_first(name))
-            self.must(name, found == want, found)
+            result = " ".join(f"{item.file.crate}.{item.name}"
+                              for item in them.sort_highest_first(name))
+            self.must(name, result == want, result)
 
     def test_limits_the_lines_to_read(self) -> None:
         library(self)
@@ -348,7 +352,7 @@ class ReadingLists(Case):
                 reported = str(reason)
             self.must(name, why in reported, reported)
 
-    def test_reads_an_index(self) -> None:
+    def test_parses_the_index_of_definitions(self) -> None:
         them = library(self)
         text = "| one | two |\n| a | `high/count.other`, `high/law` |\n| b | `high/law` |\n"
         self.must("clauses", list_indexed_clauses(text) == ["high/count.other", "high/law"],

@@ -4,18 +4,18 @@ from __future__ import annotations
 import os
 
 from developing.stl import make_gsi_block, make_subtitle_blocks, make_tti_block
-from subtitles.common.times import Between, FRAMES_OF_A_DAY, TICKS, time_of
+from subtitles.common.times import FRAMES_OF_A_DAY, FrameRange, TICKS, format_frame
 from subtitles.formats.stl import Subtitle, SubtitleFile, decode_subtitles
 from subtitles.judging.pair import find_adjoining_end, find_nearest_pauses
 from subtitles.judging.subtitles import HOUR, advise_on_title
 from subtitles.judging.transmissions import read_subtitles
 from subtitles.stream.packets import Packets
 from .bench import Case
-from .judged import ProgrammeCase, judge_files, shown_files
-from .parts import make_answer, request_for, make_part
+from .judged import ProgrammeCase, judge_files, list_shown_files
+from .parts import make_answer, make_example_request, make_part
 from .transmissions import (
-    CLOSING, HEADER, pes_file, delayed, write_programme, row_packet, schedule_pages,
-    write_subtitle_file)
+    CLOSING, HEADER, join_pes_packets, make_delay, write_programme, make_numbered_row,
+    schedule_pages, write_subtitle_file)
 
 MINUTE = 1500  # frames in a minute
 EARLIER, LATER = ("--to", "00:01:00:00"), ("--from", "00:01:00:00")
@@ -34,9 +34,9 @@ class DayFiles(Case):
         return write_subtitle_file(self, [(begin, end, text) for (begin, end), text in zip(
             [*three(0), *three(MINUTE)], texts)], name)
 
-    def transmission(self, *words: str) -> str:
-        """Write the transmission of the subtitles in LATER, or in the range that `words` gives."""
-        self.schedule(self.day(), "second.pes", *(words or LATER))
+    def transmission(self, *args: str) -> str:
+        """Write the transmission of the subtitles in LATER, or in the range that `args` gives."""
+        self.schedule(self.day(), "second.pes", *(args or LATER))
         return self.path("second.pes")
 
     def test_judges_only_subtitles_in_the_range(self) -> None:
@@ -47,15 +47,18 @@ class DayFiles(Case):
                 (EARLIER, "not judged", 3), (("--from", "00:00:06:00"), "refused", 4),
                 ((*LATER, "--to", "00:01:06:00"), "accepted", 2),
                 ((*LATER, "--to", "00:01:06:01"), "accepted", 3)):
-            found = judge_files(self, day, second, "--origin", "0", *words)
-            self.must(f"{words}", (found.word, found.verdict.subtitle_count) == (word, count),
-                      found.said)
+            judged_pair = judge_files(self, day, second, "--origin", "0", *words)
+            self.must(f"{words}",
+                      (judged_pair.word, judged_pair.verdict.subtitle_count) == (word, count),
+                      judged_pair.said)
             self.must(f"{words}: subtitles", word == "not judged" or len(
-                found.result["subtitles"]) == count, found.result["subtitles"])
-        found = judge_files(self, day, second, *LATER, "-o", self.path("out"))
-        self.must("fitted", found.word == "accepted" and found.parts("from", "to", "stl") == [
-            ("00:01:02:00", "00:01:07:15", day)], found.said)
-        self.must("places", [one["position"] for one in found.result["subtitles"]] == [4, 5, 6])
+                judged_pair.result["subtitles"]) == count, judged_pair.result["subtitles"])
+        judged_pair = judge_files(self, day, second, *LATER, "-o", self.path("out"))
+        self.must("fitted", judged_pair.word == "accepted"
+                  and judged_pair.parts("from", "to", "stl") == [
+            ("00:01:02:00", "00:01:07:15", day)], judged_pair.said)
+        self.must("places",
+                  [item["position"] for item in judged_pair.result["subtitles"]] == [4, 5, 6])
         page = self.read("out/one.html")
         self.must("report", b'<tr id="s4"' in page and b'<tr id="s3"' not in page and
                   b"--from 00:01:00:00" in page, page)
@@ -67,15 +70,15 @@ class DayFiles(Case):
         texts = [b"Number %d" % number for number in range(1, 7)]
         first_bad, last_bad = self.day(*texts[:2], BAD, *texts[3:], name="first.stl"), \
             self.day(*texts[:5], BAD, name="last.stl")
-        found = judge_files(self, first_bad, second, *LATER, "-o", self.path("out"))
-        self.must("outside", found.word == "accepted" and found.verdict.subtitle_count == 3,
-                  found.said)
-        found = judge_files(self, first_bad, second)
-        self.must("the whole", found.verdict.line == "refused 50 Character block 3 at 11",
-                  found.said)
-        found = judge_files(self, last_bad, second, *LATER, "-o", self.path("out"))
-        self.must("inside", found.verdict.line == "refused 50 Character block 6 at 11" and
-                  found.result["faults"][0]["subtitle"]["position"] == 6, found.said)
+        judged_pair = judge_files(self, first_bad, second, *LATER, "-o", self.path("out"))
+        self.must("outside", judged_pair.word == "accepted"
+                  and judged_pair.verdict.subtitle_count == 3, judged_pair.said)
+        judged_pair = judge_files(self, first_bad, second)
+        self.must("the whole", judged_pair.verdict.line == "refused 50 Character block 3 at 11",
+                  judged_pair.said)
+        judged_pair = judge_files(self, last_bad, second, *LATER, "-o", self.path("out"))
+        self.must("inside", judged_pair.verdict.line == "refused 50 Character block 6 at 11" and
+                  judged_pair.result["faults"][0]["subtitle"]["position"] == 6, judged_pair.said)
         for words, word in ((EARLIER, "accepted"), ((), "refused"), (LATER, "refused")):
             self.must(f"alone {words}", judge_files(self, last_bad, *words).word == word)
 
@@ -84,32 +87,32 @@ class DayFiles(Case):
         for words in (("--from", "00:02:00:00", "--to", "00:01:00:00"), ("--from", "00:05:00:00"),
                       ("--to", "00:00:00:00"), (*LATER, "--to", "00:01:02:00")):
             for recording in list[list[str]]([[], [second]]):
-                found = judge_files(self, day, *recording, *words)
-                self.must(f"{words} {recording}", found.word == "not judged" and
-                          f"{day} has no subtitle with a TCI" in found.told[-1], found.said)
+                result = judge_files(self, day, *recording, *words)
+                self.must(f"{words} {recording}", result.word == "not judged" and
+                          f"{day} has no subtitle with a TCI" in result.told[-1], result.said)
         none = self.write("none.stl", make_gsi_block(b"", 0, 0))
-        found = judge_files(self, none, second)
-        self.must("nor has the file one", found.word == "not judged" and
-                  found.told[-1] == f"{none} has no subtitle", found.said)
+        result = judge_files(self, none, second)
+        self.must("nor has the file one", result.word == "not judged" and
+                  result.told[-1] == f"{none} has no subtitle", result.said)
 
     def test_refuses_invalid_times(self) -> None:
         for words in (("--from", "1:00"), ("--to", "24:00:00:00"), ("--from", "00:00:00:25")):
-            done = self.tool("qc", self.day(), *words)
-            self.must(f"{words}", done.status == 2 and done.told == [
+            process = self.tool("qc", self.day(), *words)
+            self.must(f"{words}", process.status == 2 and process.told == [
                 f"qc: argument {words[0]}: {words[1]} is not a time of day: give HH:MM:SS:FF, 25 "
-                "frames a second"], done)
+                "frames a second"], process)
 
     def test_finds_parts_within_the_range(self) -> None:
         times = [(100 * at, 100 * at + 60) for at in range(1, 15)]
         day = write_programme(self, [*times, (MINUTE * 5, MINUTE * 5 + 9)], name="day.stl")
-        sent = [(pts + (pts >= 780 * 3600) * 3600 * 999, some)
-                for pts, some in schedule_pages(self, write_programme(self, times))]
-        found = judge_files(self, day, self.write("day.pes", pes_file(sent)), "--breaks", "1",
-                            "--to",
+        sent = [(pts + (pts >= 780 * 3600) * 3600 * 999, packets)
+                for pts, packets in schedule_pages(self, write_programme(self, times))]
+        result = judge_files(self, day, self.write("day.pes", join_pes_packets(sent)),
+                             "--breaks", "1", "--to",
                        "00:04:00:00")
-        self.must("accepted", found.word == "accepted" and found.verdict.subtitle_count == 14,
-                  found.said)
-        commands = found.lines("+ ")
+        self.must("accepted", result.word == "accepted" and result.verdict.subtitle_count == 14,
+                  result.said)
+        commands = result.lines("+ ")
         self.must("commands", len(commands) == 2 and
                   "--from 00:00:04:00 --to 00:00:30:10" in commands[0] and
                   "--from 00:00:32:00 --to 00:00:58:10" in commands[1], commands)
@@ -120,29 +123,31 @@ class DayFiles(Case):
                 ("./subttx check 'one of.stl' /dev/null --option german",
                  ["one of.stl", "/dev/null"]),
                 ("subttx check out/film.1.stl film.ts --pid 0x101", ["out/film.1.stl", "film.ts"])):
-            self.must(line, shown_files(line) == files, shown_files(line))
+            self.must(line, list_shown_files(line) == files, list_shown_files(line))
 
 
 class SkippedSubtitles(Case):
     def test_leaves_out_subtitles_by_their_first_block(self) -> None:
-        made = [make_tti_block(1, 25, 50, 20, 2, b"one"), make_tti_block(2, 75, 99, 20, 2, b"tw",
-                                                                         0),
-                make_tti_block(2, 0, 0, 20, 2, b"o"), make_tti_block(3, 100, 150, 20, 2, b"three"),
-                make_tti_block(4, 0, 0, 20, 2, b"note", comment=1),
-                make_tti_block(5, 200, 225, 20, 2, b"five")]
+        result = [make_tti_block(1, 25, 50, 20, 2, b"one"), make_tti_block(2, 75, 99, 20, 2, b"tw",
+                                                                           0),
+                  make_tti_block(2, 0, 0, 20, 2, b"o"),
+                  make_tti_block(3, 100, 150, 20, 2, b"three"),
+                  make_tti_block(4, 0, 0, 20, 2, b"note", comment=1),
+                  make_tti_block(5, 200, 225, 20, 2, b"five")]
         timeless = bytearray(make_tti_block(6, 0, 0, 20, 2, b"six"))
         timeless[5] = 99
-        path = self.write("one.stl", make_gsi_block(b"", 7, 5) + b"".join(made) + timeless)
+        path = self.write("one.stl", make_gsi_block(b"", 7, 5) + b"".join(result) + timeless)
         for between, begins, lasts in (
-                (Between(), [25, 75, 100, 200], [1, 3, 4, 6, 7]), (Between(25), [25, 75, 100, 200],
-                                                                   [1, 3, 4, 6, 7]),
-                (Between(26, 100), [75], [3, 7]), (Between(75, 101), [75, 100], [3, 4, 7]),
-                (Between(101, 100), [], [7])):
+                (FrameRange(), [25, 75, 100, 200], [1, 3, 4, 6, 7]),
+                (FrameRange(25), [25, 75, 100, 200],
+                 [1, 3, 4, 6, 7]),
+                (FrameRange(26, 100), [75], [3, 7]), (FrameRange(75, 101), [75, 100], [3, 4, 7]),
+                (FrameRange(101, 100), [], [7])):
             file = SubtitleFile(path, between)
             self.must(f"{between}", ([*file.begins], [*file.list_last_blocks()]) == (begins, lasts),
                       (file.begins, [*file.list_last_blocks()]))
             at = [file.find_by_block(block) for block in range(1, 8)]
-            self.must(f"{between}: places", [one and one.position for one in at] == [
+            self.must(f"{between}: places", [item and item.position for item in at] == [
                 1, 2, 2, 3, 3, 4, 5], at)
 
     def test_reads_a_file_as_the_program_shows_it(self) -> None:
@@ -159,12 +164,13 @@ class SkippedSubtitles(Case):
                   shown)
 
     def test_passes_from_and_to_to_check(self) -> None:
-        for between, words in ((Between(), ""), (Between(25), "--from 00:00:01:00"),
-                               (Between(0, 50), "--to 00:00:02:00"), (Between(
+        for between, words in ((FrameRange(), ""), (FrameRange(25), "--from 00:00:01:00"),
+                               (FrameRange(0, 50), "--to 00:00:02:00"), (FrameRange(
                                    9, FRAMES_OF_A_DAY - 1), "--from 00:00:00:09 --to 23:59:59:24")):
             self.must(f"{between}", " ".join(between.words()) == words)
-        one = Between(5, 9)
-        self.must("has", [one.has(frame) for frame in (4, 5, 8, 9)] == [False, True, True, False])
+        item = FrameRange(5, 9)
+        self.must("has",
+                  [item.includes(frame) for frame in (4, 5, 8, 9)] == [False, True, True, False])
 
     def test_notes_a_title_an_hour_before_the_programme(self) -> None:
         rows: list[tuple[list[int], str | None]] = [
@@ -181,55 +187,56 @@ class SkippedSubtitles(Case):
     def test_prints_the_note_on_a_title_once(self) -> None:
         times = [(10 * HOUR + begin, 10 * HOUR + end) for begin, end in three(0)]
         without = write_programme(self, times, name="without.stl")
-        pes = self.write("one.pes", pes_file(schedule_pages(self, without)))
+        pes = self.write("one.pes", join_pes_packets(schedule_pages(self, without)))
         for title, number in (((0, 0), 21), ((0, 25), 63)):
             whole = write_programme(self, [title, *times], name="whole.stl", first=0)
             for recording in list[list[str]]([[], [pes, "--origin", "0"]]):
-                found = judge_files(self, whole, *recording)
-                notes = [one for one in found.told if "00:00:00:00" in one]
+                result = judge_files(self, whole, *recording)
+                notes = [item for item in result.told if "00:00:00:00" in item]
                 self.must(f"{title} {recording}", len(notes) == 1 and notes[0].endswith(
-                    "give --from 10:00:02:00"), found.said)
+                    "give --from 10:00:02:00"), result.said)
                 self.must(f"{title} {recording}: refused", not (recording or number == 21) or
-                          str(number) in (found.verdict.line or ""), found.said)
-                found = judge_files(self, whole, *recording, "--from", "10:00:02:00")
-                self.must(f"{title} {recording}: without", found.word == "accepted" and not any(
-                    "00:00:00:00" in one for one in found.told), found.said)
+                          str(number) in (result.verdict.line or ""), result.said)
+                result = judge_files(self, whole, *recording, "--from", "10:00:02:00")
+                self.must(f"{title} {recording}: without", result.word == "accepted" and not any(
+                    "00:00:00:00" in item for item in result.told), result.said)
 
 
-class Adjoining(ProgrammeCase):
+class AdjoiningSubtitles(ProgrammeCase):
     due = [(100, 150), (200, 250), (250, 300), (300, 350), (400, 450), (500, 550)]
 
     def test_advises_pauses_instead_of_an_end_between_adjoining_subtitles(self) -> None:
         for frame, near in ((250, (151, 351)), (300, (151, 351))):
-            judged = self.judge(self.sent, "--to", time_of(frame))
+            judged = self.judge(self.sent, "--to", format_frame(frame))
             self.must(f"{frame}", judged.word == "not judged" and judged.result["parts"] == [] and [
                 word.rpartition(" ")[2] for word in judged.verdict.suggestions] ==
-                      [*map(time_of, near)],
+                      [*map(format_frame, near)],
                 (judged.said, judged.verdict.suggestions))
             for end in near:
-                judged = self.judge(self.sent, "--to", time_of(end))
+                judged = self.judge(self.sent, "--to", format_frame(end))
                 self.must(f"{frame}, {end}", judged.word == "accepted", judged.said)
-        judged = self.judge(self.sent, "--to", time_of(500))
+        judged = self.judge(self.sent, "--to", format_frame(500))
         self.must("a pause", judged.word == "accepted", judged.said)
 
-        other = [(pts, [HEADER, row_packet(22, b"Other"), CLOSING]) if pts == 250 * TICKS else
-                 (pts, some) for pts, some in self.sent]
-        one_late = delayed(1, 200 * TICKS, 200 * TICKS)(self.sent)
+        other = [(pts, [HEADER, make_numbered_row(22, b"Other"), CLOSING])
+                 if pts == 250 * TICKS else (pts, packets) for pts, packets in self.sent]
+        one_late = make_delay(1, 200 * TICKS, 200 * TICKS)(self.sent)
         for name, sent in (("another page", other), ("another fault", one_late)):
-            judged = self.judge(sent, "--to", time_of(250))
+            judged = self.judge(sent, "--to", format_frame(250))
             self.must(name, judged.word == "refused", judged.said)
         self.check("the fault leads, and not the end", judged.verdict.sentence,
                    'Refused: subtitle 2 at 00:00:08:00, "Number 2", appeared 1 frame late.')
 
     def test_expects_pages_with_the_options_of_the_call(self) -> None:
         words = "--open", "--layout", "row=-2", "--option", "german", "--page", "150"
-        stl = write_subtitle_file(self, [(*one, b"Gr\xc8u\xfbe %d" % one[0]) for one in self.due],
+        stl = write_subtitle_file(self,
+                                  [(*item, b"Gr\xc8u\xfbe %d" % item[0]) for item in self.due],
                                   row=20)
         with open(stl, "r+b") as file:
             file.seek(11)
             file.write(b"0")  # set DSC to open subtitles
         pes = self.schedule(stl, "one.pes", "--every", "25", *words)
-        judged = judge_files(self, stl, pes, "--origin", "0", *words, "--to", time_of(250))
+        judged = judge_files(self, stl, pes, "--origin", "0", *words, "--to", format_frame(250))
         self.must("not judged",
                   judged.word == "not judged" and len(judged.verdict.suggestions) == 2,
                   judged.said)
@@ -239,18 +246,19 @@ class Adjoining(ProgrammeCase):
             (72, 0, [200], 200), (72, 0, [199], None), (72, 0, [201], None), (72, 0, [], None),
             (72, 2, [202], 200), (72, 2, [203], None), (67, 0, [200], None),
             (72, 0, [200, 200], None)]
-        for number, within, frames, wanted in rows:
-            lines = [f"refused {number} Name frame {time_of(frame)}" for frame in frames]
+        for number, within, frames, expected in rows:
+            lines = [f"refused {number} Name frame {format_frame(frame)}" for frame in frames]
             printed = make_answer([*lines, f"{len(lines)} faults"] if lines
                                   else ["accepted 9 frames 2 "
                                                                           "transmissions"])
-            part = make_part(100, 200, 0, printed, packets=Packets(0), request=request_for(
+            part = make_part(100, 200, 0, printed, packets=Packets(0), request=make_example_request(
                 "a.stl", "a.pes", "--within", str(within)))
-            self.assertEqual(find_adjoining_end(part), wanted, (number, within, frames))
+            self.assertEqual(find_adjoining_end(part), expected, (number, within, frames))
 
     def test_finds_the_pauses_near_a_frame(self) -> None:
         subtitles = [Subtitle(at, at, begin, end, 22, 2, b"")
                      for at, (begin, end) in enumerate(self.due)]
-        for count, frame, wanted in ((6, 300, [150, 350]), (6, 100, [150]), (6, 500, [450, 550]),
-                                     (4, 300, [150, 350]), (0, 300, [])):
-            self.assertEqual(find_nearest_pauses(subtitles[:count], frame), wanted, (count, frame))
+        for count, frame, expected in ((6, 300, [150, 350]), (6, 100, [150]), (6, 500, [450, 550]),
+                                       (4, 300, [150, 350]), (0, 300, [])):
+            self.assertEqual(find_nearest_pauses(subtitles[:count], frame), expected,
+                             (count, frame))

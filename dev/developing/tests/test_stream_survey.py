@@ -6,7 +6,7 @@ import random
 from typing import Callable, Iterable, NamedTuple, Sequence
 
 from developing.multiplex import (
-    ADAPTATION_ALONE, BEGINS, PACKET, compute_crc, make_head, make_section)
+    ADAPTATION_ALONE, PACKET, PAYLOAD_START, compute_crc, make_packet_header, make_section)
 from developing.pes import make_packet, make_pes_packet, encode_pts
 from subtitles.common.command_line import ProgramInterrupted
 from subtitles.common.times import CLOCK, TICKS
@@ -16,115 +16,117 @@ from subtitles.stream.survey import (
     Announced, ProgramMap, Survey, VERSION, Video, survey, survey_runs)
 from .bench import Case
 from .streams import (
-    AHEAD, AUDIO_PID, CLOSED_GROUP, MPEG_2, PMT_PID, PRIVATE, RANDOM_ACCESS, SLICES, TELETEXT_PID,
-    VIDEO_PID, Maker, Programme, components, filler, mpeg_2_picture, program_association,
-    program_map, multiplex_programmes, with_packet_size, teletext_descriptor, video_packet)
+    PTS_AHEAD, AUDIO_PID, CLOSED_GROUP, MPEG_2, PMT_PID, PRIVATE, RANDOM_ACCESS, SLICES,
+    TELETEXT_PID, VIDEO_PID, StreamMaker, Programme, make_components, filler, make_mpeg_2_picture,
+    make_program_association, program_map, multiplex_programmes, change_packet_size,
+    make_teletext_descriptor, make_video_packet)
 from .parts import read_survey
-from .transmissions import CLOSING, HEADER, PAGE, row_packet
-from .test_formats_characters import character_set_packet
+from .transmissions import CLOSING, HEADER, PAGE, make_numbered_row
+from .test_formats_characters import make_character_set_packet
 
-FIRST = 1_000_000  # PTS of the first picture and of the first PES packet of Teletext
-LAST = FIRST + 100_000 * TICKS  # PTS of the last PES packet of Teletext
+FIRST_PTS = 1_000_000  # PTS of the first picture and of the first PES packet of Teletext
+LAST_PTS = FIRST_PTS + 100_000 * TICKS  # PTS of the last PES packet of Teletext
 LATER_PID, OTHER_VIDEO = 0x111, 0x300
 
 
-def lines_of_kinds(case: Case, data: bytes, *kinds: str) -> list[str]:
+def list_lines_of_kinds(case: Case, data: bytes, *kinds: str) -> list[str]:
     status, lines = case.program("survey", case.write("one.ts", data))
     case.must("status", status == 0, status)
     return [line for line in lines if line.split()[0] in kinds]
 
 
-def each_frame(count: int, first: int = FIRST) -> list[bytes]:
+def make_frame_headers(count: int, first: int = FIRST_PTS) -> list[bytes]:
     """Return a PES packet of Teletext for each frame."""
     return [make_pes_packet((first + TICKS * frame) % CLOCK, [CLOSING]) for frame in range(count)]
 
 
 def lead(frame: int, ticks: int = 0, pid: int = TELETEXT_PID, video: int = VIDEO_PID,
-         number: int | None = None, first: int = FIRST) -> str:
+         number: int | None = None, first: int = FIRST_PTS) -> str:
     """Return the expected `lead` line for a PES packet sent after the picture of its frame."""
     return f"lead {pid} {(first + TICKS * frame) % CLOCK} {ticks} {video} " \
         f"{frame + 1 if number is None else number}"
 
 
-def timed_video(pts: int | None, dts: int | None = None, stream_id: int = 0xE0) -> bytes:
+def make_video_packet_at(pts: int | None, dts: int | None = None, stream_id: int = 0xE0) -> bytes:
     times = [] if pts is None else [encode_pts(pts)] if dts is None else [
         encode_pts(pts), encode_pts(dts)]
     return b"\0\0\1" + bytes([stream_id, 0, 0, 0x80, (0, 0x80, 0xC0)[len(times)], 5 * len(times)]) \
-        + b"".join(times) + mpeg_2_picture()
+        + b"".join(times) + make_mpeg_2_picture()
 
 
-class LeadLines(Case):
+class VideoLeadLines(Case):
     def lines_of(self, *programmes: Programme, frames: int = 60) -> list[str]:
         """Return the `lead` lines of a recording with these programmes."""
-        return lines_of_kinds(self, multiplex_programmes(programmes, frames).data, "lead")
+        return list_lines_of_kinds(self, multiplex_programmes(programmes, frames).data, "lead")
 
-    def test_prints_the_lead_once_a_second(self) -> None:
+    def test_prints_the_video_lead_once_a_second(self) -> None:
         rows: list[tuple[str, tuple[int, ...], int, list[int]]] = [
             ("one group", (0, 12), 0, [0, 0, 0]), ("no group", (), 0, [0, 0, 0]),
             ("a step behind the group", (0, 12), 7200, [0, 0, -7200]),
             ("a step within the group", (0, 59), 7200, [0, 0, -7200]),
             ("back", (0, 12), -9000, [0, 0, 9000])]
-        for first in (FIRST, CLOCK - 20 * TICKS):
-            for name, flagged, by, wanted in rows:
-                made = Programme({TELETEXT_PID: each_frame(60, first)}, first, VIDEO_PID, flagged,
-                                 [(30, by)])
-                self.check(f"{first}: {name}", self.lines_of(made), [
-                    lead(25 * at, ticks, first=first) for at, ticks in enumerate(wanted)])
+        for first in (FIRST_PTS, CLOCK - 20 * TICKS):
+            for name, flagged, by, expected in rows:
+                programme = Programme({TELETEXT_PID: make_frame_headers(60, first)}, first,
+                                      VIDEO_PID, flagged, [(30, by)])
+                self.check(f"{first}: {name}", self.lines_of(programme), [
+                    lead(25 * at, ticks, first=first) for at, ticks in enumerate(expected)])
 
-    def test_leads_the_video_of_its_own_programme(self) -> None:
-        both = dict.fromkeys((TELETEXT_PID, LATER_PID), each_frame(30))
-        self.check("two with Teletext", self.lines_of(Programme(both, FIRST), frames=30),
+    def test_measures_the_lead_to_the_own_video(self) -> None:
+        both = dict.fromkeys((TELETEXT_PID, LATER_PID), make_frame_headers(30))
+        self.check("two with Teletext", self.lines_of(Programme(both, FIRST_PTS), frames=30),
                    [lead(frame, pid=pid) for frame in (0, 25) for pid in both])
         for own, other in ((VIDEO_PID, OTHER_VIDEO), (OTHER_VIDEO, VIDEO_PID)):
-            programmes = [Programme({TELETEXT_PID: each_frame(30)}, FIRST, own),
-                          Programme({}, 7 * FIRST, other)]
+            programmes = [Programme({TELETEXT_PID: make_frame_headers(30)}, FIRST_PTS, own),
+                          Programme({}, 7 * FIRST_PTS, other)]
             for order in (programmes, programmes[::-1]):
                 self.check(f"{own:#x} {order[0].video:#x}", self.lines_of(*order, frames=30),
                            [lead(frame, video=own) for frame in (0, 25)])
 
-    def made_of(self, *several: tuple[int, bytes]) -> list[str]:
+    def list_stream_lines(self, *several: tuple[int, bytes]) -> list[str]:
         """Return the `lead` lines of PES packets in a programme with two videos."""
-        maker = Maker([*components(), (OTHER_VIDEO, MPEG_2, b"")])
+        maker = StreamMaker([*make_components(), (OTHER_VIDEO, MPEG_2, b"")])
         maker.put_tables()
         for pid, data in several:
             maker.put(pid, data)
-        return lines_of_kinds(self, maker.data, "lead")
+        return list_lines_of_kinds(self, maker.data, "lead")
 
-    def test_leads_the_last_picture_with_a_time(self) -> None:
+    def test_measures_the_lead_of_the_last_timed_picture(self) -> None:
         def teletext(frame: int) -> tuple[int, bytes]:
-            return TELETEXT_PID, make_pes_packet(FIRST + TICKS * frame, [CLOSING])
+            return TELETEXT_PID, make_pes_packet(FIRST_PTS + TICKS * frame, [CLOSING])
 
         def video(pts: int | None, dts: int | None = None, pid: int = VIDEO_PID
                   ) -> tuple[int, bytes]:
-            return pid, timed_video(pts, dts)
+            return pid, make_video_packet_at(pts, dts)
 
         rows: dict[str, tuple[list[tuple[int, bytes]], list[str]]] = {
             "no picture": ([teletext(0)], []),
             "a picture without a time": ([video(None), teletext(0)], []),
             "a second one without a time": (
-                [video(FIRST), video(None), teletext(0)], [lead(0, number=1)]),
+                [video(FIRST_PTS), video(None), teletext(0)], [lead(0, number=1)]),
             "then one with a time": (
-                [video(FIRST), video(None), video(FIRST), teletext(0)], [lead(0, number=3)]),
-            "a DTS": ([video(FIRST + 7, FIRST - 5), teletext(0)], [lead(0, 5)]),
+                [video(FIRST_PTS), video(None), video(FIRST_PTS), teletext(0)],
+                [lead(0, number=3)]),
+            "a DTS": ([video(FIRST_PTS + 7, FIRST_PTS - 5), teletext(0)], [lead(0, 5)]),
             "behind one picture one alone": (
-                [video(FIRST), teletext(0), teletext(40)], [lead(0)]),
+                [video(FIRST_PTS), teletext(0), teletext(40)], [lead(0)]),
             "behind each one": (
-                [video(FIRST), teletext(0), video(FIRST), teletext(40)],
+                [video(FIRST_PTS), teletext(0), video(FIRST_PTS), teletext(40)],
                 [lead(0), lead(40, 40 * TICKS, number=2)]),
             "under a second": (
-                [video(FIRST), teletext(0), video(FIRST), teletext(24)], [lead(0)]),
+                [video(FIRST_PTS), teletext(0), video(FIRST_PTS), teletext(24)], [lead(0)]),
             "a PTS that goes back": (
-                [video(FIRST), teletext(9), video(FIRST), teletext(8)],
+                [video(FIRST_PTS), teletext(9), video(FIRST_PTS), teletext(8)],
                 [lead(9, 9 * TICKS, number=1), lead(8, 8 * TICKS, number=2)]),
             "two PIDs of video": (
-                [video(FIRST, pid=OTHER_VIDEO), video(FIRST), teletext(0)],
+                [video(FIRST_PTS, pid=OTHER_VIDEO), video(FIRST_PTS), teletext(0)],
                 [lead(0, video=OTHER_VIDEO)]),
             "half the clock": (
-                [video(FIRST + CLOCK // 2), teletext(0)], [lead(0, -CLOCK // 2)]),
+                [video(FIRST_PTS + CLOCK // 2), teletext(0)], [lead(0, -CLOCK // 2)]),
             "a tick less": (
-                [video(FIRST + CLOCK // 2 + 1), teletext(0)], [lead(0, CLOCK // 2 - 1)])}
+                [video(FIRST_PTS + CLOCK // 2 + 1), teletext(0)], [lead(0, CLOCK // 2 - 1)])}
         for name, (several, wanted) in rows.items():
-            self.check(name, self.made_of(*several), wanted)
+            self.check(name, self.list_stream_lines(*several), wanted)
 
 
 def pictures(flagged: Sequence[int], lost: Sequence[int] = (), scrambled: Sequence[int] = (),
@@ -133,17 +135,18 @@ def pictures(flagged: Sequence[int], lost: Sequence[int] = (), scrambled: Sequen
 
     Some TS packets are lost, scrambled, marked as damaged (`wrong`), or repeated (`twice`).
     """
-    maker = Maker(components())
+    maker = StreamMaker(make_components())
     maker.put_tables()
     tables = maker.taken()
     for frame in range(30):
-        maker.put(VIDEO_PID, video_packet(FIRST + TICKS * frame, mpeg_2_picture() + SLICES),
+        maker.put(VIDEO_PID,
+                  make_video_packet(FIRST_PTS + TICKS * frame, make_mpeg_2_picture() + SLICES),
                   frame in flagged)
-    made = [bytes([one[0], one[1] | 0x80 * (number in wrong), one[2],
-                   one[3] | 0x80 * (number in scrambled), *one[4:]])
-            for number, one in enumerate(maker.taken()) if number not in lost
-            for _ in range(1 + (number in twice))]
-    return b"".join(tables + made)
+    result = [bytes([item[0], item[1] | 0x80 * (number in wrong), item[2],
+                     item[3] | 0x80 * (number in scrambled), *item[4:]])
+              for number, item in enumerate(maker.taken()) if number not in lost
+              for _ in range(1 + (number in twice))]
+    return b"".join(tables + result)
 
 
 class PictureLines(Case):
@@ -166,28 +169,30 @@ class PictureLines(Case):
             ("1 0", pictures((3, 25), lost=range(17, 32))),
             ("0 0 29 0", pictures((), twice=[6, 7, 8], lost=[10]))]
         for number, (wanted, data) in enumerate(rows):
-            lines = lines_of_kinds(self, data, "pictures")
+            lines = list_lines_of_kinds(self, data, "pictures")
             self.must(f"{number}: {wanted}", lines == [f"pictures {VIDEO_PID} {wanted}"], lines)
 
     def test_counts_a_packet_sent_twice_once(self) -> None:
         kinds = "video", "picture", "group", "pictures"
-        wanted = lines_of_kinds(self, pictures((3, 15)), *kinds)
+        expected = list_lines_of_kinds(self, pictures((3, 15)), *kinds)
         for number in range(34):
             self.check(f"TS packet {number} twice",
-                       lines_of_kinds(self, pictures((3, 15), twice=[number]), *kinds), wanted)
+                       list_lines_of_kinds(self, pictures((3, 15), twice=[number]), *kinds),
+                       expected)
 
-    def test_takes_no_flag_of_a_damaged_packet(self) -> None:
+    def test_ignores_flags_of_a_damaged_packet(self) -> None:
         for count, passed in ((0, 3), (1, 14)):
             wrong = [6][:count]
-            self.check(f"{wrong}", lines_of_kinds(self, pictures((3, 15), wrong=wrong), "video"),
+            self.check(f"{wrong}",
+                       list_lines_of_kinds(self, pictures((3, 15), wrong=wrong), "video"),
                        [f"video {VIDEO_PID} {passed}"])
 
     def lines_of(self, *several: bytes) -> list[str]:
         """Return the lines that `survey` prints about TS packets of the video PID."""
-        maker = Maker(components())
+        maker = StreamMaker(make_components())
         maker.put_tables()
-        return lines_of_kinds(self, maker.data + b"".join(several), "video", "picture", "group",
-                              "pictures")
+        return list_lines_of_kinds(self, maker.data + b"".join(several), "video", "picture",
+                                   "group", "pictures")
 
     def split(self, cuts: Sequence[int], pes: bytes, flagged: bool = False, counter: int = 0
               ) -> list[bytes]:
@@ -195,71 +200,74 @@ class PictureLines(Case):
 
         The first TS packet has the counter `counter`, and random_access_indicator if `flagged`.
         """
-        maker = Maker([])
+        maker = StreamMaker([])
         maker.counters[VIDEO_PID] = counter + 15
         for begin, end in zip([0, *cuts], [*cuts, len(pes)]):
             is_first = begin == 0
-            maker.put_packet(VIDEO_PID, BEGINS * is_first, pes[begin:end],
+            maker.put_packet(VIDEO_PID, PAYLOAD_START * is_first, pes[begin:end],
                              bytes([RANDOM_ACCESS]) if is_first and flagged else b"")
         return maker.packets
 
     def test_reads_video_headers_over_several_packets(self) -> None:
-        pes = timed_video(FIRST, FIRST - 7)
+        pes = make_video_packet_at(FIRST_PTS, FIRST_PTS - 7)
         pes = pes[:19] + CLOSED_GROUP + pes[19:]
-        second = timed_video(FIRST + TICKS)
+        second = make_video_packet_at(FIRST_PTS + TICKS)
         rows: list[list[int]] = [[], *([cut] for cut in range(1, 30)), [1, 2, 3], [*range(1, 28)]]
         for cuts in rows:
-            made = self.split([], second)  # `survey` learns the PID from the first stream_id
-            made += self.split(cuts, pes, True, 1)
-            made += self.split([9], second, counter=len(made) & 15)
-            self.check(f"cut at {cuts}", self.lines_of(*made), [
-                f"video {VIDEO_PID} 1", f"picture {VIDEO_PID} {FIRST}",
-                f"picture {VIDEO_PID} {FIRST + TICKS}",
-                f"group {VIDEO_PID} {FIRST} {FIRST} closed", f"pictures {VIDEO_PID} 0 0 1 1"])
+            result = self.split([], second)  # `survey` learns the PID from the first stream_id
+            result += self.split(cuts, pes, True, 1)
+            result += self.split([9], second, counter=len(result) & 15)
+            self.check(f"cut at {cuts}", self.lines_of(*result), [
+                f"video {VIDEO_PID} 1", f"picture {VIDEO_PID} {FIRST_PTS}",
+                f"picture {VIDEO_PID} {FIRST_PTS + TICKS}",
+                f"group {VIDEO_PID} {FIRST_PTS} {FIRST_PTS} closed",
+                f"pictures {VIDEO_PID} 0 0 1 1"])
 
     def test_begins_no_picture_if_its_header_is_lost(self) -> None:
-        first, rest = self.split([9], timed_video(FIRST), True)
+        first, rest = self.split([9], make_video_packet_at(FIRST_PTS), True)
         gap, *_ = self.split([], b"x" * 9, counter=1)
-        whole = self.split([], timed_video(FIRST), True, 2)
-        begun = [f"video {VIDEO_PID} 0", f"picture {VIDEO_PID} {FIRST}",
-                 f"group {VIDEO_PID} {FIRST} {FIRST} unknown", f"pictures {VIDEO_PID} 0 0 0 1"]
+        whole = self.split([], make_video_packet_at(FIRST_PTS), True, 2)
+        begun = [f"video {VIDEO_PID} 0", f"picture {VIDEO_PID} {FIRST_PTS}",
+                 f"group {VIDEO_PID} {FIRST_PTS} {FIRST_PTS} unknown",
+                 f"pictures {VIDEO_PID} 0 0 0 1"]
         self.check("not lost", self.lines_of(first, rest), begun)
         lost = rest[:3] + bytes([rest[3] + 1 & 0xFF]) + rest[4:]
         self.check("lost", self.lines_of(first, lost), [f"pictures {VIDEO_PID} 0 0 0 0"])
         self.check("another follows", self.lines_of(first, gap, *whole), begun)
 
-    def test_begins_a_picture_at_stream_id_e0_to_ef(self) -> None:
-        begun = f"picture {VIDEO_PID} {FIRST}"
+    def test_begins_a_picture_only_at_a_video_stream_id(self) -> None:
+        begun = f"picture {VIDEO_PID} {FIRST_PTS}"
         rows: dict[str, tuple[bytes, bool]] = {
-            "stream_id E0": (timed_video(FIRST), True),
-            "stream_id EF": (timed_video(FIRST, stream_id=0xEF), True),
-            "stream_id DF": (timed_video(FIRST, stream_id=0xDF), False),
-            "stream_id F0": (timed_video(FIRST, stream_id=0xF0), False),
-            "private_stream_2": (timed_video(FIRST, stream_id=0xBF), False),
-            "audio": (timed_video(FIRST, stream_id=0xC0), False),
-            "00 00 02": (b"\0\0\2" + timed_video(FIRST)[3:], False),
-            "01 00 01": (b"\1" + timed_video(FIRST)[1:], False),
-            "00 01 01": (b"\0\1" + timed_video(FIRST)[2:], False),
+            "stream_id E0": (make_video_packet_at(FIRST_PTS), True),
+            "stream_id EF": (make_video_packet_at(FIRST_PTS, stream_id=0xEF), True),
+            "stream_id DF": (make_video_packet_at(FIRST_PTS, stream_id=0xDF), False),
+            "stream_id F0": (make_video_packet_at(FIRST_PTS, stream_id=0xF0), False),
+            "private_stream_2": (make_video_packet_at(FIRST_PTS, stream_id=0xBF), False),
+            "audio": (make_video_packet_at(FIRST_PTS, stream_id=0xC0), False),
+            "00 00 02": (b"\0\0\2" + make_video_packet_at(FIRST_PTS)[3:], False),
+            "01 00 01": (b"\1" + make_video_packet_at(FIRST_PTS)[1:], False),
+            "00 01 01": (b"\0\1" + make_video_packet_at(FIRST_PTS)[2:], False),
             "FF": (b"\xff" * 100, False)}
         for name, (pes, is_picture) in rows.items():
-            flagged = self.split([], timed_video(0), True)
+            flagged = self.split([], make_video_packet_at(0), True)
             lines = self.lines_of(*flagged, *self.split([], pes, counter=1))
             self.check(name, lines[2:-2], [begun] * is_picture)
 
     def test_counts_no_announced_jump_as_lost(self) -> None:
-        first = self.split([], timed_video(FIRST), True)
+        first = self.split([], make_video_packet_at(FIRST_PTS), True)
         for counter, lost in ((1, 0), (2, 1), (0, 1), (9, 1)):
-            second, = self.split([], timed_video(FIRST + TICKS), counter=counter)
+            second, = self.split([], make_video_packet_at(FIRST_PTS + TICKS), counter=counter)
             says = second[:5] + bytes([second[5] | 0x80]) + second[6:]
-            alone = (make_head(VIDEO_PID, 0, ADAPTATION_ALONE) + bytes([PACKET - 5, 0x80])).ljust(
+            alone = (make_packet_header(VIDEO_PID, 0, ADAPTATION_ALONE)
+                     + bytes([PACKET - 5, 0x80])).ljust(
                 PACKET, b"\xff")
-            for name, made, wanted in (("not", [second], lost), ("here", [says], 0),
-                                       ("before", [alone, second], 0)):
-                self.check(f"{counter} {name}", self.lines_of(*first, *made)[-1],
-                           f"pictures {VIDEO_PID} {wanted} 0 0 1")
+            for name, result, expected in (("not", [second], lost), ("here", [says], 0),
+                                           ("before", [alone, second], 0)):
+                self.check(f"{counter} {name}", self.lines_of(*first, *result)[-1],
+                           f"pictures {VIDEO_PID} {expected} 0 0 1")
 
 
-class Named(NamedTuple):
+class NamedLines(NamedTuple):
     """A test case: the components of a PMT, and the expected lines."""
 
     components: list[tuple[int, int, bytes]]
@@ -270,89 +278,90 @@ class TableLines(Case):
     kinds = "programme", "stream", "announce", "teletext", "pcr", "ahead"
 
     def test_prints_each_stream_and_page_of_a_pmt(self) -> None:
-        page = teletext_descriptor()
-        other = b"\x46" + teletext_descriptor(b"fra", 5, 0x50, 1)[1:]
-        two = b"\x56\x0a" + teletext_descriptor(b"deu", 2, 0x77)[2:] \
-            + teletext_descriptor(b"ger", 5, 0x99, 7)[2:]
-        one, more = "announce 257 888 656e67 2", "announce 257 150 667261 5"
-        rows: dict[str, Named] = {
-            "none": Named([], []),
-            "a stream": Named([(0x1FFE, 0xFF, b"")], ["stream 8190 255"]),
-            "descriptor 56": Named([(257, 6, page)], ["stream 257 6", one, "teletext 257"]),
-            "descriptor 46": Named([(257, 6, other)], ["stream 257 6", more, "teletext 257"]),
-            "both": Named([(257, 6, other + page)],
-                          ["stream 257 6", more, one, "teletext 257"]),
-            "another before it": Named([(257, 6, b"\x52\x01\x07" + page)],
-                                       ["stream 257 6", one, "teletext 257"]),
-            "DVB subtitles": Named([(257, 6, b"\x59\x08eng\x10\0\1\0\1")], ["stream 257 6"]),
-            "two pages": Named([(257, 6, two)], [
+        page = make_teletext_descriptor()
+        other = b"\x46" + make_teletext_descriptor(b"fra", 5, 0x50, 1)[1:]
+        two = b"\x56\x0a" + make_teletext_descriptor(b"deu", 2, 0x77)[2:] \
+            + make_teletext_descriptor(b"ger", 5, 0x99, 7)[2:]
+        item, more = "announce 257 888 656e67 2", "announce 257 150 667261 5"
+        rows: dict[str, NamedLines] = {
+            "none": NamedLines([], []),
+            "a stream": NamedLines([(0x1FFE, 0xFF, b"")], ["stream 8190 255"]),
+            "descriptor 56": NamedLines([(257, 6, page)], ["stream 257 6", item, "teletext 257"]),
+            "descriptor 46": NamedLines([(257, 6, other)], ["stream 257 6", more, "teletext 257"]),
+            "both": NamedLines([(257, 6, other + page)],
+                               ["stream 257 6", more, item, "teletext 257"]),
+            "another before it": NamedLines([(257, 6, b"\x52\x01\x07" + page)],
+                                            ["stream 257 6", item, "teletext 257"]),
+            "DVB subtitles": NamedLines([(257, 6, b"\x59\x08eng\x10\0\1\0\1")], ["stream 257 6"]),
+            "two pages": NamedLines([(257, 6, two)], [
                 "stream 257 6", "announce 257 877 646575 2", "announce 257 799 676572 5",
                 "teletext 257"]),
-            "forty streams": Named(
+            "forty streams": NamedLines(
                 [*((pid, 3, b"") for pid in range(300, 339)), (257, 6, page)],
-                [*(f"stream {pid} 3" for pid in range(300, 339)), "stream 257 6", one,
+                [*(f"stream {pid} 3" for pid in range(300, 339)), "stream 257 6", item,
                  "teletext 257"])}
         for name, row in rows.items():
-            maker = Maker([], 0x1FFF)
+            maker = StreamMaker([], 0x1FFF)
             table = program_map(1, row.components, 0x1FFF)
-            maker.put_packet(0, BEGINS, maker.tables[0][1].ljust(PACKET - 4, b"\xff"))
-            maker.put_packet(PMT_PID, BEGINS, table[:PACKET - 4].ljust(PACKET - 4, b"\xff"))
+            maker.put_packet(0, PAYLOAD_START, maker.tables[0][1].ljust(PACKET - 4, b"\xff"))
+            maker.put_packet(PMT_PID, PAYLOAD_START, table[:PACKET - 4].ljust(PACKET - 4, b"\xff"))
             if table[PACKET - 4:]:
                 maker.put_packet(PMT_PID, 0, table[PACKET - 4:].ljust(PACKET - 4, b"\xff"))
             maker.packets += [filler(AUDIO_PID, maker.counters).data] * 5
-            self.check(name, lines_of_kinds(self, maker.data, *self.kinds),
+            self.check(name, list_lines_of_kinds(self, maker.data, *self.kinds),
                        ["programme 1 8191", *row.wanted])
 
     def test_reads_a_pmt_among_other_sections(self) -> None:
-        table = program_map(1, [(TELETEXT_PID, PRIVATE, teletext_descriptor())], 0x1FFF)
+        table = program_map(1, [(TELETEXT_PID, PRIVATE, make_teletext_descriptor())], 0x1FFF)
         rows = {"the rest of a section": [b"\x1e" + b"\x55" * 30 + table[1:]],
                 "a private section": [make_section(0xFE, 9, bytes(5)) + table[1:]],
                 "sent twice": [table, table]}
         for name, several in rows.items():
-            maker = Maker([])
-            for pid, data in [maker.tables[0], *((PMT_PID, one) for one in several)]:
-                maker.put_packet(pid, BEGINS, data.ljust(PACKET - 4, b"\xff"))
+            maker = StreamMaker([])
+            for pid, data in [maker.tables[0], *((PMT_PID, item) for item in several)]:
+                maker.put_packet(pid, PAYLOAD_START, data.ljust(PACKET - 4, b"\xff"))
             maker.packets += [filler(AUDIO_PID, maker.counters).data] * 5
-            self.check(name, lines_of_kinds(self, maker.data, *self.kinds), [
+            self.check(name, list_lines_of_kinds(self, maker.data, *self.kinds), [
                 "programme 1 8191", "stream 257 6", "announce 257 888 656e67 2", "teletext 257"])
 
     def test_ignores_tables_that_are_not_in_force(self) -> None:
-        def sent_early(data: bytes) -> bytes:
+        def send_pmt_early(data: bytes) -> bytes:
             body = data[1:6] + bytes([data[6] & 0xFE]) + data[7:-4]
             return b"\0" + body + compute_crc(body).to_bytes(4, "big")
 
-        pat = Maker([]).tables[0][1]
-        table = program_map(1, [(TELETEXT_PID, PRIVATE, teletext_descriptor())], 0x1FFF)
+        pat = StreamMaker([]).tables[0][1]
+        table = program_map(1, [(TELETEXT_PID, PRIVATE, make_teletext_descriptor())], 0x1FFF)
         programme = ["programme 1 8191", "stream 257 6", "announce 257 888 656e67 2",
                      "teletext 257"]
         rows: dict[str, tuple[list[bytes], list[str]]] = {
-            "PMT": ([pat, sent_early(table)], []),
-            "PMT, then in force": ([pat, sent_early(table), table], programme),
-            "PMT between": ([pat, table, sent_early(table), table], programme),
-            "PAT": ([sent_early(pat), table], []),
-            "PAT, then in force": ([sent_early(pat), pat, table], programme)}
+            "PMT": ([pat, send_pmt_early(table)], []),
+            "PMT, then in force": ([pat, send_pmt_early(table), table], programme),
+            "PMT between": ([pat, table, send_pmt_early(table), table], programme),
+            "PAT": ([send_pmt_early(pat), table], []),
+            "PAT, then in force": ([send_pmt_early(pat), pat, table], programme)}
         for name, (several, wanted) in rows.items():
-            maker = Maker([])
+            maker = StreamMaker([])
             for data in several:
-                maker.put_packet(PMT_PID if data[1] == 2 else 0, BEGINS,
+                maker.put_packet(PMT_PID if data[1] == 2 else 0, PAYLOAD_START,
                                  data.ljust(PACKET - 4, b"\xff"))
             maker.packets += [filler(AUDIO_PID, maker.counters).data] * 5
-            self.check(name, lines_of_kinds(self, maker.data, *self.kinds), wanted)
+            self.check(name, list_lines_of_kinds(self, maker.data, *self.kinds), wanted)
 
     def test_reads_the_last_of_twenty_programmes(self) -> None:
-        maker, pids = Maker([]), range(0x400, 0x414)
-        maps = [(pid, program_map(number, [(TELETEXT_PID, PRIVATE, teletext_descriptor())] if
+        maker, pids = StreamMaker([]), range(0x400, 0x414)
+        maps = [(pid, program_map(number, [(TELETEXT_PID, PRIVATE, make_teletext_descriptor())] if
                                   pid == pids[-1] else [(pid + 0x100, MPEG_2, b"")], pid + 0x200))
                 for number, pid in enumerate(pids, 1)]
-        maker.tables = [(0, program_association(enumerate(pids, 1))), *maps]
+        maker.tables = [(0, make_program_association(enumerate(pids, 1))), *maps]
         maker.put_tables()
-        for frame, pes in enumerate(each_frame(30)):
+        for frame, pes in enumerate(make_frame_headers(30)):
             for pid in (pids[0] + 0x200, pids[-1] + 0x200):
                 maker.pcr_pid = pid
-                maker.put_pcr(FIRST + TICKS * frame - (9 if pid == pids[0] + 0x200 else AHEAD))
+                maker.put_pcr(FIRST_PTS + TICKS * frame - (9 if pid == pids[0] + 0x200
+                                                           else PTS_AHEAD))
             maker.put(TELETEXT_PID, pes)
         first, last = pids[0] + 0x200, pids[-1] + 0x200
-        lines = lines_of_kinds(self, maker.data, *self.kinds)
+        lines = list_lines_of_kinds(self, maker.data, *self.kinds)
         self.check("tables", lines[:42], [
             line for number, pid in enumerate(pids, 1) for line in (
                 f"programme {number} {pid + 0x200}",
@@ -360,13 +369,14 @@ class TableLines(Case):
         ] + [f"announce {TELETEXT_PID} 888 656e67 2", f"teletext {TELETEXT_PID}"])
         self.check("clocks", lines[42:], [
             *(line for frame in (0, 25) for line in (
-                f"pcr {first} {FIRST + TICKS * frame - 9}",
-                f"pcr {last} {FIRST + TICKS * frame - AHEAD}",
-                f"ahead {TELETEXT_PID} {FIRST + TICKS * frame} {AHEAD}")),
-            f"pcr {first} {FIRST + TICKS * 29 - 9}", f"pcr {last} {FIRST + TICKS * 29 - AHEAD}"])
+                f"pcr {first} {FIRST_PTS + TICKS * frame - 9}",
+                f"pcr {last} {FIRST_PTS + TICKS * frame - PTS_AHEAD}",
+                f"ahead {TELETEXT_PID} {FIRST_PTS + TICKS * frame} {PTS_AHEAD}")),
+            f"pcr {first} {FIRST_PTS + TICKS * 29 - 9}",
+            f"pcr {last} {FIRST_PTS + TICKS * 29 - PTS_AHEAD}"])
 
     def test_follows_teletext_outside_any_pmt(self) -> None:
-        whole, *others = each_frame(6)
+        whole, *others = make_frame_headers(6)
         rows: dict[str, tuple[list[bytes], int, bool]] = {
             "whole": ([whole], 0, True), "45 bytes": ([whole[:45], whole[45:]], 1, True),
             "11 bytes": ([whole[:11], whole[11:]], 1, True),
@@ -376,31 +386,31 @@ class TableLines(Case):
             "data_identifier 0F": ([whole[:45] + b"\x0f" + whole[46:]], 0, False),
             "audio": ([b"\0\0\1\xc0" + whole[4:]], 0, False)}
         for name, (parts, missing, is_followed) in rows.items():
-            maker = Maker([])
+            maker = StreamMaker([])
             for place, part in enumerate(parts):
-                maker.put_packet(TELETEXT_PID, BEGINS * (place == 0), part)
+                maker.put_packet(TELETEXT_PID, PAYLOAD_START * (place == 0), part)
             for pes in others:
                 maker.put(TELETEXT_PID, pes)
-            found = lines_of_kinds(self, maker.data, "teletext", "end")
+            result = list_lines_of_kinds(self, maker.data, "teletext", "end")
             count = 6 - missing
-            self.check(name, found, [
+            self.check(name, result, [
                 f"teletext {TELETEXT_PID}", f"end {TELETEXT_PID} {count} 0 "
-                f"{5 + (not missing) * len(parts)} 0 0 0 {FIRST + 5 * TICKS}"] * is_followed)
+                f"{5 + (not missing) * len(parts)} 0 0 0 {FIRST_PTS + 5 * TICKS}"] * is_followed)
 
 
-def with_pcr(intervals: Iterable[tuple[int, int]], behind: int = 1) -> bytes:
+def make_stream_with_pcr(intervals: Iterable[tuple[int, int]], behind: int = 1) -> bytes:
     """Return a stream with PCRs between two PES packets of Teletext.
 
     Each interval between PCRs is given in ticks and TS packets."""
-    maker, pcr = Maker(components()), FIRST
+    maker, pcr = StreamMaker(make_components()), FIRST_PTS
     maker.put_tables()
-    maker.put(TELETEXT_PID, make_pes_packet(FIRST, []))
+    maker.put(TELETEXT_PID, make_pes_packet(FIRST_PTS, []))
     for ticks, packets in [(0, 2), *intervals, (0, behind)]:
         pcr += ticks
         maker.packets += [filler(AUDIO_PID, maker.counters).data for _ in range(packets - 1)]
         maker.put_pcr(pcr)
     maker.packets.pop()
-    maker.put(TELETEXT_PID, make_pes_packet(LAST, []))
+    maker.put(TELETEXT_PID, make_pes_packet(LAST_PTS, []))
     return maker.data
 
 
@@ -423,145 +433,152 @@ class ClockLines(Case):
              ["20000 9 3600 2"]),
             ("four", [*[(3600, 5)] * 4, (20_000, 9)], []),
             ("five", [*[(3600, 5)] * 5, (20_000, 9)], ["20000 9 3600 5"])]
-        for name, intervals, wanted in rows:
-            lines = lines_of_kinds(self, with_pcr(intervals, 2), "clock")
-            self.must(name, lines == [f"clock {TELETEXT_PID} {FIRST} {LAST} {one} whole"
-                                      for one in wanted], lines)
-        data = with_pcr([*usual, (20_000, 9)], 2)
+        for name, intervals, expected in rows:
+            lines = list_lines_of_kinds(self, make_stream_with_pcr(intervals, 2), "clock")
+            self.must(name, lines == [f"clock {TELETEXT_PID} {FIRST_PTS} {LAST_PTS} {item} whole"
+                                      for item in expected], lines)
+        data = make_stream_with_pcr([*usual, (20_000, 9)], 2)
         place = len(data) - 3 * PACKET  # offset of the late PCR
         twice = data[:place] + data[place - PACKET:place] + data[place:]
-        self.check("audio sent twice", lines_of_kinds(self, twice, "clock"),
-                   [f"clock {TELETEXT_PID} {FIRST} {LAST} 20000 10 3600 5 whole"])
+        self.check("audio sent twice", list_lines_of_kinds(self, twice, "clock"),
+                   [f"clock {TELETEXT_PID} {FIRST_PTS} {LAST_PTS} 20000 10 3600 5 whole"])
 
     def test_uses_no_adaptation_field_of_a_damaged_packet(self) -> None:
-        data = with_pcr([*[(3600, 5)] * 30, (20_000, 9)], 2)
+        data = make_stream_with_pcr([*[(3600, 5)] * 30, (20_000, 9)], 2)
         place = len(data) - 3 * PACKET  # offset of the late PCR
         late = data[place:place + PACKET]
-        line = f"clock {TELETEXT_PID} {FIRST} {LAST} 20000 10 3600 5 whole"
-        pcr = f"pcr {VIDEO_PID} {FIRST + 30 * 3600}"
+        line = f"clock {TELETEXT_PID} {FIRST_PTS} {LAST_PTS} 20000 10 3600 5 whole"
+        pcr = f"pcr {VIDEO_PID} {FIRST_PTS + 30 * 3600}"
 
         def announcing(error: int, control: int, length: int) -> bytes:
-            plain = make_head(VIDEO_PID, 0, ADAPTATION_ALONE)
+            plain = make_packet_header(VIDEO_PID, 0, ADAPTATION_ALONE)
             return (bytes([plain[0], plain[1] | error, plain[2], plain[3] | control, length, 0x80])
                     .ljust(PACKET, b"\xff"))
 
         damaged = late[:1] + bytes([late[1] | 0x80]) + late[2:]
-        self.check("a PCR", lines_of_kinds(self, data[:place] + damaged + data[place + PACKET:],
+        self.check("a PCR",
+                   list_lines_of_kinds(self, data[:place] + damaged + data[place + PACKET:],
                                  "clock", "pcr")[-1], pcr)
         rows: dict[str, tuple[bytes, list[str]]] = {
             "plain": (announcing(0, 0, 183), []), "error": (announcing(0x80, 0, 183), [line]),
             "scrambled": (announcing(0, 0xC0, 183), []), "wrong": (announcing(0, 0x10, 184), [])}
         for name, (more, wanted) in rows.items():
-            self.check(name, lines_of_kinds(self, data[:place] + more + data[place:], "clock"),
+            self.check(name, list_lines_of_kinds(self, data[:place] + more + data[place:], "clock"),
                        wanted)
 
     def test_samples_pts_against_pcr_once_a_second(self) -> None:
-        for first in (FIRST, CLOCK - 40 * TICKS):
+        for first in (FIRST_PTS, CLOCK - 40 * TICKS):
             for drift in (0, 1, 30, -7):
-                maker = Maker(components())
+                maker = StreamMaker(make_components())
                 maker.put_tables()
-                for frame, one in enumerate(each_frame(90, first)):
-                    maker.put_pcr(first + (TICKS + drift) * frame - AHEAD)
+                for frame, item in enumerate(make_frame_headers(90, first)):
+                    maker.put_pcr(first + (TICKS + drift) * frame - PTS_AHEAD)
                     if frame >= 10:  # omit the Teletext of the first frames
-                        maker.put(TELETEXT_PID, one)
-                lines = lines_of_kinds(self, maker.data, "ahead")
+                        maker.put(TELETEXT_PID, item)
+                lines = list_lines_of_kinds(self, maker.data, "ahead")
                 self.must(f"{first} {drift}", lines == [
                     f"ahead {TELETEXT_PID} {(first + TICKS * frame) % CLOCK} "
-                    f"{AHEAD - drift * frame}" for frame in (10, 35, 60, 85)], lines)
+                    f"{PTS_AHEAD - drift * frame}" for frame in (10, 35, 60, 85)], lines)
 
     def test_samples_no_pts_after_a_loss(self) -> None:
-        maker = Maker(components())
+        maker = StreamMaker(make_components())
         maker.put_tables()
-        for frame, one in enumerate(each_frame(30)):
-            maker.put_pcr(FIRST + TICKS * frame - AHEAD)
-            maker.put(TELETEXT_PID, one)
+        for frame, item in enumerate(make_frame_headers(30)):
+            maker.put_pcr(FIRST_PTS + TICKS * frame - PTS_AHEAD)
+            maker.put(TELETEXT_PID, item)
             if frame == 24:
                 maker.packets.pop()
-        self.check("frames", lines_of_kinds(self, maker.data, "ahead"), [
-            f"ahead {TELETEXT_PID} {FIRST + TICKS * frame} {AHEAD}" for frame in (0, 26)])
+        self.check("frames", list_lines_of_kinds(self, maker.data, "ahead"), [
+            f"ahead {TELETEXT_PID} {FIRST_PTS + TICKS * frame} {PTS_AHEAD}" for frame in (0, 26)])
 
     def test_samples_no_pts_after_a_late_pcr(self) -> None:
         for usual, most in ((1, 255), (64, 255), (65, 259), (200, 799)):
             for since in (most, most + 1):
-                lines = lines_of_kinds(self, with_pcr([(TICKS, usual)] * 20, since), "ahead")
-                wanted = [f"ahead {TELETEXT_PID} {LAST} {LAST - FIRST - TICKS * 20}"]
-                self.must(f"{usual} {since}", lines == wanted[:since <= most], lines)
+                lines = list_lines_of_kinds(self, make_stream_with_pcr([(TICKS, usual)] * 20,
+                                                                       since), "ahead")
+                expected = [f"ahead {TELETEXT_PID} {LAST_PTS} {LAST_PTS - FIRST_PTS - TICKS * 20}"]
+                self.must(f"{usual} {since}", lines == expected[:since <= most], lines)
 
 
-def of_pes(several: Iterable[bytes]) -> bytes:
+def list_pes_lines(several: Iterable[bytes]) -> bytes:
     """Return a transport stream with each PES packet in one TS packet."""
-    maker = Maker(components())
+    maker = StreamMaker(make_components())
     maker.put_tables()
-    for one in several:
-        maker.put(TELETEXT_PID, one)
+    for item in several:
+        maker.put(TELETEXT_PID, item)
     return maker.data
 
 
-def pes_packets_with(*several: Sequence[bytes]) -> list[bytes]:
+def make_pes_packets_with(*several: Sequence[bytes]) -> list[bytes]:
     """Return one PES packet for each frame, with these Teletext packets."""
-    return [make_pes_packet(FIRST + TICKS * frame, some) for frame, some in enumerate(several)]
+    return [make_pes_packet(FIRST_PTS + TICKS * frame, some) for frame, some in enumerate(several)]
 
 
-def with_third(place: int, *new: int) -> list[bytes]:
+def insert_third_packets(place: int, *new: int) -> list[bytes]:
     """Return five PES packets. In the third, the bytes from offset `place` on are `new`."""
-    made = each_frame(5)
-    made[2] = made[2][:place] + bytes(new) + made[2][place + len(new):]
-    return made
+    result = make_frame_headers(5)
+    result[2] = result[2][:place] + bytes(new) + result[2][place + len(new):]
+    return result
 
 
 class PesLines(Case):
-    def test_joins_pes_packets_that_differ_in_nothing_but_pts(self) -> None:
+    def test_joins_pes_packets_that_differ_only_in_pts(self) -> None:
         again = make_packet(0, 0, [8, 8, 0, 8, 0, 8, 3, 0], b" " * 32)  # header with C8
         # Expected fields of each `pes` line after the PID, named in docs/manual/survey.md.
-        begun = f"0 1 {FIRST} 0 heob/88080810 1 0"
+        begun = f"0 1 {FIRST_PTS} 0 heob/88080810 1 0"
         rows: list[tuple[str, list[bytes], list[str]]] = [
-            ("alike", each_frame(5), [f"0 5 {FIRST} {TICKS} b/ 1 0"]),
-            ("DOES", pes_packets_with([HEADER], [CLOSING], [CLOSING], [CLOSING]), [
-                begun, f"1 1 {FIRST + TICKS} 0 cb/ 1 0", f"2 2 {FIRST + 2 * TICKS} {TICKS} b/ 1 0"
+            ("alike", make_frame_headers(5), [f"0 5 {FIRST_PTS} {TICKS} b/ 1 0"]),
+            ("DOES", make_pes_packets_with([HEADER], [CLOSING], [CLOSING], [CLOSING]), [
+                begun, f"1 1 {FIRST_PTS + TICKS} 0 cb/ 1 0",
+                f"2 2 {FIRST_PTS + 2 * TICKS} {TICKS} b/ 1 0"
             ]),
-            ("CONTROL", pes_packets_with([HEADER], [HEADER], [again], [again], [HEADER]), [
-                begun, f"1 1 {FIRST + TICKS} 0 heob/88080810 1 0",
-                f"2 2 {FIRST + 2 * TICKS} {TICKS} heob/88080830 1 0",
-                f"4 1 {FIRST + 4 * TICKS} 0 heob/88080810 1 0"]),
-            ("UNITS", pes_packets_with([CLOSING], [CLOSING] * 2, [CLOSING] * 2, [CLOSING]), [
-                f"0 1 {FIRST} 0 b/ 1 0", f"1 2 {FIRST + TICKS} {TICKS} b/ 2 0",
-                f"3 1 {FIRST + 3 * TICKS} 0 b/ 1 0"]),
-            *((f"FAULT {fault}", with_third(place, byte), [
-                f"0 2 {FIRST} {TICKS} b/ 1 0", f"2 1 {FIRST + 2 * TICKS} 0 b/ 1 {fault}",
-                f"3 2 {FIRST + 3 * TICKS} {TICKS} b/ 1 0"]) for place, byte, fault in (
+            ("CONTROL", make_pes_packets_with([HEADER], [HEADER], [again], [again], [HEADER]), [
+                begun, f"1 1 {FIRST_PTS + TICKS} 0 heob/88080810 1 0",
+                f"2 2 {FIRST_PTS + 2 * TICKS} {TICKS} heob/88080830 1 0",
+                f"4 1 {FIRST_PTS + 4 * TICKS} 0 heob/88080810 1 0"]),
+            ("UNITS", make_pes_packets_with([CLOSING], [CLOSING] * 2, [CLOSING] * 2, [CLOSING]), [
+                f"0 1 {FIRST_PTS} 0 b/ 1 0", f"1 2 {FIRST_PTS + TICKS} {TICKS} b/ 2 0",
+                f"3 1 {FIRST_PTS + 3 * TICKS} 0 b/ 1 0"]),
+            *((f"FAULT {fault}", insert_third_packets(place, byte), [
+                f"0 2 {FIRST_PTS} {TICKS} b/ 1 0", f"2 1 {FIRST_PTS + 2 * TICKS} 0 b/ 1 {fault}",
+                f"3 2 {FIRST_PTS + 3 * TICKS} {TICKS} b/ 1 0"]) for place, byte, fault in (
                     (6, 0x44, 33), (7, 0xC0, 34), (9, 0x31, 36), (45, 0x20, 37), (49, 0x27, 39))),
-            ("STEP", [*each_frame(3), *each_frame(2, FIRST + 4 * TICKS)], [
-                f"0 3 {FIRST} {TICKS} b/ 1 0", f"3 2 {FIRST + 4 * TICKS} {TICKS} b/ 1 0"]),
-            ("no PTS", with_third(7, 0), [
-                f"0 2 {FIRST} {TICKS} b/ 1 0", "2 1 - 0 -/ 0 34",
-                f"3 2 {FIRST + 3 * TICKS} {TICKS} b/ 1 0"])]
-        for name, pes, wanted in rows:
-            lines = lines_of_kinds(self, of_pes(pes), "pes")
-            self.must(name, lines == [f"pes {TELETEXT_PID} {one}" for one in wanted], lines)
+            ("STEP", [*make_frame_headers(3), *make_frame_headers(2, FIRST_PTS + 4 * TICKS)], [
+                f"0 3 {FIRST_PTS} {TICKS} b/ 1 0", f"3 2 {FIRST_PTS + 4 * TICKS} {TICKS} b/ 1 0"]),
+            ("no PTS", insert_third_packets(7, 0), [
+                f"0 2 {FIRST_PTS} {TICKS} b/ 1 0", "2 1 - 0 -/ 0 34",
+                f"3 2 {FIRST_PTS + 3 * TICKS} {TICKS} b/ 1 0"])]
+        for name, pes, expected in rows:
+            lines = list_lines_of_kinds(self, list_pes_lines(pes), "pes")
+            self.must(name, lines == [f"pes {TELETEXT_PID} {item}" for item in expected], lines)
 
     def test_reads_teletext_headers_over_two_packets(self) -> None:
         for cut in (1, 3, 4, 8, 9, 13, 14, 45, 100):
-            maker = Maker(components())
+            maker = StreamMaker(make_components())
             maker.put_tables()
-            for frame, pes in enumerate(each_frame(30)):
-                maker.put_pcr(FIRST + TICKS * frame - AHEAD)
-                maker.put(VIDEO_PID, timed_video(FIRST + TICKS * frame))
-                maker.put_packet(TELETEXT_PID, BEGINS, pes[:cut])
+            for frame, pes in enumerate(make_frame_headers(30)):
+                maker.put_pcr(FIRST_PTS + TICKS * frame - PTS_AHEAD)
+                maker.put(VIDEO_PID, make_video_packet_at(FIRST_PTS + TICKS * frame))
+                maker.put_packet(TELETEXT_PID, PAYLOAD_START, pes[:cut])
                 maker.put_packet(TELETEXT_PID, 0, pes[cut:])
-            self.check(f"cut at {cut}", lines_of_kinds(self, maker.data, "ahead", "lead", "end"), [
+            self.check(f"cut at {cut}",
+                       list_lines_of_kinds(self, maker.data, "ahead", "lead", "end"), [
                 *(line for frame in (0, 25) for line in (
-                    lead(frame), f"ahead {TELETEXT_PID} {FIRST + TICKS * frame} {AHEAD}")),
-                f"end {TELETEXT_PID} 30 0 60 0 0 0 {FIRST + TICKS * 29}"])
+                    lead(frame), f"ahead {TELETEXT_PID} {FIRST_PTS + TICKS * frame} {PTS_AHEAD}")),
+                f"end {TELETEXT_PID} 30 0 60 0 0 0 {FIRST_PTS + TICKS * 29}"])
 
-    def test_reports_what_extract_refuses(self) -> None:
+    def test_reports_faults_that_extract_refuses(self) -> None:
         length = (184).to_bytes(2, "big"), (10 * 184 - 6).to_bytes(2, "big")
-        for pes, refusal in ((each_frame(5), 0), (with_third(3, 0xBE), 31), (with_third(0, 1), 31),
-                             (with_third(4, *length[0]), 32), (with_third(4, *length[1]), 32),
-                             (with_third(4, 0, 0), 32), (with_third(45, 0x20), 0)):
-            lines = lines_of_kinds(self, of_pes(pes), "pes", "end")
+        for pes, refusal in ((make_frame_headers(5), 0), (insert_third_packets(3, 0xBE), 31),
+                             (insert_third_packets(0, 1), 31),
+                             (insert_third_packets(4, *length[0]), 32),
+                             (insert_third_packets(4, *length[1]), 32),
+                             (insert_third_packets(4, 0, 0), 32),
+                             (insert_third_packets(45, 0x20), 0)):
+            lines = list_lines_of_kinds(self, list_pes_lines(pes), "pes", "end")
             count, last = (2, 1) if refusal else (5, 0)
             self.must(f"{refusal}", lines[-1] == f"end {TELETEXT_PID} {count} 0 5 0 {refusal} "
-                      f"{last} {FIRST + 4 * TICKS}", lines)
+                      f"{last} {FIRST_PTS + 4 * TICKS}", lines)
             status, out = self.program("extract", self.path("one.ts"), self.path("out.pes"),
                                        "--pid", f"{TELETEXT_PID:#x}")
             self.must(f"{refusal}: extract", out[0].startswith(
@@ -569,67 +586,67 @@ class PesLines(Case):
                 out)
 
     def test_reports_whether_the_last_pes_packet_is_cut(self) -> None:
-        long = make_pes_packet(FIRST, [CLOSING] * 4)
+        long = make_pes_packet(FIRST_PTS, [CLOSING] * 4)
         untimed = long[:7] + bytes([long[7] & 0x3F]) + long[8:]
-        whole = make_pes_packet(FIRST, [CLOSING])
+        whole = make_pes_packet(FIRST_PTS, [CLOSING])
         rows: dict[str, tuple[list[bytes], int, int]] = {
             "not cut": ([whole, long], 0, 0),
-            "cut": ([whole, make_pes_packet(LAST, [CLOSING] * 4)], 1, 1),
+            "cut": ([whole, make_pes_packet(LAST_PTS, [CLOSING] * 4)], 1, 1),
             "the same PTS": ([whole, long], 1, 1), "no PTS": ([whole, untimed], 1, 1),
             "not cut, no PTS": ([long, untimed], 0, 0)}
         for name, (several, count_skipped, cut) in rows.items():
-            maker = Maker(components())
+            maker = StreamMaker(make_components())
             maker.put_tables()
             for pes in several:
                 maker.put(TELETEXT_PID, pes)
             data = b"".join(maker.packets[:-1] if count_skipped else maker.packets)
-            self.check(name, lines_of_kinds(self, data, "end")[0].split()[7], str(cut))
-        maker = Maker(components())
+            self.check(name, list_lines_of_kinds(self, data, "end")[0].split()[7], str(cut))
+        maker = StreamMaker(make_components())
         maker.put_tables()
         maker.put(TELETEXT_PID, whole)
-        maker.put_packet(TELETEXT_PID, BEGINS, long[:9])
-        self.check("cut before the PTS", lines_of_kinds(self, maker.data, "end"),
-                   [f"end {TELETEXT_PID} 1 0 2 0 0 1 {FIRST}"])
+        maker.put_packet(TELETEXT_PID, PAYLOAD_START, long[:9])
+        self.check("cut before the PTS", list_lines_of_kinds(self, maker.data, "end"),
+                   [f"end {TELETEXT_PID} 1 0 2 0 0 1 {FIRST_PTS}"])
 
     def test_reads_more_than_is_buffered(self) -> None:
-        pes = each_frame(1500)
-        data, last = of_pes(pes), FIRST + 1499 * TICKS
-        run = f"0 1500 {FIRST} {TICKS} b/ 1 0"
+        pes = make_frame_headers(1500)
+        data, last = list_pes_lines(pes), FIRST_PTS + 1499 * TICKS
+        run = f"0 1500 {FIRST_PTS} {TICKS} b/ 1 0"
         for size in (188, 192, 204):
-            made = with_packet_size(data, size)
+            result = change_packet_size(data, size)
             for name, more, skipped in (
-                    ("alone", made, 0), ("before", bytes(1000) + made, 1000),
-                    ("in it", made[:size * 1000] + bytes(100) + made[size * 1000:], 100),
+                    ("alone", result, 0), ("before", bytes(1000) + result, 1000),
+                    ("in it", result[:size * 1000] + bytes(100) + result[size * 1000:], 100),
                     # A time stamp of four bytes is not counted as skipped.
-                    ("behind", made + made[:100], 96 if size == 192 else 100)):
-                lines = lines_of_kinds(self, more, "pes", "end", "over")
+                    ("behind", result + result[:100], 96 if size == 192 else 100)):
+                lines = list_lines_of_kinds(self, more, "pes", "end", "over")
                 self.must(f"{size} {name}", lines == [
                     f"pes {TELETEXT_PID} {run}", f"end {TELETEXT_PID} 1500 0 1500 0 0 0 {last}",
                     f"over {skipped} 1502"], lines)
         for cut in (0, 100):
-            lines = lines_of_kinds(self, b"".join(pes) + pes[0][:cut], "pes", "damaged", "end",
-                                   "over")
+            lines = list_lines_of_kinds(self, b"".join(pes) + pes[0][:cut], "pes", "damaged", "end",
+                                        "over")
             self.must(f"a file, {cut}", lines == [
                 f"pes 0 {run}", *["damaged 0 1500 cut"][:cut], f"end 0 1500 0 0 0 0 0 {last}",
                 "over 0 0"], lines)
 
 
-FRAMES = each_frame(3)
+FRAMES = make_frame_headers(3)
 GAP_MARKER = b"\0\0\1\xbd\0\xb2" + b"\xff" * 178
 
 
-def of_teletext(pes: Iterable[bytes], change: Callable[[list[bytes]], list[bytes]] = list
-                ) -> bytes:
+def replace_teletext(pes: Iterable[bytes], change: Callable[[list[bytes]], list[bytes]] = list
+                     ) -> bytes:
     """Return a stream with tables and PES packets of Teletext. `change` changes its TS packets."""
-    maker = Maker(components())
+    maker = StreamMaker(make_components())
     maker.put_tables()
     tables = maker.taken()
-    for one in pes:
-        maker.put(TELETEXT_PID, one)
+    for item in pes:
+        maker.put(TELETEXT_PID, item)
     return b"".join([*tables, *change(maker.taken())])
 
 
-def without_second(packets: list[bytes]) -> list[bytes]:
+def remove_second_packet(packets: list[bytes]) -> list[bytes]:
     return [packets[0], *packets[2:]]
 
 
@@ -642,13 +659,13 @@ def scramble_second(packets: list[bytes]) -> list[bytes]:
     return [first, second[:3] + bytes([second[3] | 0x80]) + second[4:], *rest]
 
 
-def announce_second(packets: list[bytes]) -> list[bytes]:
+def announce_jump_in_second(packets: list[bytes]) -> list[bytes]:
     """Replace the second TS packet with a packet that has a discontinuity_indicator."""
     field = bytes([PACKET - 5, 0x80]).ljust(PACKET - 4, b"\xff")
-    return [packets[0], make_head(TELETEXT_PID, 0, ADAPTATION_ALONE) + field, *packets[2:]]
+    return [packets[0], make_packet_header(TELETEXT_PID, 0, ADAPTATION_ALONE) + field, *packets[2:]]
 
 
-def with_units(pes: bytes, data_unit_id: int) -> bytes:
+def replace_unit_ids(pes: bytes, data_unit_id: int) -> bytes:
     """Replace the data_unit_id of the first data unit of a PES packet."""
     return pes[:46] + bytes([data_unit_id]) + pes[47:]
 
@@ -666,76 +683,82 @@ class Listings(Case):
     def test_prints_all_lines_of_a_programme(self) -> None:
         other = make_packet(7, 0, [0, 5, 0, 8, 0, 8, 1, 0], b" " * 32)  # header of page 750
         decoded = "0b0b4869" + "20" * 36
-        begun = f"pes 257 0 1 {FIRST} 0 heob/88080810 1 0"
+        begun = f"pes 257 0 1 {FIRST_PTS} 0 heob/88080810 1 0"
         rows: dict[str, tuple[bytes, str]] = {
-            "rows": (of_teletext(pes_packets_with([HEADER, row_packet(20, b"Hi")], [CLOSING],
-                                                  [HEADER])),
-                     f"sub 257 888; pes 257 0 1 {FIRST} 0 heo/88080810 2 0; "
+            "rows": (replace_teletext(make_pes_packets_with([HEADER, make_numbered_row(20, b"Hi")],
+                                                            [CLOSING], [HEADER])),
+                     f"sub 257 888; pes 257 0 1 {FIRST_PTS} 0 heo/88080810 2 0; "
                      f"rows 257 0 20:{decoded}; "
                      f"pes 257 1 1 1003600 0 c/ 1 0; pes 257 2 1 1007200 0 heob/88080810 1 0; "
                      "rows 257 2 -; subs 257 888 2; end 257 3 0 3 0 0 0 1007200; over 0 5"),
-            "strays": (of_teletext(pes_packets_with([HEADER, CLOSING, row_packet(20, b"Hi")],
-                                                    [CLOSING])),
-                       f"sub 257 888; pes 257 0 1 {FIRST} 0 hecbs/88080810 3 0; rows 257 0 -; "
+            "strays": (replace_teletext(make_pes_packets_with([HEADER, CLOSING,
+                                                               make_numbered_row(20, b"Hi")],
+                                                              [CLOSING])),
+                       f"sub 257 888; pes 257 0 1 {FIRST_PTS} 0 hecbs/88080810 3 0; rows 257 0 -; "
                        f"strays 257 0 20:{decoded}; pes 257 1 1 1003600 0 b/ 1 0; subs 257 888 1; "
                        "end 257 2 0 2 0 0 0 1003600; over 0 4"),
             "data_unit_id 02": (
-                of_teletext([with_units(one, 2) for one in pes_packets_with([HEADER])]),
+                replace_teletext([replace_unit_ids(item, 2)
+                                  for item in make_pes_packets_with([HEADER])]),
                                 f"sub 257 888; {begun}; rows 257 0 -; subs 257 888 1; "
                                 "end 257 1 0 1 0 0 0 1000000; over 0 3"),
             "data_unit_id 04": (
-                of_teletext([with_units(one, 4) for one in pes_packets_with([HEADER])]),
+                replace_teletext([replace_unit_ids(item, 4)
+                                  for item in make_pes_packets_with([HEADER])]),
                                 "pes 257 0 1 1000000 0 b/ 0 0; end 257 1 0 1 0 0 0 1000000; "
                                 "over 0 3"),
-            "two pages": (of_teletext(pes_packets_with([HEADER], [other], [HEADER])),
+            "two pages": (replace_teletext(make_pes_packets_with([HEADER], [other], [HEADER])),
                           f"sub 257 888; {begun}; rows 257 0 -; sub 257 750; "
                           "pes 257 1 1 1003600 0 ob/ 1 0; pes 257 2 1 1007200 0 heob/88080810 1 0; "
                           "subs 257 888 2; subs 257 750 1; end 257 3 0 3 0 0 0 1007200; over 0 5"),
             "character sets": (
-                of_teletext(pes_packets_with([HEADER, character_set_packet(28, 0x24)],
-                                   [character_set_packet(29, 0x11, 4)],
-                                   [character_set_packet(29, 0x11, 1)])),
+                replace_teletext(make_pes_packets_with([HEADER,
+                                                        make_character_set_packet(28, 0x24)],
+                                   [make_character_set_packet(29, 0x11, 4)],
+                                   [make_character_set_packet(29, 0x11, 1)])),
                 "sub 257 888; set 257 28 0 4 4; pes 257 0 1 1000000 0 heob/88080810 2 0; "
                 "rows 257 0 -; set 257 29 4 2 1; pes 257 1 2 1003600 3600 ob/ 1 0; "
                 "subs 257 888 1; end 257 3 0 3 0 0 0 1007200; over 0 5"),
-            "a loss": (of_teletext(each_frame(3), without_second),
+            "a loss": (replace_teletext(make_frame_headers(3), remove_second_packet),
                        "pes 257 0 1 1000000 0 b/ 1 0; gap 257 1 1 0; "
                        "pes 257 2 1 1007200 0 b/ 1 0; end 257 3 1 2 0 0 0 1007200; over 0 4"),
             "a loss behind a repeat": (
-                of_teletext(each_frame(3), repeat_first_for_second),
+                replace_teletext(make_frame_headers(3), repeat_first_for_second),
                 "pes 257 0 1 1000000 0 b/ 1 0; gap 257 1 1 0; "
                 "pes 257 2 1 1007200 0 b/ 1 0; end 257 3 1 3 0 0 0 1007200; over 0 5"),
             "a gap marker": (
-                of_teletext([FRAMES[0], GAP_MARKER, FRAMES[1]]),
+                replace_teletext([FRAMES[0], GAP_MARKER, FRAMES[1]]),
                 "pes 257 0 1 1000000 0 b/ 1 0; gap 257 1 0 0; "
                 "pes 257 2 1 1003600 0 b/ 1 0; end 257 3 1 3 0 0 0 1003600; over 0 5"),
             "a loss before a gap marker": (
-                of_teletext([FRAMES[0], FRAMES[1], GAP_MARKER, FRAMES[2]], without_second),
+                replace_teletext([FRAMES[0], FRAMES[1], GAP_MARKER, FRAMES[2]],
+                                 remove_second_packet),
                 "pes 257 0 1 1000000 0 b/ 1 0; gap 257 1 1 0; gap 257 2 0 0; "
                 "pes 257 3 1 1007200 0 b/ 1 0; end 257 4 2 3 0 0 0 1007200; over 0 5"),
             "a loss after a gap marker": (
-                of_teletext([FRAMES[0], GAP_MARKER, *FRAMES[1:3]],
-                            lambda packets: [*packets[:2], *packets[3:]]),
+                replace_teletext([FRAMES[0], GAP_MARKER, *FRAMES[1:3]],
+                                 lambda packets: [*packets[:2], *packets[3:]]),
                 "pes 257 0 1 1000000 0 b/ 1 0; gap 257 1 0 0; gap 257 2 1 0; "
                 "pes 257 3 1 1007200 0 b/ 1 0; end 257 4 2 3 0 0 0 1007200; over 0 5"),
             "a scrambled packet": (
-                of_teletext(each_frame(3), scramble_second),
+                replace_teletext(make_frame_headers(3), scramble_second),
                 "pes 257 0 1 1000000 0 b/ 1 0; gap 257 1 1 1; pes 257 2 1 1007200 0 b/ 1 0; "
                 "end 257 3 1 3 1 0 0 1007200; over 0 5"),
             "an announced jump": (
-                of_teletext(each_frame(3), announce_second),
+                replace_teletext(make_frame_headers(3), announce_jump_in_second),
                 "seam 257 1; pes 257 0 2 1000000 7200 b/ 1 0; end 257 2 0 3 0 0 0 1007200; "
                 "over 0 5"),
             "half the clock": (
-                of_teletext([make_pes_packet(pts, [CLOSING]) for pts in (FIRST, FIRST + CLOCK //
-                                                                         2)]),
+                replace_teletext([make_pes_packet(pts, [CLOSING])
+                                  for pts in (FIRST_PTS, FIRST_PTS + CLOCK //
+                                              2)]),
                 f"pes 257 0 2 1000000 {-CLOCK // 2} b/ 1 0; "
-                f"end 257 2 0 2 0 0 0 {FIRST + CLOCK // 2}; over 0 4"),
+                f"end 257 2 0 2 0 0 0 {FIRST_PTS + CLOCK // 2}; over 0 4"),
             "a tick less": (
-                of_teletext([make_pes_packet(pts, [CLOSING])
-                             for pts in (FIRST, FIRST + CLOCK // 2 - 1)]),
+                replace_teletext([make_pes_packet(pts, [CLOSING])
+                                  for pts in (FIRST_PTS, FIRST_PTS + CLOCK // 2 - 1)]),
                 f"pes 257 0 2 1000000 {CLOCK // 2 - 1} b/ 1 0; "
-                f"end 257 2 0 2 0 0 0 {FIRST + CLOCK // 2 - 1}; over 0 4")}
+                f"end 257 2 0 2 0 0 0 {FIRST_PTS + CLOCK // 2 - 1}; over 0 4")}
         tables = ["size 188", "programme 1 512", "stream 512 2", "stream 257 6",
                   "announce 257 888 656e67 2", "teletext 257"]
         for name, (data, lines) in rows.items():
@@ -745,7 +768,7 @@ class Listings(Case):
         tables = ["size 188", "programme 1 512", "stream 512 2", "stream 257 6",
                   "announce 257 888 656e67 2", "teletext 257"]
         for flagged, passed, count, last in (((3, 15), 3, 12, "0 0"), ((20,), 20, 10, "0 0 20 1")):
-            first = FIRST + TICKS * passed
+            first = FIRST_PTS + TICKS * passed
             self.check(f"{flagged}", self.lines_of(pictures(flagged)), [
                 *tables, f"video 512 {passed}",
                 *(f"picture 512 {first + TICKS * at}" for at in range(count)),
@@ -753,7 +776,7 @@ class Listings(Case):
                 "end 257 0 0 0 0 0 0 -", "over 0 62"])
 
     def test_prints_all_lines_of_other_files(self) -> None:
-        two = b"".join(each_frame(2))
+        two = b"".join(make_frame_headers(2))
         run, end = "pes 0 0 2 1000000 3600 b/ 1 0", "end 0 2 0 0 0 0 0 1003600"
         rows: dict[str, tuple[bytes, list[str]]] = {
             "two": (two, ["size 0", run, end, "over 0 0"]),
@@ -784,7 +807,7 @@ class SurveyAnswers(Case):
                     received.refuse(status)
 
     def test_reads_each_kind_of_line(self) -> None:
-        def on_5(received: Survey) -> Packets:
+        def get_packets_of_pid_5(received: Survey) -> Packets:
             return received.by_pid[5]
 
         rows: list[tuple[str, Callable[[Survey], object], object]] = [
@@ -799,8 +822,8 @@ class SurveyAnswers(Case):
              [ProgramMap(2, 9, {5: 6, 9: 27}, {5: [
                  Announced((0, 0x88), "eng", 2), Announced((1, 0x50), "\xe9ng", 5),
                  Announced((0, 0xFF), "eng", 1)]}), ProgramMap(1, 8, {9: 2})]),
-            ("sub 5 888; subs 5 888 9; subs 5 150 7", lambda it: on_5(it).header_counts,
-             {"888": 9, "150": 7}),
+            ("sub 5 888; subs 5 888 9; subs 5 150 7",
+             lambda it: get_packets_of_pid_5(it).header_counts, {"888": 9, "150": 7}),
             *(("programme 1 9; stream 5 6; announce 5 888 656e67 2; announce 5 888 656e67 2; " +
                "; ".join(f"sub 5 2{page}" for page in range(9 + count, 9, -1)),
                lambda it: it.lines(), [
@@ -810,46 +833,55 @@ class SurveyAnswers(Case):
             # A PMT is dated by the last PCR on its PCR PID, or else on one of its eight previous
             # PCR PIDs.
             *((f"pcr 9 5; programme 1 9; pcr 9 8; {more}",
-               lambda it: [one.after for one in it.programmes[1:]], wanted) for more, wanted in (
+               lambda it: [programme.after for programme in it.programmes[1:]], expected)
+              for more, expected in (
                    ("pcr 8 20; programme 1 8; programme 1 7; programme 2 7; programme 1 9",
                     [20, 20, None, 8]),
                    ("; ".join(["programme 1 7"] * 9), [8] * 9),
                    ("; ".join(f"programme 1 {pid}" for pid in range(10, 20)),
                     [8] * 8 + [None] * 2))),
-            ("pes 5 3 2 - 0 -/ 4 33; pes 5 5 9 0 -10 he/08080810+0 1 0", lambda it: on_5(it).runs,
+            ("pes 5 3 2 - 0 -/ 4 33; pes 5 5 9 0 -10 he/08080810+0 1 0",
+             lambda it: get_packets_of_pid_5(it).runs,
              [PacketRun(3, 2, None, 0, "-", "", 4, 33), PacketRun(5, 9, 0, -10, "he", "08080810+0",
                                                                   1)]),
             ("gap 5 0 1 2; pes 5 1 5 7 10 -/ 1 0; gap 5 6 3 0; gap 5 7 0 4; pes 5 8 1 9 0 -/ 1 0; "
-             "gap 5 9 1 0", lambda it: (on_5(it).gap_markers, [run.first for run in on_5(it).runs]),
+             "gap 5 9 1 0", lambda it: (get_packets_of_pid_5(it).gap_markers,
+                                        [run.first for run in get_packets_of_pid_5(it).runs]),
              ([GapMarker(0, None, 1, 2), GapMarker(6, 47, 3, 0), GapMarker(7, 47, 0, 4),
                GapMarker(9, 9, 1, 0)],
               [0, 1, 6, 7, 8, 9])),
             ("clock 5 - 9 900 8 90 7 broken; clock 5 0 - -1 2 3 4 whole",
-             lambda it: on_5(it).pcr_steps, [PCRStep(None, 9, 900, 8, 90, 7, "broken"),
-                                             PCRStep(0, None, -1, 2, 3, 4, "whole")]),
-            ("ahead 5 9 -7; ahead 5 0 3", lambda it: on_5(it).samples, [(9, -7), (0, 3)]),
-            ("set 5 28 0 1 -; set 5 29 4 - 7", lambda it: on_5(it).character_sets,
+             lambda it: get_packets_of_pid_5(it).pcr_steps,
+             [PCRStep(None, 9, 900, 8, 90, 7, "broken"),
+              PCRStep(0, None, -1, 2, 3, 4,
+                                                                     "whole")]),
+            ("ahead 5 9 -7; ahead 5 0 3", lambda it: get_packets_of_pid_5(it).samples,
+             [(9, -7), (0, 3)]),
+            ("set 5 28 0 1 -; set 5 29 4 - 7", lambda it: get_packets_of_pid_5(it).character_sets,
              [(28, 0, 1, None), (29, 4, None, 7)]),
-            ("strays 5 3 20:41,21:4243; strays 5 9 -", lambda it: on_5(it).stray_rows,
+            ("strays 5 3 20:41,21:4243; strays 5 9 -",
+             lambda it: get_packets_of_pid_5(it).stray_rows,
              [(3, ((20, b"A"), (21, b"BC"))), (9, ())]),
             # Damaged spaces and rows of spaces do not change the text.
             ("pes 5 0 1 100 0 he/ 1 0; rows 5 0 20:2041a042; pes 5 1 3 200 50 o/ 1 0; "
              "rows 5 1 20:20412042,21:2020; rows 5 3 -; pes 5 4 1 9 0 o/ 1 0; rows 5 4 20:20412042"
              "; pes 5 5 1 10 0 o/ 1 0; rows 5 5 21:20412042",
-             lambda it: (on_5(it).decoded_rows, on_5(it).changes),
+             lambda it: (get_packets_of_pid_5(it).decoded_rows, get_packets_of_pid_5(it).changes),
              ([(0, ((20, b" A\xa0B"),)), (1, ((20, b" A B"), (21, b"  "))), (3, ()),
                (4, ((20, b" A B"),)), (5, ((21, b" A B"),))],
               [PageChange(100, b"AB", 0, ((20, b" A B"),)), PageChange(300, b"", 3),
                PageChange(9, b"AB", 4, ((20, b" A B"),)),
                PageChange(10, b"AB", 5, ((21, b" A B"),))])),
-            ("damaged 5 3 start", lambda it: on_5(it).damage,
+            ("damaged 5 3 start", lambda it: get_packets_of_pid_5(it).damage,
              "PES packet 3 does not begin with 00 00 01 BD"),
-            ("damaged 5 0 cut", lambda it: on_5(it).damage, "PES packet 0 is incomplete"),
+            ("damaged 5 0 cut", lambda it: get_packets_of_pid_5(it).damage,
+             "PES packet 0 is incomplete"),
             *((f"end 5 7 8 30 4 {refusal} {cut} {begun}", lambda it: (
-                on_5(it).packets, on_5(it).scrambled, on_5(it).refusal, on_5(it).is_cut,
-                on_5(it).last_pts), (30, 4, refusal, bool(cut), pts))
+                get_packets_of_pid_5(it).packets, get_packets_of_pid_5(it).scrambled,
+                get_packets_of_pid_5(it).refusal, get_packets_of_pid_5(it).is_cut,
+                get_packets_of_pid_5(it).last_pts), (30, 4, refusal, bool(cut), pts))
               for refusal, cut, begun, pts in ((31, 1, "77", 77), (0, 0, "-", None), (0, 0, 0, 0))),
-            ("seam 5 7; seam 5 9", lambda it: on_5(it).counter_jumps, [7, 9]),
+            ("seam 5 7; seam 5 9", lambda it: get_packets_of_pid_5(it).counter_jumps, [7, 9]),
             ("video 9 3; picture 9 0; picture 9 -; group 9 0 1 open", lambda it: it.videos,
              {9: Video(3, [0, None], form="open")}),
             ("pictures 9 1 2", lambda it: it.videos, {9: Video(0, [], 1, 2)}),
@@ -857,12 +889,12 @@ class SurveyAnswers(Case):
             ("pictures 9 0 0 7 0", lambda it: it.videos, {9: Video(7, [], 0, 0, True)}),
             ("lead 5 7 -9 9 3; lead 5 8 0 9 4; lead 5 1 2 8 1", lambda it: it.leads,
              {(5, 9): [VideoLead(7, -9, 3), VideoLead(8, 0, 4)], (5, 8): [VideoLead(1, 2, 1)]})]
-        for lines, known, wanted in rows:
+        for lines, known, expected in rows:
             for more in ("", " more")[:1 if "sub" in lines or "pictures" in lines else 2]:
                 received = read_survey(*(line + more for line in lines.split("; ")))
-                self.must(f"{lines}{more}", known(received) == wanted, known(received))
+                self.must(f"{lines}{more}", known(received) == expected, known(received))
 
-    def test_takes_the_last_pcr_before_a_pmt(self) -> None:
+    def test_uses_the_last_pcr_before_a_pmt(self) -> None:
         chance = random.Random(7)
         for _ in range(200):
             received, used, clocks = Survey(), dict[int, list[int]](), dict[int, int]()
@@ -874,9 +906,9 @@ class SurveyAnswers(Case):
                     continue
                 received.read_line(f"programme {number} {pid}")
                 before = used.setdefault(number, [])
-                known = [one for one in [*dict.fromkeys(reversed(before))][:8] if one in clocks]
-                wanted = clocks.get(pid, clocks[known[0]] if known else None)
-                self.assertEqual(received.programmes[-1].after, wanted, (before, pid, clocks))
+                known = [item for item in [*dict.fromkeys(reversed(before))][:8] if item in clocks]
+                expected = clocks.get(pid, clocks[known[0]] if known else None)
+                self.assertEqual(received.programmes[-1].after, expected, (before, pid, clocks))
                 before.append(pid)
 
     def fake_survey(self, lines: Sequence[str], status: int = 0) -> str:
@@ -889,11 +921,11 @@ class SurveyAnswers(Case):
 
     def test_calls_the_listener_after_each_line(self) -> None:
         looks = list[int]()
-        found = survey(self.fake_survey([]), "-one.ts", PAGE, 5, lambda: looks.append(1))
-        self.must("words", found.head == b"survey --page 888 --pid 0x5 -- -one.ts"
-                  and len(looks) == 4, found.head)
-        found = survey(self.fake_survey([]), "one.ts", PAGE)
-        self.must("no more", found.head == b"survey --page 888 -- one.ts", found.head)
+        result = survey(self.fake_survey([]), "-one.ts", PAGE, 5, lambda: looks.append(1))
+        self.must("words", result.head == b"survey --page 888 --pid 0x5 -- -one.ts"
+                  and len(looks) == 4, result.head)
+        result = survey(self.fake_survey([]), "one.ts", PAGE)
+        self.must("no more", result.head == b"survey --page 888 -- one.ts", result.head)
         with self.assertRaises(ProgramInterrupted):
             survey(self.fake_survey([], 3), "one.ts", PAGE)
 
@@ -901,13 +933,13 @@ class SurveyAnswers(Case):
         runs = [f"pes 0 {number} 1 {number} 0 -/ 1 0" for number in range(4)]
         rows = "rows 0 0 20:41", "rows 0 2 -", "rows 0 3 20:41"
         lines = [runs[0], rows[0], runs[1], runs[2], rows[1], runs[3], rows[2]]
-        for count, wanted in enumerate([[], [((20, b"A"),)], [((20, b"A"),), None]]):
+        for count, expected in enumerate([[], [((20, b"A"),)], [((20, b"A"),), None]]):
             reported = [*survey_runs(self.fake_survey(lines[:2 * count - (count == 2)]), "one.pes",
                                      PAGE)]
-            self.must(f"{count}", [texts for _, texts in reported] == wanted, reported)
+            self.must(f"{count}", [texts for _, texts in reported] == expected, reported)
         reported = list[tuple[PacketRun, Texts | None]]()
         with self.assertRaises(ProgramInterrupted):
-            for one in survey_runs(self.fake_survey(lines, 3), "one.pes", PAGE):
-                reported.append(one)
+            for item in survey_runs(self.fake_survey(lines, 3), "one.pes", PAGE):
+                reported.append(item)
         self.must("all", [(run.first, texts) for run, texts in reported] == [
             (0, ((20, b"A"),)), (1, None), (2, ())], reported)

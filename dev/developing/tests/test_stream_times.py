@@ -11,13 +11,14 @@ from typing import Any, Iterator, Sequence
 from subtitles.clock.alignment import ExpectedSubtitle, MAX_BASES, find_time_bases
 from subtitles.clock.start import count_skipped, find_frame_offset, find_largest_offset
 from subtitles.clock.stretches import (
-    LEAST_BREAK, LEAST_GAP, Stretch, find_stretches, split_at_breaks)
+    MIN_BREAK_FRAMES, MIN_GAP_FRAMES, Stretch, find_stretches, split_at_breaks)
 from subtitles.common.times import (
-    CLOCK, EARLY_TICKS, FRAMES_OF_A_DAY, NO_FRAME, Spans, TICKS, frame_at, frame_in, frames_at,
-    join_spans, pts_of, ticks_after, ticks_between, ticks_within, wrap_pts)
+    CLOCK, EARLY_TICKS, FRAMES_OF_A_DAY, NO_FRAME, Spans, TICKS, compute_frame, find_frame_of_day,
+    find_frames_of_day, join_spans, pts_of, subtract_origin, subtract_pts, subtract_pts_within,
+    wrap_pts)
 from subtitles.stream.gaps import (
-    ClockJump, LossPlace, SECOND, describe_loss, find_clock_jumps, find_loss_places,
-    find_pts_anomalies, loss_line)
+    ClockJump, LossPlace, SECOND, describe_loss, describe_loss_place, find_clock_jumps,
+    find_loss_places, find_pts_anomalies)
 from subtitles.stream.packets import (
     GapMarker, PCRStep, PacketRun, Packets, PageChange, Texts, parse_headers)
 from subtitles.stream.ranges import find_range, is_outside
@@ -25,12 +26,12 @@ from subtitles.stream.survey import Survey
 from .parts import read_survey
 
 
-def packets_with(pts: Sequence[int | None], **more: Any) -> Packets:
+def make_packets_with_pts(pts: Sequence[int | None], **more: Any) -> Packets:
     """Return PES packets with these PTS; `None` stands for a gap marker."""
-    found = Packets(257, **more)
-    found.runs = [PacketRun(number, 1, None if one is None else one % CLOCK, 0, "m" if one is None
-                            else "h", "") for number, one in enumerate(pts)]
-    return found
+    packets = Packets(257, **more)
+    packets.runs = [PacketRun(number, 1, None if item is None else item % CLOCK, 0, "m"
+                              if item is None else "h", "") for number, item in enumerate(pts)]
+    return packets
 
 
 def clocked(before: int, ticks: int, counters: str, packets: int = 100) -> PCRStep:
@@ -40,19 +41,20 @@ def clocked(before: int, ticks: int, counters: str, packets: int = 100) -> PCRSt
 
 def find_airings(numbers: set[int]) -> list[tuple[int, int]]:
     """Return the first and last number of each group of consecutive numbers."""
-    firsts = sorted(one for one in numbers if one - 1 not in numbers)
-    return list(zip(firsts, sorted(one for one in numbers if one + 1 not in numbers)))
+    firsts = sorted(number for number in numbers if number - 1 not in numbers)
+    return list(zip(firsts, sorted(number for number in numbers if number + 1 not in numbers)))
 
 
 DAY = TICKS * FRAMES_OF_A_DAY
-BEFORE = (CLOCK - DAY) // 2  # maximum number of ticks by which a PTS may precede its origin
+# maximum number of ticks by which a PTS may precede its origin
+MAX_TICKS_BEFORE = (CLOCK - DAY) // 2
 
 
-def all_over_the_clock(chance: random.Random) -> Iterator[tuple[int, int]]:
+def choose_pts_around_clock(chance: random.Random) -> Iterator[tuple[int, int]]:
     """Yield origins, each with a PTS distance, from the complete range of the 33-bit clock."""
     for origin in (0, 1, TICKS, CLOCK // 2, CLOCK - 1,
                    *(chance.randrange(CLOCK) for _ in range(9))):
-        for at in (0, TICKS, CLOCK // 2, DAY, CLOCK - BEFORE, CLOCK, *(
+        for at in (0, TICKS, CLOCK // 2, DAY, CLOCK - MAX_TICKS_BEFORE, CLOCK, *(
                 chance.randrange(CLOCK // TICKS) * TICKS for _ in range(30))):
             for ticks in (at - EARLY_TICKS - 1, at - EARLY_TICKS, at - 1, at, at + 1,
                           at + TICKS // 2):
@@ -69,25 +71,26 @@ def text_of(number: int, does: str) -> Texts:
 
 class ClockTables(unittest.TestCase):
     def test_treats_pts_as_if_they_never_wrapped(self) -> None:
-        for origin, ticks in all_over_the_clock(random.Random(26)):
+        for origin, ticks in choose_pts_around_clock(random.Random(26)):
             pts = (origin + ticks) % CLOCK
             frame, rest = divmod(ticks, TICKS)
             later = (ticks + EARLY_TICKS) % CLOCK // TICKS
             frames = [frame if not rest and frame < FRAMES_OF_A_DAY else None,
                       later if later < FRAMES_OF_A_DAY else None]
-            after = ticks if ticks < CLOCK - BEFORE else ticks - CLOCK
-            found = (wrap_pts(origin + ticks), pts_of(frame, origin),
-                     frame_in(pts, origin), frame_in(pts, origin, 1),
-                     [frame_at(pts, origin, within) for within in (0, 1)],
-                     [[None if one == NO_FRAME else one for one in frames_at([pts], origin, within)]
-                      for within in (0, 1)],
-                     ticks_between(origin, pts), ticks_within(origin, DAY, pts),
-                     ticks_after(origin, pts), find_largest_offset([pts], origin),
-                     find_frame_offset(packets_with([pts]), origin, 0))
-            wanted = (pts, (pts - rest) % CLOCK, frame, later, frames, [[one] for one in frames],
-                      ticks if ticks < CLOCK // 2 else ticks - CLOCK, after, after,
-                      min(after % TICKS, -after % TICKS), after % TICKS)
-            self.assertEqual(found, wanted, (origin, ticks))
+            after = ticks if ticks < CLOCK - MAX_TICKS_BEFORE else ticks - CLOCK
+            result = (wrap_pts(origin + ticks), pts_of(frame, origin),
+                      compute_frame(pts, origin), compute_frame(pts, origin, 1),
+                      [find_frame_of_day(pts, origin, within) for within in (0, 1)],
+                      [[None if item == NO_FRAME else item
+                        for item in find_frames_of_day([pts], origin, within)]
+                       for within in (0, 1)],
+                      subtract_pts(origin, pts), subtract_pts_within(origin, DAY, pts),
+                      subtract_origin(origin, pts), find_largest_offset([pts], origin),
+                      find_frame_offset(make_packets_with_pts([pts]), origin, 0))
+            expected = (pts, (pts - rest) % CLOCK, frame, later, frames,
+                        [[item] for item in frames], ticks if ticks < CLOCK // 2 else ticks - CLOCK,
+                        after, after, min(after % TICKS, -after % TICKS), after % TICKS)
+            self.assertEqual(result, expected, (origin, ticks))
 
     def test_counts_missing_pictures_for_any_first_pts(self) -> None:
         chance = random.Random(27)
@@ -97,22 +100,22 @@ class ClockTables(unittest.TestCase):
                        for at in chance.sample(range(20), 20)]
                 self.assertEqual(count_skipped(pts, False), missing, (origin, pts))
 
-    def test_answers_questions_on_spans_as_a_plain_list_does(self) -> None:
+    def test_spans_agree_with_a_list_of_frames(self) -> None:
         chance = random.Random(7)
         for _ in range(300):
             several = [Spans(sorted((first, first + chance.randrange(6)) for first in chance.sample(
                 range(40), chance.randrange(5)))) for _ in range(3)]
-            one, other, third = ({number for first, last in spans for number in range(
+            item, other, third = ({number for first, last in spans for number in range(
                 first, last + 1)} for spans in several)
             begin, end = sorted((chance.randrange(45), chance.randrange(45)))
             spans = several[0]
             self.assertEqual((list(spans), spans.total(), len(spans)), (
-                find_airings(one), len(one), len(find_airings(one))))
+                find_airings(item), len(item), len(find_airings(item))))
             self.assertEqual(list(spans.between(begin, end)), [
                 span for span in spans if span[1] >= begin and span[0] < end])
-            self.assertEqual(list(spans.without([*several[1], *several[2]])),
-                             find_airings(one - other - third))
-            self.assertEqual(list(join_spans(several)), find_airings(one | other | third))
+            self.assertEqual(list(spans.exclude([*several[1], *several[2]])),
+                             find_airings(item - other - third))
+            self.assertEqual(list(join_spans(several)), find_airings(item | other | third))
         falling = Spans([(7, 9), (1, 3), (4, 8)])
         self.assertEqual((list(falling), falling.is_rising()), ([(7, 9), (1, 8)], False))
         self.assertEqual(list(join_spans([falling])), [(1, 9)])
@@ -123,10 +126,10 @@ class ClockTables(unittest.TestCase):
                 (0, 5, CLOCK // 2, CLOCK - 1)):
             room = (CLOCK - length) // 2
             for later in (-room, -1, 0, 1, length // 2, length, length + room - 1):
-                self.assertEqual(ticks_within(first, length, (first + later) % CLOCK), later,
+                self.assertEqual(subtract_pts_within(first, length, (first + later) % CLOCK), later,
                                  (length, first))
 
-    def test_answers_questions_on_pes_packets_as_a_plain_list_does(self) -> None:
+    def test_packets_agree_with_a_list_of_pes_packets(self) -> None:
         chance = random.Random(7)
         for _ in range(400):
             packets, known = Packets(5), list[tuple[int, int | None, str]]()
@@ -139,21 +142,21 @@ class ClockTables(unittest.TestCase):
                 packets.runs.append(run)
                 self.assertEqual((run.last, packets.count), (known[-1][1], len(known)))
             first, last = chance.randrange(-1, 20), chance.randrange(-1, 40)
-            inside = [one for one in known if first <= one[0] <= last]
-            self.assertEqual([one for run in packets.runs_between(first, last)
-                              for one in Packets(5, [run])], inside)
+            inside = [item for item in known if first <= item[0] <= last]
+            self.assertEqual([item for run in packets.list_runs_between(first, last)
+                              for item in Packets(5, [run])], inside)
             self.assertEqual(list(packets), known)
             for does, some, several in (("", None, known), ("h", (first, last), inside)):
                 self.assertEqual(list(packets.pts(some, does)), [
-                    pts for _, pts, done in several if pts is not None and does in done],
+                    pts for _, pts, kinds in several if pts is not None and does in kinds],
                                  (does, some, several))
-            self.assertEqual([packets.pts_at(number) for number in range(-1, len(known) + 1)],
+            self.assertEqual([packets.get_pts(number) for number in range(-1, len(known) + 1)],
                              [None, *(pts for _, pts, _ in known), None])
             timed = [(number, pts) for number, pts, _ in known if pts is not None]
             begins = [0] + [timed[at][0] for at in range(2, len(timed) - 1) if all(
-                ticks_between(new, old) > 0 for _, old in timed[at - 2:at]
+                subtract_pts(new, old) > 0 for _, old in timed[at - 2:at]
                 for _, new in timed[at:at + 2])]
-            self.assertEqual([base.start for base in packets.time_bases()], begins)
+            self.assertEqual([base.start for base in packets.split_time_bases()], begins)
         self.assertEqual(parse_headers("0808081f+10"), (bytes([0, 8, 0, 8, 0, 8, 1, 15]), b"\1\0"))
 
     def test_begins_a_time_base_where_pts_go_back(self) -> None:
@@ -163,34 +166,34 @@ class ClockTables(unittest.TestCase):
                 ([-2, -1, 0, 1], [0]), ([1, 2, -second * 2, -second], [0, 2]),
                 ([9, 10, 5, 11], [0]), ([9, 10, 5, 6, 1, 2], [0, 2, 4]),
                 ([0, 1, CLOCK // 2 - 9, CLOCK // 2 - 8], [0])):
-            bases = packets_with(pts).time_bases()
+            bases = make_packets_with_pts(pts).split_time_bases()
             self.assertEqual(bases, [range(*pair) for pair in zip(begins, [*begins[1:], len(pts)])],
                              pts)
 
     def test_selects_the_time_bases_with_the_most_changes(self) -> None:
         edges = [ExpectedSubtitle(100 * at, 100 * at + 50, at, b"%d" % at) for at in range(400)]
-        for count, wanted in ((MAX_BASES, MAX_BASES), (5000, MAX_BASES)):
-            packets = packets_with([10 ** 9 - TICKS * at for at in range(count + 2)])
+        for count, expected in ((MAX_BASES, MAX_BASES), (5000, MAX_BASES)):
+            packets = make_packets_with_pts([10 ** 9 - TICKS * at for at in range(count + 2)])
             packets.changes = [PageChange(run.pts or 0, b"x", run.first) for run in packets.runs]
             bases = find_time_bases(edges, packets, 0)
-            self.assertEqual((len(bases), find_stretches(bases)), (wanted, []), count)
+            self.assertEqual((len(bases), find_stretches(bases)), (expected, []), count)
         long = [*range(9000, 9400, 10), *range(5000, 0, -1)]
-        packets = packets_with([TICKS * at for at in long])
+        packets = make_packets_with_pts([TICKS * at for at in long])
         packets.changes = [PageChange(run.pts or 0, b"x%d" % run.first, run.first)
                            for run in packets.runs]
         self.assertEqual(find_time_bases(edges, packets, 0)[0].packets, (0, 39))
 
-    def test_takes_the_pcr_before_each_pmt(self) -> None:
+    def test_uses_the_pcr_before_each_pmt(self) -> None:
         survey = read_survey("pcr 513 7", *(f"programme 1 {512 + at % 2}" for at in range(200)))
-        self.assertEqual({one.after for one in survey.programmes[2:]}, {7})
+        self.assertEqual({programme.after for programme in survey.programmes[2:]}, {7})
         self.assertIsNone(survey.programmes[0].after)
 
-    def test_parts_a_programme_at_breaks(self) -> None:
-        five = LEAST_BREAK
+    def test_splits_a_programme_at_breaks(self) -> None:
+        five = MIN_BREAK_FRAMES
         for tracks, ends in (
                 ([(0, 0)], [9]), ([(0, 0), (0, -five)], [9, 18]), ([(0, 0), (0, 1 - five)], [18]),
                 ([(0, 0), (0, -1)], [18]), ([(0, 0), (0, 1)], [18]),
-                ([(0, 0), (0, LEAST_GAP - 1)], [18]), ([(0, 0), (0, LEAST_GAP)], [9, 18]),
+                ([(0, 0), (0, MIN_GAP_FRAMES - 1)], [18]), ([(0, 0), (0, MIN_GAP_FRAMES)], [9, 18]),
                 ([(0, 0), (1, 1)], [9, 18]), ([(0, 0), (1, -1)], [9, 18]),
                 ([(0, 0), (0, -five), (0, -2 * five)], [9, 18, 27]),
                 ([(0, 0), (0, -75), (0, -150)], [27]),  # two delays by three seconds
@@ -200,16 +203,17 @@ class ClockTables(unittest.TestCase):
                 ([(0, 0), (0, 5), (0, 0)], [27]), ([(0, 0), (0, 5), (0, -five)], [18, 27])):
             row: Any = [Stretch(SimpleNamespace(base=base, start=start),  # type: ignore[arg-type]
                                 9 * at, 9 * at + 9) for at, (base, start) in enumerate(tracks)]
-            self.assertEqual([one.end for one in split_at_breaks(row)], ends, tracks)
+            self.assertEqual([at_break.end for at_break in split_at_breaks(row)], ends, tracks)
 
-    def test_takes_the_pcr_pid_of_the_last_programme(self) -> None:
-        self.assertIsNone(Survey().clock_of(257))
+    def test_uses_the_pcr_pid_of_the_last_programme(self) -> None:
+        self.assertIsNone(Survey().get_pcr_range(257))
         survey = read_survey("programme 1 100", "stream 257 6", "programme 2 200", "stream 257 6",
                           "programme 3 300", "stream 258 6", "pcr 100 5", "pcr 200 9", "pcr 300 1",
                           "pcr 100 8", "pcr 200 11")
-        self.assertEqual([survey.clock_of(pid) for pid in (257, 258, 259)], [(9, 11), (1, 1), None])
+        self.assertEqual([survey.get_pcr_range(pid)
+                          for pid in (257, 258, 259)], [(9, 11), (1, 1), None])
 
-    def test_finds_unusual_pts_with_the_worst(self) -> None:
+    def test_finds_unusual_pts_and_the_worst_one(self) -> None:
         rows: list[tuple[list[int], list[tuple[str, int, int]]]] = [
                 ([], []), ([-5, -700, -20], [("behind", 3, -700)]), ([-1], [("behind", 1, -1)]),
                 ([SECOND, SECOND + 1], [("early", 1, SECOND + 1), ("changed", 2, SECOND - 999)]),
@@ -218,14 +222,15 @@ class ClockTables(unittest.TestCase):
         # The rows begin after the first minute, or before a PTS wrap in the first minute.
         for begin, (more, wanted) in itertools.product((61, -100), rows):
             ahead = [*enumerate([30_000, *[1000] * 8]), *enumerate(more, begin)]
-            samples = [(SECOND * (at - 3) % CLOCK, one) for at, one in ahead]
-            found = list(find_pts_anomalies(packets_with([], samples=samples)))
-            self.assertEqual([(one.kind, one.number, one.worst) for one in found], wanted, more)
-            self.assertTrue(all(one.total == len(samples) and one.pts in dict(samples[9:])
-                                for one in found), (begin, more))
+            samples = [(SECOND * (at - 3) % CLOCK, item) for at, item in ahead]
+            result = list(find_pts_anomalies(make_packets_with_pts([], samples=samples)))
+            self.assertEqual([(item.kind, item.number, item.worst) for item in result],
+                             wanted, more)
+            self.assertTrue(all(item.total == len(samples) and item.pts in dict(samples[9:])
+                                for item in result), (begin, more))
         for alone, kind in ((-5, "behind"), (0, ""), (SECOND, ""), (SECOND + 1, "early")):
-            found = list(find_pts_anomalies(packets_with([], samples=[(7, alone)])))
-            self.assertEqual([(one.kind, one.pts) for one in found], [(kind, 7)] * bool(kind),
+            result = list(find_pts_anomalies(make_packets_with_pts([], samples=[(7, alone)])))
+            self.assertEqual([(item.kind, item.pts) for item in result], [(kind, 7)] * bool(kind),
                              (alone, kind))
 
     def test_lists_gap_markers_and_losses_once(self) -> None:
@@ -238,11 +243,12 @@ class ClockTables(unittest.TestCase):
                 ([1], [], [(100, 0)]), ([1], [hole], [(100, 0), (500, 90_000)]),
                 ([1], [clocked(150, 99_000, "broken")], [(100, 0)]),
                 ([], [clocked(500, 99_000, "whole"), clocked(500, 99_000, "unknown")], [])]
-        for marks, several, wanted in rows:
-            packets = packets_with([100, None, 200, 600], pcr_steps=several, gap_markers=[
+        for marks, several, expected in rows:
+            packets = make_packets_with_pts([100, None, 200, 600], pcr_steps=several, gap_markers=[
                 GapMarker(number, 100, 3, 0) for number in marks])
-            self.assertEqual([(one.before, one.missing) for one in find_loss_places(packets)],
-                             wanted, (marks, several))
+            self.assertEqual([(loss_place.before, loss_place.missing)
+                              for loss_place in find_loss_places(packets)],
+                             expected, (marks, several))
 
     def test_cuts_the_range_of_each_row(self) -> None:
         """Test the range found for frames 100 to 200.
@@ -347,58 +353,61 @@ class ClockTables(unittest.TestCase):
              4),
             ("two behind, and no header", "100 -, 201 -, 202 -", whole, None, False, True, 3),
             ("nothing", "", every, None, False, False, 0)]
-        for name, sent, request, wanted, has_end, is_over, read in rows:
-            known = [one.split() for one in sent.split(", ") if one]
-            made = Packets(257, [
-                PacketRun(at, 1, None if one[0] == "m" else round(TICKS * float(one[0])), 0,
-                          "".join(one[1:]).strip("xy-"), "") for at, one in enumerate(known)],
-                changes=[PageChange(round(TICKS * float(one[0])), b"", at, text_of(at, one[-1]))
-                         for at, one in enumerate(known) if one[-1][-1] in "xy"])
+        for name, sent, request, expected, has_end, is_over, read in rows:
+            known = [item.split() for item in sent.split(", ") if item]
+            packets = Packets(257, [
+                PacketRun(at, 1, None if item[0] == "m" else round(TICKS * float(item[0])), 0,
+                          "".join(item[1:]).strip("xy-"), "") for at, item in enumerate(known)],
+                changes=[PageChange(round(TICKS * float(item[0])), b"", at, text_of(at, item[-1]))
+                         for at, item in enumerate(known) if item[-1][-1] in "xy"])
             begin, end, bound, within = (*request, None, 0)[:4] if len(request) < 4 else request
-            found = find_range(made, begin or 0, end or 0, 0, bound, within or 0)
+            result = find_range(packets, begin or 0, end or 0, 0, bound, within or 0)
             low, high = 100 - (bound or 0), 200 + (bound or 0)
-            frames = [round(float(one[0].replace("m", "-1"))) for one in known]
+            frames = [round(float(item[0].replace("m", "-1"))) for item in known]
             came = [frame for frame in frames if low <= frame <= high]
-            taken = [frame for frame in frames[wanted[0]:] if frame >= 0] if wanted else []
+            taken = [frame for frame in frames[expected[0]:] if frame >= 0] if expected else []
             with self.subTest(name):
-                self.assertEqual((found.range, found.has_end, found.is_over, found.read),
-                                 (wanted, has_end, is_over, read))
-                first, last = wanted or (0, -1)
-                ends = [one for one in frames[first:last + 1] if low <= one <= high]
-                self.assertEqual((found.first_packet_frame, found.first, found.last), (
+                self.assertEqual((result.range, result.has_end, result.is_over, result.read),
+                                 (expected, has_end, is_over, read))
+                first, last = expected or (0, -1)
+                ends = [item for item in frames[first:last + 1] if low <= item <= high]
+                self.assertEqual((result.first_packet_frame, result.first, result.last), (
                     came[0] if came else None, taken[0] if taken else None,
                     ends[-1] if ends else None))
                 words = f"{read} PES packet{'s' * (read != 1)}"
-                self.assertTrue(found.describe().startswith(
-                    f"none of {words} at the time of the subtitles contains" if wanted is None
-                                else f"{wanted[1] - wanted[0] + 1} of {words}, from 00:00:0"))
-        made = Packets(257, [PacketRun(at, 1, TICKS * frame, 0, does, "") for at, (frame, does) in
-                             enumerate(((75, "he"), (100, "he"), (200, "heb")))],
-                       changes=[PageChange(TICKS * 75, b"", 0, text_of(0, "hey"))])
+                self.assertTrue(result.describe().startswith(
+                    f"none of {words} at the time of the subtitles contains" if expected is None
+                                else f"{expected[1] - expected[0] + 1} of {words}, from 00:00:0"))
+        packets = Packets(257,
+                          [PacketRun(at, 1, TICKS * frame, 0, does, "") for at, (frame, does) in
+                           enumerate(((75, "he"), (100, "he"), (200, "heb")))],
+                          changes=[PageChange(TICKS * 75, b"", 0, text_of(0, "hey"))])
         for within, is_continued in itertools.product((0, 1), (False, True)):
-            found = find_range(made, 100, 200, 0, 25, within, is_continued=is_continued)
-            self.assertEqual(found.range, (int(is_continued), 2), "the text was due before")
-        made = Packets(257, [PacketRun(at, 1, TICKS * (100 + at), 0, "he", "") for at in range(9)])
-        found = find_range(made, 100, 200, 0, 25, inside=(3, 5))
-        self.assertEqual((found.range, found.first_packet_frame, found.read), ((3, 5), 103, 7))
+            result = find_range(packets, 100, 200, 0, 25, within, is_continued=is_continued)
+            self.assertEqual(result.range, (int(is_continued), 2), "the text was due before")
+        packets = Packets(257,
+                          [PacketRun(at, 1, TICKS * (100 + at), 0, "he", "") for at in range(9)])
+        result = find_range(packets, 100, 200, 0, 25, inside=(3, 5))
+        self.assertEqual((result.range, result.first_packet_frame, result.read), ((3, 5), 103, 7))
         # Ranges at the start and end of the day.
-        for frames, begin, end, wanted in (([0, 5], 0, 9, (0, 1)), ([-50, -20, 0, 1], -50, -20,
-                                                                    (0, 1))):
-            first, last = (one % FRAMES_OF_A_DAY for one in (begin, end))
-            made = Packets(257, [PacketRun(at, 1, TICKS * (first + one - begin), 0, "h-h-"[at], "")
-                                 for at, one in enumerate(frames)])
-            found = find_range(made, first, last, 0, 25)
-            self.assertEqual((found.range, found.first_packet_frame, found.has_end),
-                             (wanted, first, False), (frames, begin, end))
+        for frames, begin, end, expected in (([0, 5], 0, 9, (0, 1)), ([-50, -20, 0, 1], -50, -20,
+                                                                      (0, 1))):
+            first, last = (item % FRAMES_OF_A_DAY for item in (begin, end))
+            packets = Packets(257,
+                              [PacketRun(at, 1, TICKS * (first + item - begin), 0, "h-h-"[at], "")
+                               for at, item in enumerate(frames)])
+            result = find_range(packets, first, last, 0, 25)
+            self.assertEqual((result.range, result.first_packet_frame, result.has_end),
+                             (expected, first, False), (frames, begin, end))
 
     def test_judges_a_gap_marker_just_after_the_last_frame(self) -> None:
-        for frames, wanted in (
+        for frames, expected in (
                 ([0, 50, None, 75], (0, 2)), ([0, 50, None, None, 75], (0, 3)),
                 ([0, 50, None], (0, 2)), ([0, 50, 75, None], (0, 1)), ([None, 0, 50, 75], (1, 2)),
                 ([0, None, 50, 75], (0, 2))):
-            pts = [None if one is None else TICKS * one for one in frames]
-            found = find_range(packets_with(pts), 0, 50, 0, 25).range
-            self.assertEqual(found, wanted, frames)
+            pts = [None if frame is None else TICKS * frame for frame in frames]
+            result = find_range(make_packets_with_pts(pts), 0, 50, 0, 25).range
+            self.assertEqual(result, expected, frames)
 
     def test_cuts_all_of_a_long_programme(self) -> None:
         hour, step = 90_000, 250
@@ -407,13 +416,13 @@ class ClockTables(unittest.TestCase):
             begin, end = before * hour, (before + hours) * hour
             for length, origin in itertools.product((1, 10, 360), (0, CLOCK - TICKS * end // 2)):
                 count = (before + hours + after) * hour // step
-                made = Packets(257, [
+                packets = Packets(257, [
                     PacketRun(at, length, (origin + TICKS * step * at) % CLOCK, TICKS * step, "heb",
                               "")
                     for at in range(0, count, length)])
-                found = find_range(made, begin, end, origin, step).range
-                wanted = max(begin // step - 1, 0), min(end // step, count - 1)
-                self.assertEqual(found, wanted, (hours, before, after, length, origin))
+                result = find_range(packets, begin, end, origin, step).range
+                expected = max(begin // step - 1, 0), min(end // step, count - 1)
+                self.assertEqual(result, expected, (hours, before, after, length, origin))
 
     def test_skips_only_runs_far_from_the_time(self) -> None:
         for first, step, length, shift in itertools.product(
@@ -426,23 +435,24 @@ class ClockTables(unittest.TestCase):
             self.assertTrue(step < 0 or frames[-1] >= 4 or is_outside(run, low, high), frames)
         self.assertTrue(is_outside(PacketRun(0, 9, None, 0, "m", ""), 0, 9))
 
-    def test_extends_a_range_to_the_longer_limit(self) -> None:
+    def test_extends_a_range_by_the_longer_limit(self) -> None:
         for (every, within), more in itertools.product(((25, 2), (25, 40), (2, 40)), (0, 1)):
             last = 100 + max(every, within) + more
-            made = Packets(257, [PacketRun(at, 1, TICKS * frame, 0, "heo", "") for at, frame in
-                                 enumerate((*range(80), last, last + 1, last + 2))])
-            found = find_range(made, 0, 100, 0, every, within)
-            self.assertEqual((found.range, found.has_end), ((0, 80 - more), not more),
+            packets = Packets(257, [PacketRun(at, 1, TICKS * frame, 0, "heo", "") for at, frame in
+                                    enumerate((*range(80), last, last + 1, last + 2))])
+            result = find_range(packets, 0, 100, 0, every, within)
+            self.assertEqual((result.range, result.has_end), ((0, 80 - more), not more),
                              (every, within, more))
 
     def test_finds_clock_jumps_where_nothing_is_missing(self) -> None:
-        for one, wanted in ((clocked(5, 99_000, "whole"), [ClockJump(5, 90_000)]),
-                            (clocked(5, 99_000, "broken"), []),
-                            (clocked(5, 99_000, "unknown"), []),
-                            (clocked(5, 99_000, "whole", 109), [ClockJump(5, 90_000)]),
-                            (clocked(5, 99_000, "whole", 110), []),
-                            (clocked(5, -99_000, "whole"), [ClockJump(5, -108_000)])):
-            self.assertEqual(list(find_clock_jumps(packets_with([], pcr_steps=[one]))), wanted, one)
+        for item, expected in ((clocked(5, 99_000, "whole"), [ClockJump(5, 90_000)]),
+                               (clocked(5, 99_000, "broken"), []),
+                               (clocked(5, 99_000, "unknown"), []),
+                               (clocked(5, 99_000, "whole", 109), [ClockJump(5, 90_000)]),
+                               (clocked(5, 99_000, "whole", 110), []),
+                               (clocked(5, -99_000, "whole"), [ClockJump(5, -108_000)])):
+            self.assertEqual(list(find_clock_jumps(make_packets_with_pts([], pcr_steps=[item]))),
+                             expected, item)
 
     def test_describes_losses(self) -> None:
         for place, words in (
@@ -458,13 +468,14 @@ class ClockTables(unittest.TestCase):
                  "after the first PTS)"),
                 (LossPlace(None, 7200, 1), "before PTS 7200 (00:00:00:02 after the first PTS)"),
                 (LossPlace(3600, None, 1), "after PTS 3600 (00:00:00:01 after the first PTS)")):
-            self.assertEqual(loss_line(place, 0), f"{words}: 1 TS packet was lost", place)
+            self.assertEqual(describe_loss_place(place, 0), f"{words}: 1 TS packet was lost", place)
         words = f"between PTS {CLOCK - 3600} and 3600 (00:00:00:01 and 00:00:00:03 after the " \
             "first PTS): "
         for first, last in ((CLOCK - 7200, 3600), (CLOCK - 7201, 3599)):
-            printed = loss_line(LossPlace(CLOCK - 3600, last, 1, 2), first)
+            printed = describe_loss_place(LossPlace(CLOCK - 3600, last, 1, 2), first)
             self.assertEqual(printed, words.replace(" 3600", f" {last}") +
                              "1 TS packet was lost, 2 TS packets were scrambled", (first, last))
-        self.assertEqual(loss_line(LossPlace(None, 3600, 0), None),
+        self.assertEqual(describe_loss_place(LossPlace(None, 3600, 0), None),
                          "before PTS 3600 (00:00:00:01 after the first PTS): a break in the stream")
-        self.assertEqual(loss_line(LossPlace(None, None, 1), None), "1 TS packet was lost")
+        self.assertEqual(describe_loss_place(LossPlace(None, None, 1), None),
+                         "1 TS packet was lost")

@@ -17,20 +17,20 @@ from subtitles.common.times import CLOCK, TICKS
 from subtitles.formats.stl import NEW_LINE
 from .bench import Case
 
-Sent = list[tuple[int, list[bytes]]]  # unwrapped PTS, and the packets with this PTS
-Change = Callable[[Sent], Sent]
-Shown = tuple[int, int, bytes]  # start frame, end frame and text of a subtitle on screen
+SentPes = list[tuple[int, list[bytes]]]  # unwrapped PTS, and the packets with this PTS
+Change = Callable[[SentPes], SentPes]
+ShownSubtitle = tuple[int, int, bytes]  # start frame, end frame and text of a subtitle on screen
 PAGE = (0, 0x88)
 HEADER = make_packet(0, 0, [8, 8, 0, 8, 0, 8, 1, 0], b" " * 32)  # page 888's header with erase_page
 CLOSING = make_packet(0, 0, [15, 15, 15, 7, 15, 3, 0, 0], b" " * 32)
 
 
-def row_packet(number: int, text: bytes) -> bytes:
+def make_numbered_row(number: int, text: bytes) -> bytes:
     """Return a packet with one row of page 888."""
     return make_packet(0, number, (), b"\x0b\x0b" + text.ljust(38))
 
 
-def write_subtitle_file(case: Case, subtitles: Iterable[Shown], name: str = "one.stl",
+def write_subtitle_file(case: Case, subtitles: Iterable[ShownSubtitle], name: str = "one.stl",
                         first: int = 1,
                   row: int = 22, justify: int = 2, language: bytes = b"09") -> str:
     """Write a subtitle file whose subtitle numbers count up from `first`. Return its path."""
@@ -48,46 +48,47 @@ def write_programme(case: Case, times: Sequence[tuple[int, int]], lines: int = 1
         for number, (begin, end) in enumerate(times, first)), name, first)
 
 
-def random_subtitles(seed: int) -> tuple[bytes, list[int]]:
+def make_random_stl(seed: int) -> tuple[bytes, list[int]]:
     """Return a random subtitle file, with adjoining and repeated subtitles, and its cue frames."""
     chance = random.Random(seed)
-    made: list[bytes] = []
+    result: list[bytes] = []
     edges: list[int] = []
     frame = chance.randrange(1_900_000)
     for number in range(40):
         begin = frame + chance.choice([0, chance.randrange(1, 200)])
         end = begin + chance.randrange(12, 150)
         text = b"Number %d" % chance.randrange(20)
-        made.append(make_subtitle_blocks(number, begin, end, chance.randrange(18, 23), 2, text))
+        result.append(make_subtitle_blocks(number, begin, end, chance.randrange(18, 23), 2, text))
         edges += [begin, end]
         frame = end
-    return make_gsi_block(b"At random", len(made), len(made), edges[0]) + b"".join(made), edges
+    return make_gsi_block(b"At random", len(result), len(result),
+                          edges[0]) + b"".join(result), edges
 
 
-def schedule_pages(case: Case, stl: str, *words: str, origin: int = 0, every: int = 25) -> Sent:
+def schedule_pages(case: Case, stl: str, *args: str, origin: int = 0, every: int = 25) -> SentPes:
     """Return the transmission that `schedule` makes from a subtitle file."""
-    return [(origin + decode_pts(one), get_teletext_packets(get_data_field(one)))
-            for one in schedule_pes(case, stl, "--every", str(every), *words)]
+    return [(origin + decode_pts(item), get_teletext_packets(get_data_field(item)))
+            for item in schedule_pes(case, stl, "--every", str(every), *args)]
 
 
-def schedule_pes(case: Case, stl: str, *words: str) -> list[bytes]:
+def schedule_pes(case: Case, stl: str, *args: str) -> list[bytes]:
     """Return the PES packets that `schedule` makes from a subtitle file."""
-    return packets(case.read(case.schedule(stl, "planned.pes", *words)))
+    return packets(case.read(case.schedule(stl, "planned.pes", *args)))
 
 
 def make_two_parts(case: Case) -> tuple[str, bytes]:
     """Return a subtitle file, and PES packets with a break of three minutes halfway through."""
     due = [(begin, begin + 60) for begin in range(900_000, 902_000, 100)]
-    sent = [one for first,
-            origin in ((1, 1000), (11, 1000 + 4500 * TICKS)) for one in schedule_pages(
+    sent = [item for first,
+            origin in ((1, 1000), (11, 1000 + 4500 * TICKS)) for item in schedule_pages(
         case, write_programme(case, due[first - 1:first + 9], first=first, name="part.stl"),
         origin=origin)]
-    return write_programme(case, due, name="two.stl"), pes_file(sent)
+    return write_programme(case, due, name="two.stl"), join_pes_packets(sent)
 
 
-def pes_file(sent: Sent) -> bytes:
+def join_pes_packets(sent: SentPes) -> bytes:
     """Return the contents of a PES file with a transmission."""
-    return b"".join(make_pes_packet(pts % CLOCK, some) for pts, some in sent)
+    return b"".join(make_pes_packet(pts % CLOCK, packets) for pts, packets in sent)
 
 
 def packets(data: bytes) -> list[bytes]:
@@ -95,10 +96,10 @@ def packets(data: bytes) -> list[bytes]:
     return list(read_pes_packets(io.BytesIO(data)))
 
 
-def with_new_pts(data: bytes, new_pts: Callable[[int, int], int]) -> bytes:
+def replace_pts(data: bytes, new_pts: Callable[[int, int], int]) -> bytes:
     """Return a PES file in which the PTS of each PES packet is `new_pts(number, old_pts)`."""
-    return b"".join(one[:9] + encode_pts(new_pts(number, decode_pts(one)) % CLOCK) + one[14:]
-                    for number, one in enumerate(packets(data)))
+    return b"".join(packet[:9] + encode_pts(new_pts(number, decode_pts(packet)) % CLOCK)
+                    + packet[14:] for number, packet in enumerate(packets(data)))
 
 
 EACH, LASTS = 100, 60  # interval between TCIs, and subtitle duration, in frames
@@ -111,18 +112,19 @@ def subtitle_times(count: int) -> list[tuple[int, int]]:
     return [(EACH * number, EACH * number + LASTS) for number in range(1, count + 1)]
 
 
-def delayed(by: int, first: int = 0, last: int = 1 << 40) -> Change:
+def make_delay(by: int, first: int = 0, last: int = 1 << 40) -> Change:
     """Return a function that delays PES packets with PTS from `first` to `last` by `by` frames."""
-    return lambda sent: [(pts + by * TICKS * (first <= pts <= last), some) for pts, some in sent]
+    return lambda sent: [(pts + by * TICKS * (first <= pts <= last), packets)
+                         for pts, packets in sent]
 
 
 def delay_subtitle(number: int, by: int) -> Change:
     """Return a function that delays the page transmissions of one subtitle by `by` frames."""
     begin = EACH * number * TICKS
-    return delayed(by, begin, begin + LASTS * TICKS - 1)
+    return make_delay(by, begin, begin + LASTS * TICKS - 1)
 
 
-def with_pauses(sent: Sent, *shifts: int) -> Sent:
+def add_pauses(sent: SentPes, *shifts: int) -> SentPes:
     """Delay all PES packets after each pause by the number of frames given for this pause."""
     begun = [sum(pts >= pause * TICKS for pause in PAUSES[:len(shifts)]) for pts, _ in sent]
     return [(ORIGIN + pts + TICKS * (0, *shifts)[at], some) for at, (pts, some) in zip(begun, sent)]

@@ -14,7 +14,7 @@ from ..cli import single
 from ..cli.batch import ForkedProcess, hold_signals, wait_for_any
 from ..common.command_line import Stop, run_main, format_error, print_stderr
 from ..common.files import make_temporary_name
-from ..common.times import FRAMES_A_SECOND, TICKS, pts_of, ticks_between
+from ..common.times import FRAMES_A_SECOND, TICKS, pts_of, subtract_pts
 from ..judging.part import Part
 from ..judging.status import ACCEPTED, NOT_JUDGED, REFUSED, RELATIVE, WAIVED
 from ..judging.verdict import Verdict
@@ -23,15 +23,15 @@ from ..request.request import Request, Unclear
 from ..results.files import ENDING, read_call_result
 from ..stream.survey import survey
 from .schedule import RECORDING
-from .segments import Unbroken
+from .segments import UnbrokenRun
 
-LEAST_SECONDS, BYTES_PER_SECOND = 60.0, 2_000_000  # time limit: 60 s, plus 1 s for each 2 MB
+MIN_SECONDS, BYTES_PER_SECOND = 60.0, 2_000_000  # time limit: 60 s, plus 1 s for each 2 MB
 WORK = ".work-"  # prefix of the temporary folder in which a programme is judged
-HEAD = "head.ts"  # file in the temporary folder with the beginning of the recording
-SPARE = 1 << 20  # bytes of disk space to leave free
-QUIET = 1.0  # maximum seconds until the next PMT, which is needed to find PES packets
+HEAD_FILE = "head.ts"  # file in the temporary folder with the beginning of the recording
+SPARE_BYTES = 1 << 20  # bytes of disk space to leave free
+MAX_PMT_SECONDS = 1.0  # maximum seconds until the next PMT, which is needed to find PES packets
 PTS_SECOND = FRAMES_A_SECOND * TICKS
-CORRECT = {ACCEPTED, WAIVED, RELATIVE}  # verdicts without errors
+CORRECT_VERDICTS = {ACCEPTED, WAIVED, RELATIVE}  # verdicts without errors
 # Exit statuses of the judging process besides qc's 0 to 3. FAILED: a system error occurred.
 # UNFINISHED: the pair is refused, but the recorded part ends before the programme does.
 FAILED, UNFINISHED = 101, 102
@@ -56,19 +56,19 @@ class Outcome(NamedTuple):
         if self.result is None:
             return False
         is_file_refused = self.verdict == REFUSED and self.result["inputs"]["recording"] is None
-        return self.verdict in CORRECT or is_file_refused or (
+        return self.verdict in CORRECT_VERDICTS or is_file_refused or (
             self.verdict != NOT_JUDGED and self.is_finished)
 
 
 class BeginCheck(NamedTuple):
     """A check that a programme began within `margin` seconds of its air time. The recording begins
-    at `first`. `packets_by` returns for each PID the number of PES packets recorded before a given
-    time."""
+    at `first`. `count_packets_until` returns for each PID the number of PES packets recorded before
+    a given time."""
 
     air_time: float
     margin: float
     first: float
-    packets_by: Callable[[float], Mapping[int, int]]
+    count_packets_until: Callable[[float], Mapping[int, int]]
 
     def examine(self, verdict: Verdict) -> None:
         """Add a note to the verdict if the programme began in time. Raise `Unclear` if the
@@ -80,13 +80,14 @@ class BeginCheck(NamedTuple):
         if part.alignment is None or part.pes is None:  # the subtitle file itself is refused
             return
         pid, _ = part.stream or (0, 0)
-        missing = seconds_before_first(part)
-        if verdict.word not in CORRECT and missing > 0 and \
-                self.packets_by(self.first + missing + QUIET).get(pid, 0):
+        missing_seconds = count_seconds_before_first(part)
+        if verdict.word not in CORRECT_VERDICTS and missing_seconds > 0 and \
+                self.count_packets_until(self.first + missing_seconds + MAX_PMT_SECONDS).get(pid,
+                                                                                             0):
             raise Unclear("the first subtitle was expected before the first recorded PES packet of "
                           f"the page: the programme did not begin within {words}, or its beginning "
                           "was not recorded")
-        if begin_number(part) >= self.packets_by(self.air_time + self.margin).get(pid, 0):
+        if begin_number(part) >= self.count_packets_until(self.air_time + self.margin).get(pid, 0):
             raise Unclear(f"the programme did not begin within {words}, but later")
         verdict.notes.append(f"begun within {words}")
 
@@ -95,16 +96,16 @@ def begin_number(part: Part) -> int:
     """Return the number of the PES packet at which the first subtitle is expected."""
     _, alignment = part.judged_recording
     begin, (first, _) = pts_of(alignment.begin, alignment.origin), part.pes or (0, 0)
-    earlier = itertools.takewhile(lambda pts: ticks_between(begin, pts) < 0, part.list_pts())
+    earlier = itertools.takewhile(lambda pts: subtract_pts(begin, pts) < 0, part.list_pts())
     return first + sum(1 for _ in earlier)
 
 
-def seconds_before_first(part: Part) -> float:
+def count_seconds_before_first(part: Part) -> float:
     """Return the seconds from the first TCI to the page's first PES packet."""
     recording, alignment = part.judged_recording
     begin = pts_of(alignment.begin, alignment.origin)
     first = next(recording.packets.pts(alignment.packets), begin)
-    return ticks_between(begin, first) / PTS_SECOND
+    return subtract_pts(begin, first) / PTS_SECOND
 
 
 def exit_status(verdict: Verdict) -> int:
@@ -136,24 +137,24 @@ class Checker:
             if name.startswith(WORK):
                 shutil.rmtree(os.path.join(self.place, name), ignore_errors=True)
 
-    def check(self, request: Request, name: str, air_time: float, stretch: Unbroken) -> Outcome:
+    def check(self, request: Request, name: str, air_time: float, stretch: UnbrokenRun) -> Outcome:
         """Judge the programme on air at `air_time` from a continuous part of the feed."""
         self.clear()
         self.work = make_temporary_name(self.place, WORK)
         first = max(stretch.begin, air_time - self.margin)
         size = stretch.size(first, math.inf)
-        needed = size + stretch.size(first, air_time + self.margin) + SPARE
+        needed_bytes = size + stretch.size(first, air_time + self.margin) + SPARE_BYTES
         try:
             os.mkdir(self.work)
-            if shutil.disk_usage(self.work).free < needed:
-                return Outcome(None, f"no room in {self.place} for {needed:,} bytes")
+            if shutil.disk_usage(self.work).free < needed_bytes:
+                return Outcome(None, f"no room in {self.place} for {needed_bytes:,} bytes")
             status, lines = run_forked(
                 lambda: run_main(lambda _: self.judge(request, name, air_time, stretch), ()),
-                LEAST_SECONDS + size / BYTES_PER_SECOND)
+                MIN_SECONDS + size / BYTES_PER_SECOND)
         except (OSError, Stop) as reason:
             return Outcome(None, format_error(reason))
         finally:
-            for file in (RECORDING, HEAD):
+            for file in (RECORDING, HEAD_FILE):
                 with contextlib.suppress(OSError):
                     os.unlink(os.path.join(self.work, file))
         if status == FAILED or status < 0:
@@ -162,19 +163,19 @@ class Checker:
                               1 if status == UNFINISHED else status, lines)
         return Outcome(result, result["reason"] or result["worst_fault"], status != UNFINISHED)
 
-    def judge(self, request: Request, name: str, air_time: float, stretch: Unbroken) -> int:
+    def judge(self, request: Request, name: str, air_time: float, stretch: UnbrokenRun) -> int:
         """Judge a programme in the current process. Return the exit status."""
         recording, first = os.path.join(self.work, RECORDING), air_time - self.margin
 
-        def packets_by(time: float) -> Mapping[int, int]:
-            head = os.path.join(self.work, HEAD)
+        def count_packets_until(time: float) -> Mapping[int, int]:
+            head = os.path.join(self.work, HEAD_FILE)
             with open(head, "wb") as file:
                 file.writelines(stretch.read(first, time))
             program = CommandPaths(self.program_name, self.program).program_path
             found = survey(program, head, request.page)
             return {pid: packets.count for pid, packets in found.by_pid.items()}
 
-        begin = BeginCheck(air_time, self.margin, max(first, stretch.begin), packets_by)
+        begin = BeginCheck(air_time, self.margin, max(first, stretch.begin), count_packets_until)
         call = single.PairOptions(self.program, out=self.out, staging_folder=self.work, name=name,
                                is_claimed=True, is_kept=self.is_kept, examine=begin.examine)
         try:

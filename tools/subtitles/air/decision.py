@@ -7,10 +7,11 @@ from typing import NamedTuple, Sequence
 from ..cli.single import now as date
 from ..results.files import make_unjudged
 from .check import Outcome
-from .segments import Unbroken
+from .segments import UnbrokenRun
 
-SOON = 10.0  # seconds to wait after the end of a programme, since the recorder may lag
-SLACK = 1.0  # seconds by which a recording may seem shorter than the programme that it contains
+RECORDER_LAG = 10.0  # seconds to wait after the end of a programme, since the recorder may lag
+# seconds by which a recording may seem shorter than the programme that it contains
+LENGTH_TOLERANCE = 1.0
 MAX_GAPS = 3  # maximum number of gaps listed in a result
 
 
@@ -32,18 +33,19 @@ class Window(NamedTuple):
     def last(self) -> float:
         return self.end + self.margin + self.more
 
-    def may_hold(self, stretch: Unbroken) -> bool:
+    def can_contain(self, stretch: UnbrokenRun) -> bool:
         """Return whether a recorded part is long and early enough to contain the programme."""
-        has_room = stretch.end - stretch.begin >= self.length - SLACK
-        return has_room and stretch.begin < self.begin + self.margin
+        is_long_enough = stretch.end - stretch.begin >= self.length - LENGTH_TOLERANCE
+        return is_long_enough and stretch.begin < self.begin + self.margin
 
 
-def gaps_in(window: Window, stretches: Sequence[Unbroken], longest_pause: float) -> list[str]:
+def describe_gaps(window: Window, recorded_runs: Sequence[UnbrokenRun],
+                  longest_pause: float) -> list[str]:
     """Describe the periods of a window that were not recorded or were deleted later."""
-    ends = [window.first, *(stretch.end for stretch in stretches)]
-    begins = [*(stretch.begin for stretch in stretches), window.last]
+    ends = [window.first, *(stretch.end for stretch in recorded_runs)]
+    begins = [*(stretch.begin for stretch in recorded_runs), window.last]
     return [f"{date(end)} to {date(begin)}" for number, (end, begin) in enumerate(zip(ends, begins))
-            if 0 < number < len(stretches) or begin - end > longest_pause]
+            if 0 < number < len(recorded_runs) or begin - end > longest_pause]
 
 
 def decide(name: str, outcomes: Sequence[Outcome], gaps: Sequence[str], has_passed: bool,
@@ -51,21 +53,21 @@ def decide(name: str, outcomes: Sequence[Outcome], gaps: Sequence[str], has_pass
     """Return the final outcome of a programme from the outcomes of all recorded parts that may
     contain it. Return `None` if later segments may still change it. `has_passed` is true after the
     end of the window. `failure` is the last system error."""
-    failed = next((one for one in outcomes if one.result is None), None)
-    final = failed or next((one for one in outcomes if one.is_final), None)
-    if final or not has_passed:
-        return final
+    failed = next((outcome for outcome in outcomes if outcome.result is None), None)
+    final_outcome = failed or next((outcome for outcome in outcomes if outcome.is_final), None)
+    if final_outcome or not has_passed:
+        return final_outcome
     if outcomes and not gaps:  # the complete window was recorded
         return outcomes[0]
-    shown = ", ".join(gaps[:MAX_GAPS]) or "some seconds"
+    gap_text = ", ".join(gaps[:MAX_GAPS]) or "some seconds"
     more = f" and {len(gaps) - MAX_GAPS} more" if len(gaps) > MAX_GAPS else ""
     rest = f"; of the rest: {outcomes[0].reason}" if outcomes else ""
     before = f"; before that: {failure}" if failure else ""
-    reason = f"not recorded: {shown}{more}{rest}{before}"
+    reason = f"not recorded: {gap_text}{more}{rest}{before}"
     return Outcome(make_unjudged(name, reason), reason)
 
 
-def seconds_to_next_try(window: Window, now: float) -> float:
+def compute_retry_delay(window: Window, now: float) -> float:
     """Return the seconds until the next attempt to judge a programme that may still be on air. The
     time since its scheduled end doubles with each attempt, until the window has passed."""
-    return min(max(now - window.end, SOON), max(window.last + SOON - now, 0.0))
+    return min(max(now - window.end, RECORDER_LAG), max(window.last + RECORDER_LAG - now, 0.0))

@@ -14,19 +14,20 @@ from ..cli.single import handle_signals, hold_lock, now as date
 from ..common.command_line import Stop, format_error, print_stdout
 from ..common.files import TEMPORARY_PREFIX, open_result
 from ..request.commands import CommandPaths
-from ..results.files import ENDING, result_bytes, make_unjudged
+from ..results.files import ENDING, encode_result, make_unjudged
 from .check import Checker, Outcome
-from .decision import SOON, Window, decide, gaps_in, seconds_to_next_try
-from .schedule import Programme, Schedule, length_of, read_schedule
-from .segments import segments_between, stretches_in
+from .decision import RECORDER_LAG, Window, compute_retry_delay, decide, describe_gaps
+from .schedule import Programme, Schedule, measure_length, read_schedule
+from .segments import find_segments, find_unbroken_runs
 from .state import Monitor, write_state
 
-RETRY, MAX_RETRY = 2.0, 60.0  # minimum and maximum delay in seconds after a system error
+# minimum and maximum delay in seconds after a system error
+RETRY_SECONDS, MAX_RETRY_SECONDS = 2.0, 60.0
 SHARE = 10  # failing programmes get at most a tenth of the time
 HOOK_SECONDS = 10  # time limit of the command of --on-result
 
 
-class Tries:
+class Attempts:
     """The time of the next attempt to judge a programme, the number of system errors, and the
     reason for the last error."""
 
@@ -42,7 +43,7 @@ class Judge:
         self.program = CommandPaths(program_name, args.program).program_path
         self.checker = Checker(args.program, program_name, args.work or args.out, args.out,
                                args.margin, args.is_kept)
-        self.tries: dict[str, Tries] = {}
+        self.attempts: dict[str, Attempts] = {}
         self.schedule = Schedule()
         self.monitor = Monitor()
 
@@ -51,12 +52,12 @@ class Judge:
         programme was ready."""
         self.read_schedule()
         waiting = self.waiting()
-        tried = next((one for one in waiting if self.attempt(one, now)), None)
+        tried = next((item for item in waiting if self.try_to_judge(item, now)), None)
         waiting = self.waiting() if tried else waiting
         self.monitor.waiting = len(waiting)
-        self.monitor.late = [one.name for one in waiting if self.is_late(one, now)]
+        self.monitor.late = [item.name for item in waiting if self.is_late(item, now)]
         self.monitor.look(self.segments, self.out, now, self.program,
-                          {one.request.page for one in waiting})
+                          {item.request.page for item in waiting})
         write_state(self.out, self.monitor.state())
         return tried is not None
 
@@ -71,35 +72,37 @@ class Judge:
     def waiting(self) -> list[Programme]:
         """Return the programmes without a result, earliest first."""
         files = {*os.listdir(self.out)}
-        return sorted((one for one in self.schedule.programmes if one.name + ENDING not in files),
-                      key=lambda one: one.begin)
+        return sorted((item for item in self.schedule.programmes
+                       if item.name + ENDING not in files),
+                      key=lambda item: item.begin)
 
     def is_late(self, programme: Programme, now: float) -> bool:
         """Return whether the result of a programme is overdue."""
         margin: float = self.args.margin
         return now > programme.begin + 2 * margin and now > self.window(programme).last + margin
 
-    def attempt(self, programme: Programme, now: float) -> bool:
+    def try_to_judge(self, programme: Programme, now: float) -> bool:
         """Judge a programme if it is over. Return whether an attempt was made."""
-        tries, started = self.tries.setdefault(programme.name, Tries()), time.monotonic()
-        if now < max(tries.next, programme.begin + SOON):
+        attempts, start_time = self.attempts.setdefault(programme.name,
+                                                        Attempts()), time.monotonic()
+        if now < max(attempts.next, programme.begin + RECORDER_LAG):
             return False
         try:
             window = self.window(programme)
-            if now < window.end + SOON:
+            if now < window.end + RECORDER_LAG:
                 return False
             outcome = self.judge(programme, window, now)
             if outcome and outcome.result and not outcome.is_finished:
                 window = window._replace(more=window.length)  # breaks may delay its end
                 outcome = self.judge(programme, window, now)
             if outcome is None:
-                tries.next = now + seconds_to_next_try(window, now)
+                attempts.next = now + compute_retry_delay(window, now)
             elif outcome.result is None:
-                self.retry(programme, now, started, outcome.reason)
+                self.retry(programme, now, start_time, outcome.reason)
             else:
                 self.publish(programme.name, outcome)
         except Exception as reason:  # other programmes must still be judged
-            self.retry(programme, now, started, format_error(reason))
+            self.retry(programme, now, start_time, format_error(reason))
         return True
 
     def window(self, programme: Programme) -> Window:
@@ -107,36 +110,36 @@ class Judge:
         file is missing. An END earlier than the end of the subtitle file is ignored."""
         length = 0.0
         with contextlib.suppress(OSError):
-            length = length_of(programme.request)
+            length = measure_length(programme.request)
         end = max(programme.end or 0.0, programme.begin + length)
         return Window(programme.begin, end, length, self.args.margin)
 
     def judge(self, programme: Programme, window: Window, now: float) -> Outcome | None:
         """Judge each recorded part that may contain a programme, until a result is final. Return
         `None` if later segments may still change the result."""
-        name, has_passed = programme.name, now >= window.last + SOON
-        segments = segments_between(self.segments, window.first, window.last)
+        name, has_passed = programme.name, now >= window.last + RECORDER_LAG
+        segments = find_segments(self.segments, window.first, window.last)
         if not os.path.exists(programme.request.stl):
             reason = f"{programme.request.stl} does not exist"
-            is_over = has_passed and not segments
-            return Outcome(make_unjudged(name, reason) if is_over else None, reason)
-        stretches, outcomes = [*stretches_in(segments, self.args.pause)], list[Outcome]()
-        for stretch in filter(window.may_hold, stretches):
+            has_window_ended = has_passed and not segments
+            return Outcome(make_unjudged(name, reason) if has_window_ended else None, reason)
+        recorded_runs, outcomes = [*find_unbroken_runs(segments, self.args.pause)], list[Outcome]()
+        for stretch in filter(window.can_contain, recorded_runs):
             outcomes.append(self.checker.check(programme.request, name, window.begin, stretch))
             if outcomes[-1].is_final or outcomes[-1].result is None:
                 break
-        gaps = gaps_in(window, stretches, self.args.pause)
-        return decide(name, outcomes, gaps, has_passed, self.tries[name].reason)
+        gaps = describe_gaps(window, recorded_runs, self.args.pause)
+        return decide(name, outcomes, gaps, has_passed, self.attempts[name].reason)
 
-    def retry(self, programme: Programme, now: float, started: float, reason: str) -> None:
+    def retry(self, programme: Programme, now: float, start_time: float, reason: str) -> None:
         """Schedule another attempt after a system error. Report each reason once."""
-        tries, spent = self.tries[programme.name], time.monotonic() - started
-        if reason != tries.reason:
+        attempts, elapsed_seconds = self.attempts[programme.name], time.monotonic() - start_time
+        if reason != attempts.reason:
             line, *_ = reason.split("\n")
             print_stdout(f"{date()}  {programme.name}: will be tried again: {line}")
-        delay = min(RETRY * 2 ** min(tries.failures, 10), MAX_RETRY)
-        tries.next, tries.reason = now + max(delay, SHARE * spent), reason
-        tries.failures += 1
+        delay = min(RETRY_SECONDS * 2 ** min(attempts.failures, 10), MAX_RETRY_SECONDS)
+        attempts.next, attempts.reason = now + max(delay, SHARE * elapsed_seconds), reason
+        attempts.failures += 1
         self.monitor.last_error = f"{programme.name}: {reason}"
 
     def publish(self, name: str, outcome: Outcome) -> None:
@@ -151,9 +154,9 @@ class Judge:
                     with open(os.path.join(work, file), "rb") as source:
                         shutil.copyfileobj(source, target)
                 else:
-                    target.write(result_bytes(outcome.result))
+                    target.write(encode_result(outcome.result))
         self.checker.clear()
-        self.tries.pop(name, None)
+        self.attempts.pop(name, None)
         self.monitor.last_result = f"{name}: {outcome.reason}"
         line, *_ = outcome.reason.split("\n")
         print_stdout(f"{date()}  {name}  {outcome.verdict}: {line}")

@@ -12,8 +12,8 @@ from ..request.request import add_options
 from .judge import judge_schedule
 from .recorder import Limits, record
 
-hours_word = make_number_parser("hours", 1, 99_999)
-megabytes_word = make_number_parser("megabytes", 0, 999_999_999)
+parse_hours = make_number_parser("hours", 1, 99_999)
+parse_megabytes = make_number_parser("megabytes", 0, 999_999_999)
 
 
 def record_parser() -> ToolParser:
@@ -22,14 +22,14 @@ def record_parser() -> ToolParser:
     parser.add_argument("segments", metavar="SEGMENTS", help="write segments to this folder")
     parser.add_argument("--length", metavar="S", type=read_seconds, default=10,
                         help="begin a segment every S seconds (default: 10)")
-    parser.add_argument("--keep", metavar="HOURS", type=hours_word, default=48,
+    parser.add_argument("--keep", metavar="HOURS", type=parse_hours, default=48,
                         help="delete segments older than HOURS (default: 48)")
-    parser.add_argument("--free", metavar="MB", type=megabytes_word, default=1000,
+    parser.add_argument("--free", metavar="MB", type=parse_megabytes, default=1000,
                         help="keep MB megabytes of the disk free (default: 1000)")
     return parser
 
 
-def judge_parser() -> ToolParser:
+def make_judge_parser() -> ToolParser:
     """Return the argument parser of the command `judge`."""
     parser = ToolParser("Judge each programme of a schedule from segments of a feed, as soon as it "
                         "is over.")
@@ -68,7 +68,7 @@ def main(text: str, words: list[str]) -> int:
     if mode != "judge":
         ToolParser(text).parse_known_args(words)  # handles --help and --version
         raise Stop("the first argument must be record or judge")
-    args = read_options(judge_parser(), line, {}, {}, is_typed=True)
+    args = read_options(make_judge_parser(), line, {}, {}, is_typed=True)
     args.out = make_safe_name(args.out)
     if not os.path.isdir(args.segments):
         raise Stop(f"{args.segments} is not a folder: start `record` first, or give its folder")

@@ -12,13 +12,14 @@ from typing import NamedTuple
 
 from ..cli.single import hold_lock
 from ..common.command_line import print_stderr
-from .segments import names_in, segment_name
+from .segments import list_segment_names, make_segment_name
 
-MAX_READ = 1 << 18  # maximum bytes per read
+MAX_READ_BYTES = 1 << 18  # maximum bytes per read
 PIPE_SIZE = 1 << 20  # pipe buffer in bytes: 0.2 seconds at 40 Mbit/s
 # Seconds between writes to a full disk, and seconds after which unwritten bytes are dropped.
 WRITE_RETRY, WRITE_PATIENCE = 0.1, 5.0
-MAX_DELETED = 50  # maximum number of segments deleted per call, so that the feed is not delayed
+# maximum number of segments deleted per call, so that the feed is not delayed
+MAX_DELETED_SEGMENTS = 50
 
 
 class Limits(NamedTuple):
@@ -36,45 +37,45 @@ class Recorder:
         self.folder, self.limits = folder, limits
         self.file: int | None = None
         self.is_new = True  # data before the next segment may be missing
-        self.begun = self.latest = 0.0  # start of the segment, by the clock and by its name
+        self.segment_begin = self.latest = 0.0  # start of the segment, by the clock and by its name
 
     def take(self, data: bytes) -> None:
         """Write bytes. If the disk is full, delete the oldest segments. Bytes that still can't be
         written are dropped, and the name of the next segment shows the loss."""
-        left, until = memoryview(data), time.monotonic() + WRITE_PATIENCE
+        left, deadline = memoryview(data), time.monotonic() + WRITE_PATIENCE
         while left:
             try:
-                left = left[os.write(self.current_file(), left):]
+                left = left[os.write(self.prepare_file(), left):]
             except OSError as error:
                 if error.errno != errno.ENOSPC:
                     raise
                 if not self.delete_oldest(1):
-                    if time.monotonic() > until:
+                    if time.monotonic() > deadline:
                         print_stderr(f"{self.folder} has no room: {len(left)} bytes are lost")
                         self.close()
                         self.is_new = True
                         return
                     time.sleep(WRITE_RETRY)
 
-    def current_file(self) -> int:
+    def prepare_file(self) -> int:
         """Return the file descriptor of the current segment. Begin a new segment if the current one
         is long enough or the clock was changed."""
         now = time.time()
-        if self.file is None or not 0 <= now - self.begun < self.limits.length:
+        if self.file is None or not 0 <= now - self.segment_begin < self.limits.length:
             self.close()
             self.make_room(now)
             self.file = self.open_segment(now)
-            self.begun = now
+            self.segment_begin = now
         return self.file
 
     def open_segment(self, now: float) -> int:
         """Open a new segment, named so that it sorts last even if the clock was set back."""
-        last = names_in(self.folder)[-1:]
+        last = list_segment_names(self.folder)[-1:]
         self.latest = max(now, self.latest + 0.001, *(begin + 0.001 for begin, _ in last))
         if self.latest > now + 1:
             print_stderr(f"the system's clock is {self.latest - now:.0f} seconds behind the last "
                          "segment")
-        file = os.open(os.path.join(self.folder, segment_name(self.latest, self.is_new)),
+        file = os.open(os.path.join(self.folder, make_segment_name(self.latest, self.is_new)),
                        os.O_WRONLY | os.O_CREAT | os.O_APPEND | os.O_CLOEXEC)
         self.is_new = False
         return file
@@ -88,22 +89,22 @@ class Recorder:
     def make_room(self, now: float) -> None:
         """Delete segments after their retention time. Then delete the oldest segments until enough
         disk space is free."""
-        while self.delete_oldest(MAX_DELETED, now - self.limits.kept):
+        while self.delete_oldest(MAX_DELETED_SEGMENTS, now - self.limits.kept):
             pass
-        for _ in range(MAX_DELETED):
-            about = os.statvfs(self.folder)
-            if about.f_bavail * about.f_frsize >= self.limits.free or not self.delete_oldest(1):
+        for _ in range(MAX_DELETED_SEGMENTS):
+            info = os.statvfs(self.folder)
+            if info.f_bavail * info.f_frsize >= self.limits.free or not self.delete_oldest(1):
                 break
 
     def delete_oldest(self, most: int, before: float | None = None) -> bool:
         """Delete up to `most` of the oldest segments, but never the last segment. If `before` is
         given, delete only segments that begin before that time. Return whether any was deleted."""
-        oldest = [name for begin, name in names_in(self.folder)[:-1]
-                  if before is None or begin < before][:most]
-        for name in oldest:
+        oldest_names = [name for begin, name in list_segment_names(self.folder)[:-1]
+                        if before is None or begin < before][:most]
+        for name in oldest_names:
             with contextlib.suppress(FileNotFoundError):
                 os.unlink(os.path.join(self.folder, name))
-        return bool(oldest)
+        return bool(oldest_names)
 
 
 def store_and_close(file: int) -> None:
@@ -119,6 +120,6 @@ def record(source: int, folder: str, limits: Limits) -> None:
         fcntl.fcntl(source, getattr(fcntl, "F_SETPIPE_SZ", 1031), PIPE_SIZE)
     with hold_lock(folder, "recorder", "another feed is being recorded in "):
         recorder = Recorder(folder, limits)
-        while data := os.read(source, MAX_READ):
+        while data := os.read(source, MAX_READ_BYTES):
             recorder.take(data)
         recorder.close()

@@ -10,10 +10,10 @@ import re
 from typing import NamedTuple, Sequence
 
 from ..common.command_line import Stop, format_error
-from ..common.files import Damaged
-from ..common.times import Between, FRAMES_A_SECOND, FRAMES_OF_A_DAY
-from ..formats.stl import read_stl, subtitle_times, read_stored_subtitles
-from ..request.commands import pair_name
+from ..common.files import DamagedFile
+from ..common.times import FRAMES_A_SECOND, FRAMES_OF_A_DAY, FrameRange
+from ..formats.stl import read_stl, get_subtitle_times, read_stored_subtitles
+from ..request.commands import make_pair_name
 from ..request.lines import Line, split_lines, read_list, make_line_request
 from ..request.request import Request
 
@@ -41,7 +41,7 @@ class Schedule(NamedTuple):
     text: str = ""
 
 
-def time_of_air(text: str) -> float:
+def parse_air_time(text: str) -> float:
     """Parse a date and time with a time zone. Return the seconds since the epoch. Raise `Stop` if
     the text is invalid."""
     found = TIME.fullmatch(text)
@@ -53,19 +53,19 @@ def time_of_air(text: str) -> float:
                f"or an offset, as `{EXAMPLE} news.stl`")
 
 
-def times_of_air(word: str) -> tuple[float, float | None]:
+def parse_air_times(word: str) -> tuple[float, float | None]:
     """Parse the times at the beginning of a line, `BEGIN` or `BEGIN/END`."""
     first, slash, last = word.partition("/")
-    begin, end = time_of_air(first), time_of_air(last) if slash else None
+    begin, end = parse_air_time(first), parse_air_time(last) if slash else None
     if end is not None and end <= begin:
         raise Stop(f"{word} ends before it begins")
     return begin, end
 
 
-def result_name(begin: float, stl: str) -> str:
+def make_result_name(begin: float, stl: str) -> str:
     """Return the name of a result: the air time and the name of the subtitle file."""
     date = datetime.datetime.fromtimestamp(begin, datetime.timezone.utc)
-    return f"{date:%Y%m%dT%H%M%SZ}-{pair_name(stl)}"
+    return f"{date:%Y%m%dT%H%M%SZ}-{make_pair_name(stl)}"
 
 
 def read_schedule(path: str, options: argparse.Namespace, known: Schedule = Schedule()) -> Schedule:
@@ -98,7 +98,7 @@ def parse_line(line: Line, folder: str, options: argparse.Namespace) -> Programm
     """Parse a line of a schedule: an air time, a subtitle file, and options."""
     if line.fault:
         raise Stop(line.fault)
-    begin, end = times_of_air(line.arguments[0])
+    begin, end = parse_air_times(line.arguments[0])
     if len(line.arguments) < 2:
         raise Stop("it has no subtitle file: write the air time, then the subtitle file")
     stl = os.path.join(folder, line.arguments[1])
@@ -106,23 +106,23 @@ def parse_line(line: Line, folder: str, options: argparse.Namespace) -> Programm
     if request.start or request.pes:
         raise Stop("--start and --pes depend on where the programme is in the segments, which is "
                    "not known: remove them")
-    return Programme(result_name(begin, stl), begin, end, request)
+    return Programme(make_result_name(begin, stl), begin, end, request)
 
 
-def length_of(request: Request) -> float:
+def measure_length(request: Request) -> float:
     """Return the seconds from the first TCI to the last TCO. Return 0 if the subtitle file can't be
     read, since `check` will refuse it. Raise `OSError` if there is no such file."""
-    about = os.stat(request.stl)
-    return length_in(request.stl, about.st_mtime_ns, about.st_size, request.between)
+    info = os.stat(request.stl)
+    return measure_cached_length(request.stl, info.st_mtime_ns, info.st_size, request.between)
 
 
 @functools.lru_cache(maxsize=10_000)
-def length_in(path: str, _modified: int, _size: int, between: Between) -> float:
+def measure_cached_length(path: str, _modified: int, _size: int, between: FrameRange) -> float:
     """Return the length of a subtitle file in seconds, cached until the file changes."""
     times = list[tuple[int, int]]()
-    with contextlib.suppress(Damaged, Stop):
+    with contextlib.suppress(DamagedFile, Stop):
         for subtitle in read_stored_subtitles(read_stl(path)):
-            begin, end = subtitle_times(subtitle)
-            if begin is not None and end is not None and between.has(begin):
+            begin, end = get_subtitle_times(subtitle)
+            if begin is not None and end is not None and between.includes(begin):
                 times.append((begin, end))
     return (times[-1][1] - times[0][0]) % FRAMES_OF_A_DAY / FRAMES_A_SECOND if times else 0.0

@@ -11,7 +11,7 @@ import os
 import re
 from typing import Iterable, Iterator, NamedTuple, Sequence
 
-from ..common.times import ticks_between
+from ..common.times import subtract_pts
 
 # Names such as 20261129T201500.250Z.ts, news-20261129-201500.ts, feed_2026-11-29_20-15-00.ts.
 NAME = re.compile(r"(?:.*\D)?(\d{4})-?(\d\d)-?(\d\d)[T_-]?(\d\d)[-.:]?(\d\d)[-.:]?(\d\d)"
@@ -19,7 +19,7 @@ NAME = re.compile(r"(?:.*\D)?(\d{4})-?(\d\d)-?(\d\d)[T_-]?(\d\d)[-.:]?(\d\d)[-.:
 NEW = "-new.ts"  # end of a segment's name if data before the segment may be missing
 BLOCK = 1 << 19  # bytes per read, and bytes to compare on each side of a segment boundary
 PACKET_SIZES, SYNC = (188, 192, 204), 0x47
-LEAST_PACKETS = 5  # number of sync bytes needed to find where TS packets begin
+MIN_SYNC_PACKETS = 5  # number of sync bytes needed to find where TS packets begin
 Sides = tuple[list[int], list[int]]  # counters or PCR, before and after a segment boundary
 
 
@@ -33,21 +33,21 @@ class Segment(NamedTuple):
     end: float
     is_new: bool = False
 
-    def offset_at(self, time: float) -> int:
+    def find_offset(self, time: float) -> int:
         """Return the number of bytes written before a time, assuming a constant rate."""
         if time <= self.begin or time >= self.end:
             return 0 if time <= self.begin else self.size
         return int(self.size * (time - self.begin) / (self.end - self.begin))
 
 
-def segment_name(time: float, is_new: bool = False) -> str:
+def make_segment_name(time: float, is_new: bool = False) -> str:
     """Return the name of a segment that begins at a time."""
     date = datetime.datetime.fromtimestamp(round(time, 3), datetime.timezone.utc)
     return f"{date:%Y%m%dT%H%M%S}.{date.microsecond // 1000:03}Z{NEW if is_new else '.ts'}"
 
 
 @functools.lru_cache(maxsize=100_000)
-def begin_in(name: str) -> float | None:
+def parse_segment_begin(name: str) -> float | None:
     """Return the start time in the name of a segment. Return `None` for other files."""
     if found := NAME.fullmatch(name):
         *numbers, fraction = found.groups("0")
@@ -57,32 +57,32 @@ def begin_in(name: str) -> float | None:
     return None
 
 
-def names_in(folder: str) -> list[tuple[float, str]]:
+def list_segment_names(folder: str) -> list[tuple[float, str]]:
     """Return the start times and the names of the segments in a folder, earliest first."""
-    timed = ((begin_in(name), name) for name in os.listdir(folder))
-    return sorted((begin, name) for begin, name in timed if begin is not None)
+    timed_names = ((parse_segment_begin(name), name) for name in os.listdir(folder))
+    return sorted((begin, name) for begin, name in timed_names if begin is not None)
 
 
-def segments_between(folder: str, begin: float, end: float) -> list[Segment]:
+def find_segments(folder: str, begin: float, end: float) -> list[Segment]:
     """Return the segments that overlap a period, earliest first. Skip empty segments, which a power
     failure may leave."""
-    names = names_in(folder)
+    names = list_segment_names(folder)
     first = max(bisect.bisect_left(names, (begin, "")) - 1, 0)  # the segment before may overlap too
-    found = (segment_at(folder, name, time) for time, name in names[first:] if time < end)
+    found = (stat_segment(folder, name, time) for time, name in names[first:] if time < end)
     return [segment for segment in found if segment and segment.size and segment.end >= begin]
 
 
-def segment_at(folder: str, name: str, begin: float) -> Segment | None:
+def stat_segment(folder: str, name: str, begin: float) -> Segment | None:
     """Return the segment in the file `name`, which begins at the time `begin`. Return `None` if the
     file was deleted."""
     path = os.path.join(folder, name)
     with contextlib.suppress(FileNotFoundError):
-        about = os.stat(path)
-        return Segment(path, about.st_size, begin, max(begin, about.st_mtime), name.endswith(NEW))
+        info = os.stat(path)
+        return Segment(path, info.st_size, begin, max(begin, info.st_mtime), name.endswith(NEW))
     return None
 
 
-class Unbroken(NamedTuple):
+class UnbrokenRun(NamedTuple):
     """A continuous part of the feed: segments with no missing data between them."""
 
     segments: tuple[Segment, ...]
@@ -97,14 +97,15 @@ class Unbroken(NamedTuple):
 
     def size(self, begin: float, end: float) -> int:
         """Return the number of bytes between two times."""
-        return sum(max(segment.offset_at(end) - segment.offset_at(begin), 0)
+        return sum(max(segment.find_offset(end) - segment.find_offset(begin), 0)
                    for segment in self.segments)
 
     def read(self, begin: float, end: float) -> Iterator[bytes]:
         """Yield the bytes between two times. Skip the first byte if the data begins like a PES
         packet, since the copy would then be read as PES packets instead of TS packets."""
-        data = (block for one in self.segments if one.begin < end and one.end > begin
-                for block in read_range(one.path, one.offset_at(begin), one.offset_at(end)))
+        data = (block for segment in self.segments if segment.begin < end and segment.end > begin
+                for block in read_range(segment.path, segment.find_offset(begin),
+                                        segment.find_offset(end)))
         block = next(data, b"")
         yield block[block.startswith(b"\0\0\1"):]
         yield from data
@@ -134,7 +135,7 @@ def is_continued(before: Segment, after: Segment) -> bool | None:
                         if {*data[first:middle:size]} == {SYNC}), (BLOCK, 0))
     packets = [data[at:at + 188] for at in range(first, len(data) - 187, size)]
     count = len(range(first, middle, size))
-    if min(count, len(packets) - count) < LEAST_PACKETS:
+    if min(count, len(packets) - count) < MIN_SYNC_PACKETS:
         return None
     counters, clocks = dict[int, Sides](), dict[int, Sides]()
     for number, packet in enumerate(packets):
@@ -144,37 +145,39 @@ def is_continued(before: Segment, after: Segment) -> bool | None:
         if packet[3] & 0x20 and packet[4] > 6 and packet[5] & 0x10:
             pcr = int.from_bytes(packet[6:11], "big") >> 7
             clocks.setdefault(pid, ([], []))[number >= count].append(pcr)
-    out = sum(packet[0] != SYNC for packet in packets[count:count + LEAST_PACKETS])
+    out = sum(packet[0] != SYNC for packet in packets[count:count + MIN_SYNC_PACKETS])
     lost = [(new[0] - old[-1]) % 16 != 1 for old, new in counters.values() if old and new and all(
         (after - before) % 16 == 1 for before, after in (
             *zip(old[-2:-1], old[-1:]), *zip(new, new[1:2])))]
-    usual = [is_usual(*pcrs) for pcrs in clocks.values() if all(pcrs) and sum(map(len, pcrs)) > 2]
-    is_cut = 2 * out > LEAST_PACKETS or 2 * sum(lost) > len(lost) or not all(usual)
+    usual = [is_usual_step(*pcrs) for pcrs in clocks.values() if all(pcrs)
+             and sum(map(len, pcrs)) > 2]
+    is_cut = 2 * out > MIN_SYNC_PACKETS or 2 * sum(lost) > len(lost) or not all(usual)
     if out or any(lost):
         return False if is_cut else None
     return True if lost and usual and all(usual) else None
 
 
-def is_usual(before: Sequence[int], after: Sequence[int]) -> bool:
+def is_usual_step(before: Sequence[int], after: Sequence[int]) -> bool:
     """Return whether the PCR step from one segment to the next is as short as other PCR steps."""
-    step, *steps = (ticks_between(first, second) for pcrs in (
+    step, *steps = (subtract_pts(first, second) for pcrs in (
         [before[-1], after[0]], before, after) for first, second in zip(pcrs, pcrs[1:]))
     return 0 <= 2 * step <= 3 * max(steps)
 
 
-def stretches_in(segments: Iterable[Segment], longest_pause: float) -> Iterator[Unbroken]:
+def find_unbroken_runs(segments: Iterable[Segment], longest_pause: float) -> Iterator[UnbrokenRun]:
     """Divide segments into continuous parts of the feed. A part ends where TS packets are missing.
     It also ends where a segment's name or a pause of more than `longest_pause` seconds shows a gap,
     unless the TS packets clearly continue. If only the TS packets show the gap, the segment before
     it was cut, and is omitted."""
     stretch = list[Segment]()
-    for one in segments:
-        is_next = is_continued(stretch[-1], one) if stretch else None
-        is_expected = bool(stretch) and (one.is_new or one.begin - stretch[-1].end > longest_pause)
-        if is_next is False or is_expected and not is_next:
-            if whole := stretch if is_expected else stretch[:-1]:
-                yield Unbroken(tuple(whole))
+    for segment in segments:
+        is_continuation = is_continued(stretch[-1], segment) if stretch else None
+        is_expected = bool(stretch) and (segment.is_new
+                                         or segment.begin - stretch[-1].end > longest_pause)
+        if is_continuation is False or is_expected and not is_continuation:
+            if complete_run := stretch if is_expected else stretch[:-1]:
+                yield UnbrokenRun(tuple(complete_run))
             stretch = []
-        stretch.append(one)
+        stretch.append(segment)
     if stretch:
-        yield Unbroken(tuple(stretch))
+        yield UnbrokenRun(tuple(stretch))

@@ -11,13 +11,14 @@ from ..common.command_line import Stop
 from ..common.files import open_result
 from ..formats.teletext import Page, page_name
 from ..stream.survey import survey
-from .segments import names_in, segment_at
+from .segments import list_segment_names, stat_segment
 
 NAME = "state.json"
 SILENCE = 10.0  # seconds without data after which the alarm `silence` is active
 PAGE_SILENCE = 600.0  # seconds without a page header after which the alarm for the page is active
-PAGES_EVERY, NEWEST = 60.0, 3  # seconds between searches for pages; number of segments to search
-LEAST_FREE = 100_000_000  # bytes of free disk space below which the alarm `disk` is active
+# seconds between searches for pages; number of segments to search
+PAGES_EVERY, NEWEST_SEGMENTS = 60.0, 3
+MIN_FREE_BYTES = 100_000_000  # bytes of free disk space below which the alarm `disk` is active
 
 
 class Monitor:
@@ -38,16 +39,16 @@ class Monitor:
         self.now, self.started = now, now if self.started is None else self.started
         names = []
         with contextlib.suppress(OSError):
-            names = names_in(segments)
+            names = list_segment_names(segments)
         self.segments, self.oldest = len(names), names[0][0] if names else 0.0
         for begin, name in names[-1:]:
-            last = segment_at(segments, name, begin)
+            last = stat_segment(segments, name, begin)
             self.last_byte = last.end if last else self.last_byte
-        self.free = [free_bytes(segments), free_bytes(out)]
+        self.free = [count_free_bytes(segments), count_free_bytes(out)]
         self.headers = {page: self.headers.get(page, 0.0) for page in pages}
         if now >= self.next_look:
             self.next_look = now + PAGES_EVERY
-            for begin, name in names[-NEWEST:]:
+            for begin, name in names[-NEWEST_SEGMENTS:]:
                 self.look_for_pages(os.path.join(segments, name), program)
 
     def look_for_pages(self, path: str, program: str) -> None:
@@ -60,37 +61,38 @@ class Monitor:
 
     def alarms(self) -> list[str]:
         """Return the names of active alarms."""
-        alarms = {
+        is_active_by_alarm = {
             "silence": self.now - self.last_byte > SILENCE,
-            "disk": min(self.free) < LEAST_FREE,
+            "disk": min(self.free) < MIN_FREE_BYTES,
             "late": bool(self.late),
             "schedule": bool(self.schedule_faults)}
         pages = [f"page {page_name(*page)}" for page, header in sorted(self.headers.items())
                  if self.now - max(header, self.started or 0.0) > PAGE_SILENCE]
-        return [name for name, is_on in alarms.items() if is_on] + pages
+        return [name for name, is_active in is_active_by_alarm.items() if is_active] + pages
 
     def state(self) -> dict[str, Any]:
         """Return the contents of the state file."""
         return {
             "date": date(self.now), "alarms": self.alarms(),
-            "last_byte": date_or_none(self.last_byte), "oldest": date_or_none(self.oldest),
-            "segments": self.segments, "free_bytes": dict(zip(("segments", "results"), self.free)),
-            "last_header": {page_name(*page): date_or_none(header)
+            "last_byte": format_date_or_none(self.last_byte),
+            "oldest": format_date_or_none(self.oldest), "segments": self.segments,
+            "free_bytes": dict(zip(("segments", "results"), self.free)),
+            "last_header": {page_name(*page): format_date_or_none(header)
                             for page, header in self.headers.items()},
             "waiting": self.waiting, "late": self.late, "schedule_faults": self.schedule_faults,
             "last_error": self.last_error, "last_result": self.last_result}
 
 
-def date_or_none(time: float) -> str | None:
+def format_date_or_none(time: float) -> str | None:
     """Format a time in UTC. Return `None` for 0, which means never."""
     return date(time) if time else None
 
 
-def free_bytes(folder: str) -> int:
+def count_free_bytes(folder: str) -> int:
     """Return the free disk space of a folder in bytes, or 0 if the folder does not exist."""
     with contextlib.suppress(OSError):
-        about = os.statvfs(folder)
-        return about.f_bavail * about.f_frsize
+        info = os.statvfs(folder)
+        return info.f_bavail * info.f_frsize
     return 0
 
 

@@ -28,14 +28,14 @@ from ..results.files import (
     make_row, make_unjudged)
 from .main import write_unjudged
 from .single import (
-    FilesInUse, PairOptions, SIGNALS, claim_folder, claim_pair, handle_signals, ignore_signals,
-    judge_and_report, refuse_folder_files, refuse_pair_files, remove_results)
+    FilesInUse, PairOptions, SIGNALS, handle_signals, ignore_signals, judge_and_report, lock_folder,
+    lock_pair, refuse_folder_files, refuse_pair_files, remove_results)
 
 
 # A forked process judges each pair, since loading the modules takes ten times as long as judging a
 # small pair. If the process crashes or hangs, the other pairs are still judged.
 
-PRELOADED = page  # loaded before forking, since each process may write a report
+PRELOADED_MODULE = page  # loaded before forking, since each process may write a report
 INPUT, OUTPUT, ERRORS = range(3)
 FILES = "/proc/self/fd"  # folder that lists the open files of this process
 
@@ -65,18 +65,18 @@ class ForkedProcess:
         # The error messages go to a file in memory, since the disk may be full.
         self.errors = open(os.memfd_create("errors"), "w+b", buffering=0)
         # This pipe is open until the process ends; its children do not inherit it.
-        self.alive_pipe, alive = os.pipe()
+        self.alive_pipe, pipe_end = os.pipe()
         with hold_signals():
             try:
                 self.pid = os.fork()
             except OSError as error:
                 self.errors.close()
                 os.close(self.alive_pipe)
-                os.close(alive)
+                os.close(pipe_end)
                 raise Stop(f"a process could not be started: {error.strerror}") from None
             if not self.pid:
-                run_and_exit(function, self.errors.fileno(), alive)
-            os.close(alive)
+                run_and_exit(function, self.errors.fileno(), pipe_end)
+            os.close(pipe_end)
 
     def fileno(self) -> int:
         """Return the descriptor of a pipe, for `select`. The pipe closes when the process ends."""
@@ -97,8 +97,8 @@ class ForkedProcess:
         """Return the CPU time of the process and its children in seconds."""
         with contextlib.suppress(OSError):
             with open(f"/proc/{self.pid}/task/{self.pid}/children", encoding="ascii") as file:
-                return sum(map(cpu_seconds_of, [str(self.pid), *file.read().split()]))
-        return cpu_seconds_of(str(self.pid))
+                return sum(map(read_cpu_seconds, [str(self.pid), *file.read().split()]))
+        return read_cpu_seconds(str(self.pid))
 
     def wait(self) -> tuple[int, list[str]]:
         """Wait until the process ends. Return its exit status, which is negative for a signal, and
@@ -111,7 +111,7 @@ class ForkedProcess:
         return os.waitstatus_to_exitcode(status), lines
 
 
-def cpu_seconds_of(process: str) -> float:
+def read_cpu_seconds(process: str) -> float:
     """Return the CPU time in seconds of a process and its ended children, or 0 if it is gone."""
     try:
         with open(f"/proc/{process}/stat", encoding="utf-8", errors="replace") as file:
@@ -131,15 +131,15 @@ def hold_signals() -> Iterator[None]:
         signal.pthread_sigmask(signal.SIG_SETMASK, before)
 
 
-def run_and_exit(function: Callable[[], int], errors_file: int, alive: int) -> NoReturn:
+def run_and_exit(function: Callable[[], int], errors_file: int, pipe_end: int) -> NoReturn:
     """Run the function in this forked process and exit with its result as the status. Keep only the
-    files `errors_file` and `alive` open, and skip the cleanup of the parent process."""
+    files `errors_file` and `pipe_end` open, and skip the cleanup of the parent process."""
     status = 2
     try:
         try:
             gc.freeze()  # keep garbage collection from copying the parent's memory
             os.setsid()
-            redirect_files(errors_file, alive)
+            redirect_files(errors_file, pipe_end)
             handle_signals()
             signal.pthread_sigmask(signal.SIG_UNBLOCK, SIGNALS)
             status = function()
@@ -149,17 +149,17 @@ def run_and_exit(function: Callable[[], int], errors_file: int, alive: int) -> N
         os._exit(2)  # if a signal interrupted the inner block
 
 
-def redirect_files(errors_file: int, alive: int) -> None:
-    """Close all files of the parent, including locks, except `errors_file` and the pipe `alive`.
+def redirect_files(errors_file: int, pipe_end: int) -> None:
+    """Close all files of the parent, including locks, except `errors_file` and the pipe `pipe_end`.
     Redirect standard input and output to /dev/null, and standard error to `errors_file`."""
-    errors_file, alive = (fcntl.fcntl(one, fcntl.F_DUPFD_CLOEXEC, ERRORS + 1) for one in
-                          (errors_file, alive))
+    errors_file, pipe_end = (fcntl.fcntl(item, fcntl.F_DUPFD_CLOEXEC, ERRORS + 1) for item in
+                             (errors_file, pipe_end))
     nothing = os.open(os.devnull, os.O_RDWR)
     for file, place in ((nothing, INPUT), (nothing, OUTPUT), (errors_file, ERRORS)):
         os.dup2(file, place)
     for name in os.listdir(FILES):
         with contextlib.suppress(OSError):
-            if int(name) > ERRORS and int(name) != alive:
+            if int(name) > ERRORS and int(name) != pipe_end:
                 os.close(int(name))
 
 
@@ -172,15 +172,15 @@ def wait_for_any(calls: Collection[ForkedProcess], seconds: float) -> list[Forke
 
 
 POLL_SECONDS = 0.2
-LEAST_SECONDS, BYTES_PER_SECOND = 60, 10_000_000
+MIN_SECONDS, BYTES_PER_SECOND = 60, 10_000_000
 GRACE_SECONDS = 10  # seconds from SIGTERM to SIGKILL, so that a process can write its result
 
 
-def default_limit(files: Mapping[str, Any]) -> int:
+def compute_default_limit(files: Mapping[str, Any]) -> int:
     """Return the CPU time limit of a pair in seconds, from the sizes of its files. RLIMIT_CPU would
     not show which limit ended a program."""
-    size: int = sum(about["size"] for about in files.values() if about)
-    return LEAST_SECONDS + size // BYTES_PER_SECOND
+    size: int = sum(info["size"] for info in files.values() if info)
+    return MIN_SECONDS + size // BYTES_PER_SECOND
 
 
 class RunningPair(NamedTuple):
@@ -188,7 +188,7 @@ class RunningPair(NamedTuple):
 
     item: BatchItem
     limit: int
-    claim: contextlib.ExitStack
+    pair_lock: contextlib.ExitStack
 
 
 class PairRunner:
@@ -201,15 +201,16 @@ class PairRunner:
         self.out, self.is_kept = out, is_kept
         self.limit = limit  # CPU seconds per pair, or `None` for the default limit
         self.parts = PartFiles(out) if out is not None else None
-        self.running: dict[ForkedProcess, RunningPair] = {}
-        self.over_limit: set[ForkedProcess] = set()
+        self.running_pairs: dict[ForkedProcess, RunningPair] = {}
+        self.overdue_processes: set[ForkedProcess] = set()
         self.inputs = NO_INPUTS  # inputs of all pairs
         self.unwritten_results: dict[str, dict[str, Any]] = {}
-        self.in_use: set[str] = set()  # names of pairs whose files another run of qc was writing
+        # names of pairs whose files another run of qc was writing
+        self.names_in_use: set[str] = set()
         self.is_stopped = False
         describe_program(command_paths.program_path)  # caches the checksum for forked processes
 
-    def result_path(self, item: BatchItem) -> str:
+    def get_result_path(self, item: BatchItem) -> str:
         """Return the path of the JSON result for a pair."""
         return os.path.join(self.out or self.folder, item.name + ENDING)
 
@@ -217,23 +218,23 @@ class PairRunner:
         """Start judging a pair. Return its row at once if the pair can't be judged: its results
         would replace input files or foreign files, or another run of qc is writing them."""
         self.unwritten_results.pop(item.name, None)
-        self.in_use.discard(item.name)
-        claim = contextlib.ExitStack()
+        self.names_in_use.discard(item.name)
+        pair_lock = contextlib.ExitStack()
         try:
             if self.out is not None:
                 refuse_pair_files(self.out, item.name, self.inputs, self.parts)
-            claim.enter_context(claim_pair(self.out, item.name))
-            return self.start_claimed(item, claim)
+            pair_lock.enter_context(lock_pair(self.out, item.name))
+            return self.start_locked_pair(item, pair_lock)
         except (Stop, OSError) as reason:
             if isinstance(reason, FilesInUse):
-                self.in_use.add(item.name)
+                self.names_in_use.add(item.name)
             result = make_unjudged(item.name, format_error(reason))
             self.unwritten_results[item.name] = result
             return make_row(result, item.name)
         finally:
-            claim.close()  # no effect once `self.running` has the lock
+            pair_lock.close()  # no effect once `self.running_pairs` has the lock
 
-    def start_claimed(self, item: BatchItem, claim: contextlib.ExitStack) -> Row | None:
+    def start_locked_pair(self, item: BatchItem, pair_lock: contextlib.ExitStack) -> Row | None:
         """Start judging a pair whose results are locked. Return its row if that fails."""
         if self.out is not None:
             remove_results(self.out, item.name, self.parts)
@@ -242,50 +243,50 @@ class PairRunner:
         request = item.request
         call = PairOptions(self.command_paths.program_path, name=item.name, is_claimed=True)
         call = call._replace(out=self.out, is_kept=self.is_kept) if self.out else \
-            call._replace(json=self.result_path(item))
-        limit = self.limit or default_limit(describe_inputs(request))
+            call._replace(json=self.get_result_path(item))
+        limit = self.limit or compute_default_limit(describe_inputs(request))
         try:
             with hold_signals():
                 process = ForkedProcess(lambda: judge_forked_pair(request, call))
-                self.running[process] = RunningPair(item, limit, claim.pop_all())
+                self.running_pairs[process] = RunningPair(item, limit, pair_lock.pop_all())
         except Stop as reason:
             return self.record_unjudged(item, str(reason))
         return None
 
-    def finished_rows(self, seconds: float) -> Iterator[Row]:
+    def collect_rows(self, seconds: float) -> Iterator[Row]:
         """Wait up to `seconds` until a process ends. Yield the rows of the pairs whose processes
         have ended, and stop the processes that are over their limit."""
-        for call in wait_for_any(self.running, seconds):
+        for call in wait_for_any(self.running_pairs, seconds):
             yield self.finish(call)
-        for call, begun in self.running.items():
-            more = call.cpu_seconds() - begun.limit
+        for call, running_pair in self.running_pairs.items():
+            more = call.cpu_seconds() - running_pair.limit
             if more >= 0:
-                self.over_limit.add(call)
+                self.overdue_processes.add(call)
                 (call.kill if more >= GRACE_SECONDS else call.stop)()
 
     def finish(self, call: ForkedProcess) -> Row:
         """Read the result of an ended process. Return the row of its pair."""
-        item, limit, claim = self.running.pop(call)
-        is_over = call in self.over_limit
-        self.over_limit.discard(call)
+        item, limit, pair_lock = self.running_pairs.pop(call)
+        is_overdue = call in self.overdue_processes
+        self.overdue_processes.discard(call)
         try:
             status, lines = call.wait()
-            result = read_call_result(self.result_path(item), item.name, status, lines)
-            if result["verdict"] == NOT_JUDGED and is_over:
+            result = read_call_result(self.get_result_path(item), item.name, status, lines)
+            if result["verdict"] == NOT_JUDGED and is_overdue:
                 return self.record_unjudged(
                     item, f"it used more than {counted(limit, 'second')} of CPU time: give a "
                     "greater --limit")
             return self.record_unjudged(item, result["reason"]) if "request" not in result else \
                 make_row(result, item.name)
         finally:
-            claim.close()
+            pair_lock.close()
 
     def record_unjudged(self, item: BatchItem, reason: str) -> Row:
         """Write a JSON result `not judged` for a pair, if possible. Return its row."""
         result = make_unjudged(item.name, reason)
         try:
             if not self.is_stopped:
-                write_result_file(self.result_path(item), result)
+                write_result_file(self.get_result_path(item), result)
         except OSError as error:
             result = make_unjudged(item.name, f"{reason}; {format_error(error)}")
             self.unwritten_results[item.name] = result
@@ -294,13 +295,13 @@ class PairRunner:
     def stop(self) -> None:
         """Stop all running processes. Pairs whose judging is stopped get no result."""
         self.is_stopped = True
-        for call in self.running:
+        for call in self.running_pairs:
             call.stop()
-        while self.running:
-            call, begun = next(iter(self.running.items()))
+        while self.running_pairs:
+            call, running_pair = next(iter(self.running_pairs.items()))
             if not self.finish(call).is_judged:  # the process was stopped before it finished
                 with contextlib.suppress(OSError):
-                    os.unlink(self.result_path(begun.item))
+                    os.unlink(self.get_result_path(running_pair.item))
 
 
 def judge_batch(args: argparse.Namespace, program_name: str) -> int:
@@ -309,35 +310,36 @@ def judge_batch(args: argparse.Namespace, program_name: str) -> int:
     if args.is_resumed and args.out is None:
         raise Stop("--resume needs -o, the folder with the results of an earlier call")
     if args.line is None:
-        items, more, folder_of_all = read_pairs(args.batch, args), list[str](), args.out
+        items, more, common_folder = read_pairs(args.batch, args), list[str](), args.out
     # Other runs of qc judge the other lines, so no page listing all pairs is written.
     else:
         item, more = read_line_pair(args.batch, args.line, args)
-        items, folder_of_all = [item], None
+        items, common_folder = [item], None
     inputs = collect_inputs(items, args.batch, *more)
-    collection.refuse_output_names(args, inputs, folder_of_all)
+    collection.refuse_output_names(args, inputs, common_folder)
     with make_temporary_folder("subttx-qc-") as folder, \
-            claim_folder(folder_of_all):
+            lock_folder(common_folder):
         calls = PairRunner(command_paths, folder, args.out, args.is_kept, args.limit)
         calls.inputs = inputs
-        kept = resumed_rows(calls, items) if args.is_resumed else {}
-        rows_by_name = judge_all(calls, items, kept, args.jobs or os.cpu_count() or 1)
-        done = [item for item in items if item.name in rows_by_name]
-        rows = [rows_by_name[item.name] for item in done]
+        kept_rows = read_resumed_rows(calls, items) if args.is_resumed else {}
+        rows_by_name = judge_items(calls, items, kept_rows, args.jobs or os.cpu_count() or 1)
+        finished_items = [item for item in items if item.name in rows_by_name]
+        rows = [rows_by_name[item.name] for item in finished_items]
         status = collection.write_collection(args, rows, [
-            calls.unwritten_results.get(item.name) or calls.result_path(item) for item in done],
-            calls.is_stopped, folder_of_all)
+            calls.unwritten_results.get(item.name) or calls.get_result_path(item)
+            for item in finished_items], calls.is_stopped, common_folder)
         if calls.is_stopped:
-            print_stderr(f"stopped when {len(done)} of {counted(len(items), 'pair')} were judged"
-                         + ("; --resume judges the others" if args.out is not None else ""))
+            print_stderr(f"stopped when {len(finished_items)} of {counted(len(items), 'pair')} "
+                         "were judged" + ("; --resume judges the others" if args.out is not None
+                                          else ""))
         return status
 
 
-def resumed_rows(calls: PairRunner, items: list[BatchItem]) -> dict[str, Row]:
+def read_resumed_rows(calls: PairRunner, items: list[BatchItem]) -> dict[str, Row]:
     """Return the rows of the pairs whose earlier results are up to date."""
     program, rows = describe_program(calls.command_paths.program_path), {}
     for item in items:
-        path = calls.result_path(item)
+        path = calls.get_result_path(item)
         result = read_result(path) if item.request and os.path.exists(path) else None
         if result and is_reusable(result, item, program):
             rows[item.name] = make_row(result, item.name)
@@ -350,23 +352,24 @@ def is_reusable(result: dict[str, Any] | None, item: BatchItem, program: Program
         and is_current(result, item.request, program)
 
 
-def judge_all(calls: PairRunner, items: list[BatchItem], kept: dict[str, Row], jobs: int,
+def judge_items(calls: PairRunner, items: list[BatchItem], kept_rows: dict[str, Row], jobs: int,
              handle_row: Callable[[Row], None] = lambda row: None) -> dict[str, Row]:
     """Judge pairs, show the progress, and return the rows of the pairs. `handle_row` is called with
     each new row. After a signal, return the rows of the pairs judged so far."""
-    progress, began, rows = Progress(), time.monotonic(), dict(kept)
-    waiting = collections.deque(item for item in items if item.name not in kept)
+    progress, start_time, rows = Progress(), time.monotonic(), dict(kept_rows)
+    waiting = collections.deque(item for item in items if item.name not in kept_rows)
     try:
-        while waiting or calls.running:
-            for row in judge_next(calls, waiting, jobs):
+        while waiting or calls.running_pairs:
+            for row in judge_next_items(calls, waiting, jobs):
                 rows[row.name] = row
                 progress.clear()
                 handle_row(row)
-            progress.show(lambda: collection.format_progress(rows, len(items), len(kept), began))
+            progress.show(lambda: collection.format_progress(rows, len(items), len(kept_rows),
+                                                             start_time))
     except BaseException as reason:
         if isinstance(reason, KeyboardInterrupt):
             ignore_signals()  # so that the results can be written
-        for row in calls.finished_rows(0.0):
+        for row in calls.collect_rows(0.0):
             rows[row.name] = row
             handle_row(row)
         calls.stop()
@@ -376,14 +379,14 @@ def judge_all(calls: PairRunner, items: list[BatchItem], kept: dict[str, Row], j
     return rows
 
 
-def judge_next(calls: PairRunner, waiting: collections.deque[BatchItem],
-               jobs: int) -> Iterator[Row]:
+def judge_next_items(calls: PairRunner, waiting: collections.deque[BatchItem],
+                     jobs: int) -> Iterator[Row]:
     """Start waiting pairs, so that up to `jobs` run at a time. Yield the rows of finished pairs."""
-    while waiting and len(calls.running) < jobs:
+    while waiting and len(calls.running_pairs) < jobs:
         row = calls.start(waiting.popleft())
         if row:
             yield row
-    yield from calls.finished_rows(POLL_SECONDS)
+    yield from calls.collect_rows(POLL_SECONDS)
 
 
 # A watched folder is judged like a batch that is resumed repeatedly. A pair is judged when both of
@@ -393,7 +396,7 @@ SCAN_SECONDS = 1.0  # between scans; notifications would miss files written by o
 DONE_SUFFIX = ".done"  # suffix of a file that marks both files of a pair as complete
 
 
-class Sighting(NamedTuple):
+class FolderState(NamedTuple):
     """The state of a pair's files and the time when it was first seen. If the files are not a valid
     pair, the state says why."""
 
@@ -402,24 +405,24 @@ class Sighting(NamedTuple):
 
 
 class FolderWatch:
-    """Finds complete pairs in a folder. `handled` has the state of the files of each pair that was
-    already judged or reported."""
+    """Finds complete pairs in a folder. `handled_states` has the state of the files of each pair
+    that was already judged or reported."""
 
     def __init__(self, folder: str, settled: int) -> None:
         self.folder, self.settled = folder, settled
-        self.seen: dict[str, Sighting] = {}
-        self.handled: dict[str, object] = {}
+        self.seen: dict[str, FolderState] = {}
+        self.handled_states: dict[str, object] = {}
 
-    def ready_items(self, items: Iterable[BatchItem]) -> list[BatchItem]:
+    def find_ready_items(self, items: Iterable[BatchItem]) -> list[BatchItem]:
         """Return the complete pairs that are new or changed. If files are not a valid pair, print
         the reason once."""
         now, ready = time.monotonic(), []
         for item in items:
             file_state = describe_inputs(item.request) if item.request else item.reason
-            if self.handled.get(item.name) == file_state or not self.is_complete(
+            if self.handled_states.get(item.name) == file_state or not self.is_complete(
                     item.name, file_state, now):
                 continue
-            self.handled[item.name] = file_state
+            self.handled_states[item.name] = file_state
             if item.request:
                 ready.append(item)
             else:
@@ -433,7 +436,7 @@ class FolderWatch:
             return True
         seen = self.seen.get(name)
         if seen is None or seen.file_state != file_state:
-            self.seen[name] = Sighting(file_state, time.monotonic())
+            self.seen[name] = FolderState(file_state, time.monotonic())
             return False
         return now - seen.seen_at >= self.settled
 
@@ -457,12 +460,12 @@ def watch(args: argparse.Namespace, program_name: str) -> int:
     command_paths = CommandPaths(program_name, args.program)
     calls = PairRunner(command_paths, args.out, args.out, args.is_kept, args.limit)
     program = describe_program(command_paths.program_path)
-    watching = FolderWatch(args.watch, args.settled)
+    folder_watch = FolderWatch(args.watch, args.settled)
     results = collection.FolderRows(args.out)
 
     def handle_row(row: Row) -> None:
-        if row.name in calls.in_use:  # report this once, and judge the pair in a later scan
-            watching.handled.pop(row.name, None)
+        if row.name in calls.names_in_use:  # report this once, and judge the pair in a later scan
+            folder_watch.handled_states.pop(row.name, None)
             if results.rows.get(row.name) == row:
                 return
         results.add(row)
@@ -472,9 +475,9 @@ def watch(args: argparse.Namespace, program_name: str) -> int:
         while not calls.is_stopped:
             items = find_folder_pairs(args.watch, args)
             calls.inputs = collect_inputs(items)
-            ready_pairs = [item for item in watching.ready_items(items)
+            ready_pairs = [item for item in folder_watch.find_ready_items(items)
                    if not is_reusable(results.identities.pop(item.name, None), item, program)]
-            judge_all(calls, ready_pairs, {}, args.jobs or os.cpu_count() or 1, handle_row)
+            judge_items(calls, ready_pairs, {}, args.jobs or os.cpu_count() or 1, handle_row)
             results.write_page()
             time.sleep(SCAN_SECONDS)
     except KeyboardInterrupt:

@@ -16,10 +16,10 @@ from ..common.files import Inputs, NO_INPUTS, STANDARD_OUTPUTS, refuse_output_na
 from ..common.markup import BREAK, HEAD, Markup, NO_MARKUP, Value, join_markup, markup
 from ..judging.status import (
     ACCEPTED, LOST, NOT_JUDGED, REFUSED, RELATIVE, WAIVED, WARNED, combine_statuses)
-from ..request.commands import index_path
+from ..request.commands import make_index_path
 from ..results.files import (
-    ENDING, NO_CLOCK, Row, TestCase, sort_rows, junit_file, read_result, read_results, write_file,
-    make_row, table_lines, make_unjudged)
+    ENDING, NO_CLOCK, Row, TestCase, sort_rows, make_junit_file, read_result, read_results,
+    write_file, make_row, make_table_lines, make_unjudged)
 from ..results.schema import FORMAT
 from .single import now, refuse_folder_files
 
@@ -66,21 +66,22 @@ MAX_CAUSES = 6
 def make_index_page(folder: str, rows: Sequence[Row], date: str) -> bytes:
     """Return the HTML page with all pairs of a folder, worst verdict first."""
     verdicts = collections.Counter(row.verdict for row in rows)
-    counts = ", ".join(f"{verdicts[one]} {one}" for one in sorted(verdicts))
+    counts = ", ".join(f"{verdicts[item]} {item}" for item in sorted(verdicts))
     title = f"{counted(len(rows), 'pair')}: {counts}"
     headers = join_markup(markup('<th scope="col">{}</th>', text) for text in PAGE_HEADS)
-    lines = join_markup((make_pair_row(folder, row) for row in sorted(rows, key=sort_key)), "\n")
+    lines = join_markup((make_pair_row(folder, row) for row in sorted(rows, key=make_sort_key)),
+                        "\n")
     filter_rules = join_markup(markup('main:has([value="{}"]:checked) .pairs tbody tr:not(.{}) '
-                                      "{{ display: none; }}\n", *[one.replace(" ", "-")] * 2)
-                               for one in sorted(verdicts))
+                                      "{{ display: none; }}\n", *[item.replace(" ", "-")] * 2)
+                               for item in sorted(verdicts))
     radios = join_markup(
         markup('<label><input type="radio" name="verdict" value="{}"{}/> {} ({})</label>',
-               one.replace(" ", "-"), markup(' checked="checked"') * (one == "all"), one, count)
-        for one, count in [("all", len(rows)), *sorted(verdicts.items())])
-    unclocked_count = sum(row.clock == NO_CLOCK for row in rows)
+               item.replace(" ", "-"), markup(' checked="checked"') * (item == "all"), item, count)
+        for item, count in [("all", len(rows)), *sorted(verdicts.items())])
+    no_clock_count = sum(row.clock == NO_CLOCK for row in rows)
     note = markup('<p class="estimated">{}: {} of {}. A delay of all subtitles of these pairs '
-                  "was not checked.</p>", NO_CLOCK.capitalize(), unclocked_count,
-                  counted(len(rows), "pair")) if unclocked_count else NO_MARKUP
+                  "was not checked.</p>", NO_CLOCK.capitalize(), no_clock_count,
+                  counted(len(rows), "pair")) if no_clock_count else NO_MARKUP
     page = HEAD + markup("<title>{}</title>", title) + STYLE + filter_rules + markup(
         "</style></head><body><main>\n<h1>{}</h1>\n<p><small>Made {}. Pairs that need attention "
         "come first.</small></p>\n{}{}\n<fieldset><legend>Show</legend>{}</fieldset>\n"
@@ -101,7 +102,7 @@ def make_cause_totals(rows: Sequence[Row]) -> Markup:
     return markup("<p>Subtitles or faults by cause: {}.</p>", words) if causes else NO_MARKUP
 
 
-def sort_key(row: Row) -> tuple[int, str]:
+def make_sort_key(row: Row) -> tuple[int, str]:
     """Return a key that sorts refused pairs first, then pairs that were not judged, then waived and
     relative pairs, and accepted pairs last."""
     ranks = {NOT_JUDGED: 1, WAIVED: 2, RELATIVE: 2, ACCEPTED: 3}
@@ -174,9 +175,9 @@ def write_collection(args: argparse.Namespace, rows: Sequence[Row], sources: Seq
 
     outputs: list[Callable[[], None]] = [
         lambda: write_index(folder, rows), lambda: write_file(
-            args.csv, lambda: table_lines(map(load_for_csv, sources))),
-        lambda: write_file(args.junit, lambda: junit_chunks(rows, date)),
-        lambda: write_file(args.json, lambda: json_chunks(sources, status(), date))]
+            args.csv, lambda: make_table_lines(map(load_for_csv, sources))),
+        lambda: write_file(args.junit, lambda: make_junit_chunks(rows, date)),
+        lambda: write_file(args.json, lambda: make_json_chunks(sources, status(), date))]
     for write in outputs:
         try:
             write()
@@ -209,7 +210,7 @@ class FolderRows:
     def __init__(self, folder: str) -> None:
         self.folder, self.rows = folder, dict[str, Row]()
         self.identities = dict[str, dict[str, Any]]()
-        self.is_page_old, self.next_page = False, 0.0
+        self.is_page_outdated, self.next_page = False, 0.0
         for path, result in read_results(folder):
             if result is not None:
                 name = os.path.basename(path).removesuffix(ENDING)
@@ -219,22 +220,22 @@ class FolderRows:
 
     def add(self, row: Row) -> None:
         """Print the verdict on a pair, and add its row to the page."""
-        self.rows[row.name], self.is_page_old = row, True
+        self.rows[row.name], self.is_page_outdated = row, True
         line = worst_fault(row)
-        when = time.strftime("%Y-%m-%d %H:%M:%S")
-        print_stdout(f"{when}  {row.name}  {row.verdict}{': ' if line else ''}{line}")
+        time_text = time.strftime("%Y-%m-%d %H:%M:%S")
+        print_stdout(f"{time_text}  {row.name}  {row.verdict}{': ' if line else ''}{line}")
         self.write_page()
 
     def write_page(self, is_last: bool = False) -> None:
         """Write the page if there is a new verdict. Unless `is_last`, wait one second per thousand
         pairs after each write, since a longer page takes longer to write."""
-        if not self.is_page_old or not is_last and time.monotonic() < self.next_page:
+        if not self.is_page_outdated or not is_last and time.monotonic() < self.next_page:
             return
         try:
             write_index(self.folder, sort_rows(self.rows))
         except OSError as reason:
             print_stderr(format_error(reason))
-        self.is_page_old = False
+        self.is_page_outdated = False
         self.next_page = time.monotonic() + len(self.rows) / PAIRS_PER_SECOND
 
 
@@ -254,7 +255,7 @@ def write_index(folder: str | None, rows: Sequence[Row]) -> None:
     """Write the page with all pairs of a folder. If the folder is `None`, do nothing."""
     if folder is None:
         return
-    with open_result(index_path(folder)) as file:
+    with open_result(make_index_path(folder)) as file:
         file.write(make_index_page(folder, rows, now()))
 
 
@@ -272,7 +273,7 @@ def format_summary(rows: Sequence[Row], note: str = "") -> Iterator[str]:
     yield f"{counted(len(rows), 'pair')}: {', '.join(counts)}" + (f"; {note}" if note else "")
 
 
-def format_progress(rows: dict[str, Row], count: int, kept: int, began: float) -> str:
+def format_progress(rows: dict[str, Row], count: int, kept_count: int, start_time: float) -> str:
     """Return the progress line: the number of pairs by verdict, and the estimated time left."""
     verdicts = [row.verdict for row in rows.values()]
     good_counts = [f"{verdicts.count(word)} {word}, " for word in (ACCEPTED, WAIVED, RELATIVE)
@@ -281,10 +282,10 @@ def format_progress(rows: dict[str, Row], count: int, kept: int, began: float) -
     refused = sum(word not in (ACCEPTED, WAIVED, RELATIVE, NOT_JUDGED) for word in verdicts)
     line = f"{len(rows)} of {counted(count, 'pair')}: {''.join(good_counts)}{refused} refused, " \
         f"{unjudged_count} not judged"
-    done = len(rows) - kept
-    if not done:
+    done_count = len(rows) - kept_count
+    if not done_count:
         return line
-    seconds_left = (time.monotonic() - began) / done * (count - len(rows))
+    seconds_left = (time.monotonic() - start_time) / done_count * (count - len(rows))
     return f"{line}; {counted(round(seconds_left), 'second')} left"
 
 
@@ -299,7 +300,7 @@ def worst_fault(row: Row) -> str:
     return (f"{line}: {row.hint}" if row.hint else line) + more
 
 
-def json_chunks(sources: Sequence[ResultSource], status: int, date: str) -> Iterator[bytes]:
+def make_json_chunks(sources: Sequence[ResultSource], status: int, date: str) -> Iterator[bytes]:
     """Yield the JSON results of all pairs as one JSON object."""
     head = {"format": FORMAT, "status": status, "date": date}
     yield json.dumps(head, indent=1).removesuffix("\n}").encode() + b',\n "pairs": ['
@@ -328,8 +329,8 @@ def load_for_csv(source: ResultSource) -> dict[str, Any]:
     return result
 
 
-def junit_chunks(rows: Sequence[Row], date: str) -> Iterator[bytes]:
+def make_junit_chunks(rows: Sequence[Row], date: str) -> Iterator[bytes]:
     """Yield the JUnit file with a test case for each pair."""
-    yield junit_file([
+    yield make_junit_file([
         TestCase(row.title, row.verdict, row.status, row.line, row.lines, row.seconds,
                         row.counts, row.sentence) for row in rows], date)

@@ -20,20 +20,21 @@ CALLS = (PAIR, ALONE, BATCH, WATCH)
 OUTPUT_MODES = (PAIR, ALONE, BATCH, COLLECT)
 
 
-def make_number_parser(what: str, least: int, most: int) -> Callable[[str], int]:
-    """Return a parser for numbers from `least` to `most`. `what` names the number in messages."""
+def make_number_parser(value_name: str, least: int, most: int) -> Callable[[str], int]:
+    """Return a parser for numbers from `least` to `most`. `value_name` names the number in
+    messages."""
 
     def parse_number(text: str) -> int:
         is_number = text.isascii() and text.isdecimal() and len(text) <= len(str(most))
         if not is_number or not least <= int(text) <= most:
-            raise argparse.ArgumentTypeError(f"{text} is not a number of {what}: give {least} to "
-                                             f"{most}")
+            raise argparse.ArgumentTypeError(f"{text} is not a number of {value_name}: give "
+                                             f"{least} to {most}")
         return int(text)
 
     return parse_number
 
 
-read_line_number = make_number_parser("a line", 1, 9_999_999)
+parse_line_number = make_number_parser("a line", 1, 9_999_999)
 read_jobs = make_number_parser("pairs at a time", 1, 9_999)
 read_seconds = make_number_parser("seconds", 0, 99_999)
 read_limit = make_number_parser("seconds", 1, 99_999)
@@ -62,7 +63,7 @@ CALL_OPTIONS = (
     Option("--resume", None, "skip pairs whose results are up to date",
            (BATCH,), field="is_resumed", default=False),
     Option("--line", "N", "judge only line N of LIST", (BATCH,), field="line",
-           read=read_line_number),
+           read=parse_line_number),
     Option("--jobs", "N", "judge N pairs at a time", (BATCH, WATCH), "one for each processor",
            field="jobs", read=read_jobs),
     Option("--limit", "SECONDS", "limit the CPU time for a pair, including subprocesses",
@@ -79,24 +80,25 @@ def find_mode(args: argparse.Namespace) -> Mode:
     """Return the mode that a command line selects. Raise `Stop` if it selects more than one."""
     values = {BATCH: args.batch, COLLECT: args.collect, WATCH: args.watch,
              MEASURE: args.measure}
-    given = [mode for mode, value in values.items() if value is not None]
-    if len(given) > 1:
-        raise Stop(f"{given[0].text} and {given[1].text} can't be given together")
-    if given and args.stl is not None:
-        source = "from its arguments" if given[0] is MEASURE else f"from {values[given[0]]}"
-        raise Stop(f"{given[0].text} takes its pairs {source}: remove {args.stl}")
-    return given[0] if given else ALONE if args.recording is None else PAIR
+    given_modes = [mode for mode, value in values.items() if value is not None]
+    if len(given_modes) > 1:
+        raise Stop(f"{given_modes[0].text} and {given_modes[1].text} can't be given together")
+    if given_modes and args.stl is not None:
+        source = "from its arguments" if given_modes[0] is MEASURE \
+            else f"from {values[given_modes[0]]}"
+        raise Stop(f"{given_modes[0].text} takes its pairs {source}: remove {args.stl}")
+    return given_modes[0] if given_modes else ALONE if args.recording is None else PAIR
 
 
 def list_given_options(parser: ToolParser, line: Sequence[str]) -> list[str]:
     """Return the options on a command line, in the order of `OPTION_MODES`."""
-    names, missing = parser.fields, object()
+    names, no_value = parser.fields, object()
     values = parser.parse_args([*line], argparse.Namespace(**dict.fromkeys(
-        names.values(), missing)))
-    given = {field for field, value in vars(values).items() if value is not missing}
+        names.values(), no_value)))
+    given_fields = {field for field, value in vars(values).items() if value is not no_value}
     # If two options set the same field, only return the option on the command line.
     words = {word.partition("=")[0] for word in line}
-    return [name for name in OPTION_MODES if names.get(name) in given and (
+    return [name for name in OPTION_MODES if names.get(name) in given_fields and (
         name in words or not words & {other for other in names if names[other] == names[name]})]
 
 
@@ -145,13 +147,13 @@ def make_testcase(result: dict[str, Any]) -> list[bytes]:
     """Return the JUnit file, with its single test case, for a pair that was not judged."""
     case = files.TestCase(result["name"], result["verdict"], result["status"], result["reason"], [],
                           0.0)
-    return [files.junit_file([case], single.now())]
+    return [files.make_junit_file([case], single.now())]
 
 
 # Functions that make each kind of file from a result
 MAKE_CONTENTS: dict[str, Callable[[dict[str, Any]], Iterable[bytes]]] = {
-    "--json": lambda result: [files.result_bytes(result)],
-    "--csv": lambda result: files.table_lines([result]), "--junit": make_testcase}
+    "--json": lambda result: [files.encode_result(result)],
+    "--csv": lambda result: files.make_table_lines([result]), "--junit": make_testcase}
 # First bytes of earlier output files. Other files are not replaced, since they may be inputs.
 FIRST_BYTES = {"--json": b"{", "--csv": b"stl,recording,", "--junit": b"<?xml version='1.0' "}
 

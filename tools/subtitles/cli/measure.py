@@ -12,12 +12,12 @@ from ..clock.start import TCP
 from ..common.command_line import (
     Lateness, MAX_WITHIN, Stop, counted, format_lateness, quote_argument, print_stdout, version)
 from ..common.files import read_first_bytes, make_temporary_folder
-from ..common.times import FRAMES_OF_A_DAY, Span, TICKS, ticks_after, time_of
+from ..common.times import FRAMES_OF_A_DAY, Span, TICKS, format_frame, subtract_origin
 from ..formats.layout import (
-    PLAIN, TextFault, draw_text, parse_layout, format_layout, find_text_letters, find_page_letters,
-    make_page_rows)
+    PLAIN, TextFault, draw_text, parse_layout, format_layout, encode_text_characters,
+    list_page_characters, make_page_rows)
 from ..formats.stl import Subtitle
-from ..formats.teletext import BY_WORD, NationalOption, page_name
+from ..formats.teletext import NationalOption, OPTION_BY_WORD, page_name
 from ..judging.pages import find_text_columns, format_cells
 from ..judging.pair import PairJudge
 from ..judging.part import Part
@@ -31,12 +31,12 @@ from ..request.commands import CommandPaths, Listener, OutputNames, Progress, Pr
 from ..request.lines import read_pairs, read_profile
 from ..request.request import PID_CHOICE, Request, Unclear, make_file_request
 from ..stream.pace import BY_EVERY, IRREGULAR, Pace, PAUSED, TOO_FEW
-from ..stream.repeats import RARE, Repeats, measure_repeats
+from ..stream.repeats import RARE_SHARE, Repeats, measure_repeats
 from ..stream.layout import (
-    FEWEST, FLASH, LayoutChoice, MAX_MOVED, SentSubtitle, TENTHS, choose_layouts, draws_as_sent,
-    find_questionable_items, find_sent_subtitles)
+    FLASH, LayoutChoice, MAX_MOVED_ROWS, MIN_SUBTITLES, MIN_TENTHS, SentSubtitle, choose_layouts,
+    draws_as_sent, find_questionable_items, find_sent_subtitles)
 from ..stream.packets import HEADER
-from ..stream.receiver import Timeline, decode_near
+from ..stream.receiver import Timeline, decode_pages_around
 from .single import now
 
 
@@ -70,27 +70,28 @@ class ReceivedSubtitle(NamedTuple):
     def name(self) -> str:
         """Return a description of the subtitle: its file, position and time."""
         subtitle = self.subtitle
-        return f"{self.stl}, {subtitle.name} at {time_of(subtitle.begin)}"
+        return f"{self.stl}, {subtitle.name} at {format_frame(subtitle.begin)}"
 
 
-def propose_every(all_repeats: Sequence[Repeats]) -> Finding:
+def propose_repeat_limit(all_repeats: Sequence[Repeats]) -> Finding:
     """Propose --every: the longest interval between two headers of the page in all recordings."""
     if not all_repeats:
         return Finding("", ["every: there are too few headers of the page"])
-    worst = max(all_repeats, key=lambda one: one.longest)
-    usual = [one.usual for one in all_repeats if one.usual is not None]
+    worst_repeats = max(all_repeats, key=lambda item: item.longest)
+    usual = [item.usual for item in all_repeats if item.usual is not None]
     words = f" (usually {max(usual)})" if usual else ""
     lines = [
         f"every: {counted(sum(repeats.headers for repeats in all_repeats), 'header')} of the page, "
-        f"at most {counted(worst.longest, 'frame')} apart{words}; the longest interval begins at "
-        f"{time_of(worst.longest_start)}"]
-    return Finding(f"--every {worst.longest}", lines + named_lines(
+        f"at most {counted(worst_repeats.longest, 'frame')} apart{words}; the longest interval "
+        f"begins at {format_frame(worst_repeats.longest_start)}"]
+    return Finding(f"--every {worst_repeats.longest}", lines + format_name_lines(
         "longer intervals, which check refuses with this --every", [
-            f"{counted(frames, 'frame')} from {time_of(since)} on" for repeats in all_repeats
-            for since, frames in repeats.exceptions if frames > worst.longest]))
+            f"{counted(frames, 'frame')} from {format_frame(begin_frame)} on"
+            for repeats in all_repeats for begin_frame, frames in repeats.exceptions
+            if frames > worst_repeats.longest]))
 
 
-WHY_NONE = {
+MISSING_PACE_REASONS = {
     IRREGULAR: "PES packets come at irregular intervals", PAUSED: "PES packets have pauses",
     BY_EVERY: "--every shows each loss", TOO_FEW: "there are too few PES "
     "packets, or they are too close together, to show a loss"}
@@ -101,10 +102,10 @@ def propose_pace(paces: Sequence[Pace]) -> Finding:
     frames = [pace.frames for pace in paces]
     known_frames = [pace for pace in frames if pace is not None]
     if not known_frames or len(known_frames) < len(frames):
-        why = "; ".join(dict.fromkeys(WHY_NONE[pace.kind] for pace, pace_frames in
-                                      zip(paces, frames)
-                                      if pace_frames is None))
-        return Finding("", [f"pace: none, since {why or 'there are no PES packets'}"])
+        reason = "; ".join(dict.fromkeys(MISSING_PACE_REASONS[pace.kind] for pace, pace_frames in
+                                         zip(paces, frames)
+                                         if pace_frames is None))
+        return Finding("", [f"pace: none, since {reason or 'there are no PES packets'}"])
     return Finding(f"--pace {max(known_frames)}", [
         "pace: PES packets are nearly always at most "
         f"{counted(max(pace.interval for pace in paces), 'frame')} apart"])
@@ -126,11 +127,11 @@ def measure_delays(stl: str, subtitles: Sequence[Subtitle], held: Timeline,
     begins, do not count its out-cue."""
     late = list[tuple[int, str]]()
     delays = Delays(collections.Counter(), collections.Counter(), [], [], late)
-    rows = [(one, find_text_letters(one.text, option)) for one in subtitles]
+    rows = [(item, encode_text_characters(item.text, option)) for item in subtitles]
     for place, (subtitle, letters) in enumerate(rows):
         if not letters:
             continue
-        name = f"{stl}, {subtitle.name} at {time_of(subtitle.begin)}"
+        name = f"{stl}, {subtitle.name} at {format_frame(subtitle.begin)}"
         before, after = (rows[at][0] if 0 <= at < len(rows) else None
                          for at in (place - 1, place + 1))
         is_new = before is None or rows[place - 1][1] != letters \
@@ -166,7 +167,7 @@ def remove_unusual(delays: collections.Counter[int]) -> collections.Counter[int]
     usual, rest = collections.Counter(delays), 0
     for delay in sorted(delays, reverse=True):
         rest += delays[delay]
-        if rest * RARE >= sum(delays.values()):
+        if rest * RARE_SHARE >= sum(delays.values()):
             break
         del usual[delay]
     return usual
@@ -175,9 +176,9 @@ def remove_unusual(delays: collections.Counter[int]) -> collections.Counter[int]
 def find_text_begin(held: Timeline, subtitle: Subtitle, letters: bytes, earlier: int) -> int | None:
     """Return the first frame with the text of a subtitle, or `None`. The search starts `earlier`
     frames before its TCI."""
-    numbers = held.page_numbers(max(subtitle.begin - earlier, 0), subtitle.end)
-    return next((held.page_span(number).first for number in numbers
-                 if find_page_letters(held.pages[number]) == letters), None)
+    numbers = held.list_page_numbers(max(subtitle.begin - earlier, 0), subtitle.end)
+    return next((held.get_page_span(number).first for number in numbers
+                 if list_page_characters(held.pages[number]) == letters), None)
 
 
 def find_text_end(held: Timeline, subtitle: Subtitle, letters: bytes, first: int,
@@ -185,23 +186,23 @@ def find_text_end(held: Timeline, subtitle: Subtitle, letters: bytes, first: int
     """Return the last frame with the text of a subtitle. The search ends soon after its TCO, and
     not after frame `limit`."""
     end = min(subtitle.end + MAX_WITHIN + 1, limit)
-    numbers = held.page_numbers(first, max(end, subtitle.end))
-    return max(held.page_span(number).last for number in numbers
-               if find_page_letters(held.pages[number]) == letters)
+    numbers = held.list_page_numbers(first, max(end, subtitle.end))
+    return max(held.get_page_span(number).last for number in numbers
+               if list_page_characters(held.pages[number]) == letters)
 
 
-def propose_lateness(several: Sequence[Delays], without: Sequence[str],
+def propose_lateness(several: Sequence[Delays], names_without_clock: Sequence[str],
                off_frame: tuple[int, int] = (0, 0)) -> Iterator[Finding]:
-    """Propose --within and --late from the recordings whose clock was given. `without` are the
-    recordings without a clock. `off_frame` has the number of PTS that are not at the start of a
-    frame, and the number of all PTS. If such PTS are not rare, --within is at least 1."""
+    """Propose --within and --late from the recordings whose clock was given. `names_without_clock`
+    are the recordings without a clock. `off_frame` has the number of PTS that are not at the start
+    of a frame, and the number of all PTS. If such PTS are not rare, --within is at least 1."""
     off, count = off_frame
-    least = int(off * RARE >= count > 0)
+    least = int(off * RARE_SHARE >= count > 0)
     lines = [f"within: {off} of {count} PTS differ from their frames, which check "
              f"{'accepts with --within 1' if least else 'refuses with --within 0 (fault 61)'}"] \
         * (off > 0)
     lines += [f"within, late: no clock was given for {name} (--origin or --start), so it is not "
-              "known how late its cues are" for name in without]
+              "known how late its cues are" for name in names_without_clock]
     if not several:
         yield Finding("--within 1" if least else "", lines)
         return
@@ -211,13 +212,13 @@ def propose_lateness(several: Sequence[Delays], without: Sequence[str],
     lines += ["within, late (frames late:number of cues): in-cues "
               f"{format_delays(begins)}; out-cues {format_delays(ends)}"]
     begins, ends = remove_unusual(begins), remove_unusual(ends)
-    lines += named_lines("early, which no option accepts", [
-        name for one in several for name in one.early])
-    lines += named_lines("text never sent", [
-        name for one in several for name in one.unseen])
+    lines += format_name_lines("early, which no option accepts", [
+        name for item in several for name in item.early])
+    lines += format_name_lines("text never sent", [
+        name for item in several for name in item.unseen])
     longest = max([*begins, *ends, least])
-    lines += named_lines("later than usual, which check refuses with this --within", [
-        words for one in several for delay, words in one.late if delay > longest])
+    lines += format_name_lines("later than usual, which check refuses with this --within", [
+        words for item in several for delay, words in item.late if delay > longest])
     if longest > MAX_WITHIN:
         lines.append(f"within can be at most {MAX_WITHIN} frames")
     if not longest or longest > MAX_WITHIN or not (least or begins and ends):
@@ -235,34 +236,34 @@ def format_delays(counts: collections.Counter[int]) -> str:
     return ", ".join(f"{delay}:{count}" for delay, count in sorted(counts.items())) or "none"
 
 
-def named_lines(what: str, names: Sequence[str]) -> list[str]:
+def format_name_lines(title: str, names: Sequence[str]) -> list[str]:
     """Return one line with the first names in a list and the number of other names. If the list is
     empty, return no line."""
     if not names:
         return []
     more = f", and {len(names) - MAX_EXAMPLES} more" if len(names) > MAX_EXAMPLES else ""
-    return [f"{what}: {'; '.join(names[:MAX_EXAMPLES])}{more}"]
+    return [f"{title}: {'; '.join(names[:MAX_EXAMPLES])}{more}"]
 
 
 def propose_keeping(headers: int, keeping: int, is_alone: bool) -> Finding:
     """Propose --keeping if many headers keep the page. `is_alone` is true if no header has a wrong
     control bit other than C4."""
     lines = [f"keeping: C4 (erase page) is clear in {keeping} of {counted(headers, 'header')}"]
-    is_habit = keeping > 0 and keeping * RARE >= headers
-    if keeping and not is_habit:
+    is_frequent = keeping > 0 and keeping * RARE_SHARE >= headers
+    if keeping and not is_frequent:
         lines.append("keeping: these headers are too few to be usual: check refuses them (fault "
                      "67)")
-    if is_habit and not is_alone:
+    if is_frequent and not is_alone:
         lines.append("keeping: other control bits are wrong too: check refuses them (fault 67)")
-    return Finding("--keeping" if is_habit and is_alone else "", lines)
+    return Finding("--keeping" if is_frequent and is_alone else "", lines)
 
 
-def propose_option(options: Iterable[str], judged: str) -> Finding:
-    """Propose the national option if it is the same in all page headers. `judged` is the option
-    with which the text was decoded."""
+def propose_option(options: Iterable[str], judged_option: str) -> Finding:
+    """Propose the national option if it is the same in all page headers. `judged_option` is the
+    option with which the text was decoded."""
     sent = sorted(options)
     lines = [f"option: C12 to C14 of the headers select {' and '.join(sent) or 'none'}; the text "
-             f"was read as {judged}"]
+             f"was read as {judged_option}"]
     return Finding(f"--option {sent[0]}" if len(sent) == 1 else "", lines)
 
 
@@ -274,17 +275,17 @@ def propose_layout(sendings: Sequence[ReceivedSubtitle], option: NationalOption)
     """Propose the layout that draws nearly all subtitles as they were sent, and list the
     exceptions. If there is no such layout, describe the nearest one."""
     closest, choice = choose_layouts([sending.sent for sending in sendings], option)
-    if closest.total < FEWEST:
+    if closest.total < MIN_SUBTITLES:
         return Finding("", [f"layout: the text of {counted(closest.total, 'subtitle')} was found, "
-                            f"but {FEWEST} subtitles are needed"])
+                            f"but {MIN_SUBTITLES} subtitles are needed"])
     text = format_layout(choice.layout)
     if not choice.is_clear:
-        nearest = choice if closest.is_clear else closest
-        return Finding("", [*explain_missing_layout(nearest, sendings, option),
+        nearest_choice = choice if closest.is_clear else closest
+        return Finding("", [*explain_missing_layout(nearest_choice, sendings, option),
                             *list_omitted_items(choice)])
-    rests = [f"{rest.text} is based on {rest.redrawn}, of which {rest.as_sent} were sent so"
-             for rest in choice.items]
-    lines = ["; ".join([f"layout: {format_counts(choice)}", *rests])]
+    rest_texts = [f"{rest.text} is based on {rest.redrawn}, of which {rest.as_sent} were sent so"
+                  for rest in choice.items]
+    lines = ["; ".join([f"layout: {format_counts(choice)}", *rest_texts])]
     return Finding(f"--layout {quote_argument(text)}" if text else "", [
         *lines, *list_counterexamples(choice, sendings, option), *list_omitted_items(choice)])
 
@@ -300,35 +301,35 @@ def list_counterexamples(choice: LayoutChoice, sendings: Sequence[ReceivedSubtit
                          option: NationalOption) \
         -> Iterator[str]:
     """Yield the subtitles that a layout does not draw as they were sent."""
-    others = [one for one in sendings if not draws_as_sent(choice.layout, one.sent, option)]
+    others = [item for item in sendings if not draws_as_sent(choice.layout, item.sent, option)]
     for sending in others[:MAX_EXAMPLES]:
         yield f"against it: {sending.name}: sent {format_cells(sending.sent.rows)}; drawn " \
-            f"{page_text(choice, sending.sent, option)}"
+            f"{draw_page_text(choice, sending.sent, option)}"
     if len(others) > MAX_EXAMPLES:
         yield f"against it: {len(others) - MAX_EXAMPLES} more"
 
 
-def page_text(choice: LayoutChoice, sent: SentSubtitle, option: NationalOption) -> str:
+def draw_page_text(choice: LayoutChoice, sent: SentSubtitle, option: NationalOption) -> str:
     """Describe the page on which the chosen layout draws a subtitle."""
     lines = draw_text(sent.text, sent.row, sent.justify, choice.layout, option)
     return f"nothing: refused {lines.number}" if isinstance(lines, TextFault) else \
         format_cells(make_page_rows(lines))
 
 
-def explain_missing_layout(nearest: LayoutChoice, sendings: Sequence[ReceivedSubtitle],
+def explain_missing_layout(nearest_choice: LayoutChoice, sendings: Sequence[ReceivedSubtitle],
                            option: NationalOption) \
         -> Iterator[str]:
     """Yield the reasons why no layout is proposed, and a description of the nearest layout."""
     others = [sending.sent for sending in sendings
-              if not draws_as_sent(nearest.layout, sending.sent, option)]
-    text = format_layout(nearest.layout)
+              if not draws_as_sent(nearest_choice.layout, sending.sent, option)]
+    text = format_layout(nearest_choice.layout)
     yield f"layout: none is proposed. The nearest, {text or 'that without --layout'}, draws " \
-        f"{format_counts(nearest)}; {TENTHS} in 10 are needed"
-    for words, is_one in KINDS:
-        count = sum(is_one(sent, nearest, option) for sent in others)
+        f"{format_counts(nearest_choice)}; {MIN_TENTHS} in 10 are needed"
+    for words, is_match in KINDS:
+        count = sum(is_match(sent, nearest_choice, option) for sent in others)
         if count:
             yield f"{words} in {count} of the {len(others)} others: no layout can do that"
-    yield from list_counterexamples(nearest, sendings, option)
+    yield from list_counterexamples(nearest_choice, sendings, option)
 
 
 def is_spaced(sent: SentSubtitle, _: LayoutChoice, option: NationalOption) -> bool:
@@ -336,9 +337,9 @@ def is_spaced(sent: SentSubtitle, _: LayoutChoice, option: NationalOption) -> bo
     return any(SPACE_IN_BOX.search(row.strip(b" ")) for row in sent.rows)
 
 
-def is_block(sample: SentSubtitle, nearest: LayoutChoice, option: NationalOption) -> bool:
+def is_block(sample: SentSubtitle, nearest_choice: LayoutChoice, option: NationalOption) -> bool:
     """Return whether all sent lines begin in the same column, unlike the lines of the layout."""
-    lines = draw_text(sample.text, sample.row, sample.justify, nearest.layout, option)
+    lines = draw_text(sample.text, sample.row, sample.justify, nearest_choice.layout, option)
     if isinstance(lines, TextFault):
         return False
     due, sent = find_text_columns(make_page_rows(lines)), find_text_columns(sample.rows)
@@ -349,7 +350,8 @@ KINDS: Sequence[tuple[str, Callable[[SentSubtitle, LayoutChoice, NationalOption]
     ("a space is in the box", is_spaced), ("lines form a block, aligned left,", is_block))
 
 
-def find_sendings(stl: str, subtitles: Iterable[Subtitle], held: Timeline, option: NationalOption) \
+def find_decoded_subtitles(stl: str, subtitles: Iterable[Subtitle], held: Timeline,
+                           option: NationalOption) \
         -> list[ReceivedSubtitle]:
     """Return the subtitles whose text was decoded at their time, each with the decoded page."""
     return [ReceivedSubtitle(stl, subtitle, sent) for subtitle in subtitles
@@ -359,15 +361,15 @@ def find_sendings(stl: str, subtitles: Iterable[Subtitle], held: Timeline, optio
 def explain_omission(text: str) -> str:
     """Explain why a layout is not proposed although it draws more subtitles as they were sent."""
     layout = parse_layout(text) or PLAIN
-    brought, taken = layout.before + layout.behind, find_questionable_items(layout)
-    if FLASH in brought:
+    added_codes, questionable_items = layout.before + layout.behind, find_questionable_items(layout)
+    if FLASH in added_codes:
         return "all would flash"
-    if ("before", 0) in taken:
+    if ("before", 0) in questionable_items:
         return "receivers show a line only after two start boxes"
-    if ("row", 0) in taken:
-        return f"no site moves all by more than {MAX_MOVED} rows"
-    return "it removes something that viewers see" if taken else \
-        f"{FEWEST} subtitles have to show it, {TENTHS} in 10 of them as they were sent"
+    if ("row", 0) in questionable_items:
+        return f"no site moves all by more than {MAX_MOVED_ROWS} rows"
+    return "it removes something that viewers see" if questionable_items else \
+        f"{MIN_SUBTITLES} subtitles have to show it, {MIN_TENTHS} in 10 of them as they were sent"
 
 
 def format_counts(choice: LayoutChoice) -> str:
@@ -390,7 +392,7 @@ class SilentPrinter(Printer):
         self.lines.append(line)
 
 
-class Measured(NamedTuple):
+class MeasuredRecording(NamedTuple):
     """Measurements of one recording."""
 
     pid: str | None
@@ -413,7 +415,7 @@ def measure(args: argparse.Namespace, program_name: str) -> int:
     with make_temporary_folder("subttx-qc-") as folder:
         recordings = [measure_recording(request, command_paths, os.path.join(folder, str(number)))
                       for number, request in enumerate(requests)]
-        lines = [*profile_lines(requests, recordings)]
+        lines = [*make_profile_lines(requests, recordings)]
         path = os.path.join(folder, "profile")
         with open(path, "w", encoding="utf-8", errors="surrogateescape") as file:
             file.writelines(f"{line}\n" for line in lines)
@@ -431,7 +433,7 @@ def read_requests(args: argparse.Namespace) -> list[Request]:
     """Return the pairs given as arguments or in a list."""
     names = args.measure
     if len(names) == 1 and not is_stl(names[0]):
-        return requests_in(names[0], args)
+        return read_list_requests(names[0], args)
     if len(names) % 2:
         raise Stop(f"--measure needs pairs, STL RECORDING: {names[-1]} has no recording")
     requests = [make_file_request(stl, recording, args)
@@ -447,7 +449,7 @@ def is_stl(path: str) -> bool:
     return path.lower().endswith(".stl") or read_first_bytes(path, 6)[3:6] == b"STL"
 
 
-def requests_in(path: str, args: argparse.Namespace) -> list[Request]:
+def read_list_requests(path: str, args: argparse.Namespace) -> list[Request]:
     """Return the pairs in a list with the options of each line. Raise `Stop` for an invalid
     line."""
     items = read_pairs(path, args)
@@ -457,20 +459,21 @@ def requests_in(path: str, args: argparse.Namespace) -> list[Request]:
     return [item.request for item in items if item.request]
 
 
-def measure_recording(request: Request, command_paths: CommandPaths, folder: str) -> Measured:
+def measure_recording(request: Request, command_paths: CommandPaths,
+                      folder: str) -> MeasuredRecording:
     """Measure the recording of a pair. Raise `Stop` if that fails."""
     os.mkdir(folder)
     try:
         refuse_files(request)
-        found = measure_pair(make_pair(request, command_paths, folder))
-        if len(found.options) == 1 and request.option not in found.options:
-            request = dataclasses.replace(request, option=min(found.options))
-            found = measure_pair(make_pair(request, command_paths, folder))
-        return found._replace(option=request.option)
-    except Unclear as why:
-        raise Stop(f"{request.stl} and {request.recording} can't be measured: {why}") from None
-    except NeverSent as why:
-        raise Stop(f"{request.stl} and {request.recording} can't be measured: {why}") from None
+        pair = measure_pair(make_pair(request, command_paths, folder))
+        if len(pair.options) == 1 and request.option not in pair.options:
+            request = dataclasses.replace(request, option=min(pair.options))
+            pair = measure_pair(make_pair(request, command_paths, folder))
+        return pair._replace(option=request.option)
+    except Unclear as reason:
+        raise Stop(f"{request.stl} and {request.recording} can't be measured: {reason}") from None
+    except NeverSent as reason:
+        raise Stop(f"{request.stl} and {request.recording} can't be measured: {reason}") from None
 
 
 def make_pair(request: Request, command_paths: CommandPaths, folder: str) -> PairJudge:
@@ -491,8 +494,8 @@ def list_refused(requests: Sequence[Request], command_paths: CommandPaths,
         try:
             pair.judge()
             sentence, is_good = pair.verdict.sentence, pair.verdict.status in GOOD_STATUSES
-        except Unclear as why:
-            sentence, is_good = f"Not judged: {why}", False
+        except Unclear as reason:
+            sentence, is_good = f"Not judged: {reason}", False
         if not is_good:
             refused += 1
             first, *more = sentence.splitlines()
@@ -503,30 +506,31 @@ def list_refused(requests: Sequence[Request], command_paths: CommandPaths,
         yield "# With this profile, qc refuses none of these recordings."
 
 
-def measure_pair(pair: PairJudge) -> Measured:
+def measure_pair(pair: PairJudge) -> MeasuredRecording:
     """Find the parts of a pair and measure its recording."""
-    request, option = pair.request, BY_WORD[pair.request.option]
+    request, option = pair.request, OPTION_BY_WORD[pair.request.option]
     recording, clocks, subtitles = pair.located_recording
-    parts = [add_part_packets(clocks.search, part) for part in pair.parts_in(
+    parts = [add_part_packets(clocks.search, part) for part in pair.make_parts(
         recording, clocks.alignments, clocks.search, subtitles)]
     times = [(one.begin, one.end) for one in subtitles]
     sent = [(find_subtitles(part, subtitles), decode_pages(part)) for part in parts]
     headers = [part.count_headers() for part in parts]
     sent_options = {word for part in parts for word in part.find_options()}
     word = min(sent_options) if len(sent_options) == 1 else request.option
-    return Measured(
+    return MeasuredRecording(
         *find_pid(pair),
         [repeats for part in parts if (repeats := measure_repeats(
             part.list_pts(HEADER), part.list_pts()[-1], part.origin or 0, times))],
         [measure_pace(part, times)[0] for part in parts],
-        [measure_delays(request.stl, *both, option) for both in sent],
+        [measure_delays(request.stl, *sent_pair, option) for sent_pair in sent],
         (sum(sum(counts.values()) for counts in headers),
          sum(count for counts in headers for header,
              count in counts.items() if keeps_page(header))),
         not any(describe_control_bits(header, word) for counts in headers for header in counts),
         sent_options,
-        [sending for both in sent for sending in find_sendings(request.stl, *both, option)],
-        (sum(ticks_after(part.origin or 0, pts) % TICKS > 0 for part in parts
+        [sending for sent_pair in sent
+         for sending in find_decoded_subtitles(request.stl, *sent_pair, option)],
+        (sum(subtract_origin(part.origin or 0, pts) % TICKS > 0 for part in parts
              for pts in part.list_pts()), sum(len(part.list_pts()) for part in parts)))
 
 
@@ -541,32 +545,33 @@ def add_part_packets(programme: PartSearch, part: Part) -> Part:
 def decode_pages(part: Part) -> Timeline:
     """Return the decoded pages around the frames of a part."""
     recording, frames = part.judged_recording
-    return decode_near(recording.packets, part.request.page, frames.origin, 1,
-                       Span(frames.begin, frames.end), part.request.every, frames.packets)
+    return decode_pages_around(recording.packets, part.request.page, frames.origin, 1,
+                               Span(frames.begin, frames.end), part.request.every, frames.packets)
 
 
 def find_subtitles(part: Part, subtitles: Iterable[Subtitle]) -> list[Subtitle]:
     """Return the subtitles that begin in the frames of a part."""
-    return [one for one in subtitles if part.request.between.has(one.begin)]
+    return [one for one in subtitles if part.request.between.includes(one.begin)]
 
 
 def find_pid(pair: PairJudge) -> tuple[str | None, list[str]]:
     """Return the PID that carries the page, and lines with the evidence and the entry in the PMT.
     For a file of PES packets the PID is `None`."""
     recording, name = pair.located_recording.recording, pair.request.page_name
-    lines = [one.line for one in pair.listener.selections if one.option == PID_CHOICE]
+    lines = [item.line for item in pair.listener.selections if item.option == PID_CHOICE]
     if not recording.is_stream:
         return None, lines
     pid = recording.packets.pid
     for programme in recording.survey.programmes:
         for other, pages in programme.pages.items():
-            if any(one.page == pair.request.page for one in pages):
+            if any(item.page == pair.request.page for item in pages):
                 lines.append(f"programme {programme.number} announces page {name} on PID "
-                             f"0x{other:X}: {', '.join(one.line() for one in pages)}")
+                             f"0x{other:X}: {', '.join(item.line() for item in pages)}")
     return f"0x{pid:X}", [*dict.fromkeys(lines)] or [f"PID 0x{pid:X} was given"]
 
 
-def profile_lines(requests: Sequence[Request], recordings: Sequence[Measured]) -> Iterator[str]:
+def make_profile_lines(requests: Sequence[Request],
+                       recordings: Sequence[MeasuredRecording]) -> Iterator[str]:
     """Yield the lines of the profile, which `--profile` can read."""
     first = requests[0]
     files = " ".join(quote_argument(name) for request in requests
@@ -575,28 +580,28 @@ def profile_lines(requests: Sequence[Request], recordings: Sequence[Measured]) -
     yield (f"# This profile describes {counted(len(requests), 'recording')}. Read each line, and "
            "keep the lines that are true of your site.")
     are_known = [request.origin is not None or request.start is not None for request in requests]
-    counts = [one.headers for one in recordings]
-    options = {option for one in recordings for option in one.options}
+    counts = [item.headers for item in recordings]
+    options = {option for item in recordings for option in item.options}
     findings = [
         Finding(f"--page {page_name(*first.page)}", []), propose_pid(recordings),
         propose_option(options, recordings[0].option),
-        propose_every([repeats for one in recordings for repeats in one.repeats]),
-        propose_pace([pace for one in recordings for pace in one.paces]),
-        *propose_lateness([delays for one, is_known in zip(recordings, are_known) if is_known
-                     for delays in one.delays],
+        propose_repeat_limit([repeats for item in recordings for repeats in item.repeats]),
+        propose_pace([pace for item in recordings for pace in item.paces]),
+        *propose_lateness([delays for item, is_known in zip(recordings, are_known) if is_known
+                     for delays in item.delays],
                     [request.recording or "" for request, is_known in zip(requests, are_known)
                      if not is_known],
-                    (sum(one.off_frame[0] for one in recordings),
-                     sum(one.off_frame[1] for one in recordings))),
+                    (sum(item.off_frame[0] for item in recordings),
+                     sum(item.off_frame[1] for item in recordings))),
         propose_keeping(sum(count for count, _ in counts), sum(count for _, count in counts),
-                   all(one.is_alone for one in recordings)),
-        propose_layout([sending for one in recordings for sending in one.sendings],
-                     BY_WORD[recordings[0].option])]
+                   all(item.is_alone for item in recordings)),
+        propose_layout([sending for item in recordings for sending in item.sendings],
+                     OPTION_BY_WORD[recordings[0].option])]
     for finding in findings:
         yield from finding.list_subtitles()
 
 
-def propose_pid(recordings: Sequence[Measured]) -> Finding:
+def propose_pid(recordings: Sequence[MeasuredRecording]) -> Finding:
     """Propose --pid if the PID is the same in all recordings."""
     pids = {one.pid for one in recordings}
     lines = [f"pid: {line}"

@@ -15,8 +15,9 @@ from typing import Callable, Iterator, Mapping, NamedTuple
 from ..common.command_line import (
     ProgramInterrupted, Stop, counted, discard_output, escape_character, format_error, print_stderr)
 from ..common.files import (
-    Inputs, STANDARD_OUTPUTS, Stamp, describe_kind, is_replaced, make_temporary_folder, name_errors,
-    open_output, open_result, read_first_bytes, read_stamp, refuse_output_name)
+    Inputs, STANDARD_OUTPUTS, Stamp, add_name_to_errors, describe_kind, is_replaced,
+    make_temporary_folder, open_output, open_result, read_first_bytes, read_stamp,
+    refuse_output_name)
 from ..common.markup import HEAD
 from ..common.program import describe_program
 from ..formats.listing import parse_count_line, is_check_line
@@ -28,11 +29,11 @@ from ..judging.verdict import Unjudged, Verdict
 from ..recording.recording import Recording
 from ..request.commands import (
     CommandPaths, Listener, LOCK, OutputNames, PartFiles, Progress, Printer, list_pair_files,
-    index_path, lock_path, pair_name, profile_line)
+    make_index_path, make_lock_path, make_pair_name, format_profile)
 from ..request.request import Request, Unclear, IncompleteAnswer, keep_stl, make_request
 from ..results import files as results
-from ..results.files import describe_inputs, result_bytes, make_unjudged
-from ..stream.gaps import first_lines
+from ..results.files import describe_inputs, encode_result, make_unjudged
+from ..stream.gaps import limit_lines
 
 
 # Only one run of qc at a time writes the results of a pair into a folder. It removes earlier
@@ -52,14 +53,14 @@ def refuse_pair_files(folder: str, name: str, inputs: Inputs, parts: PartFiles |
                     ) -> None:
     """Raise `Stop` if the result files of a pair would replace an input, or a file that these tools
     did not write."""
-    for path in [*list_pair_files(folder, name, parts), lock_path(folder, name)]:
+    for path in [*list_pair_files(folder, name, parts), make_lock_path(folder, name)]:
         refuse_file(path, inputs)
 
 
 def refuse_folder_files(folder: str, inputs: Inputs) -> None:
     """Raise `Stop` if a folder's index page or lock file would replace an input, or a file that
     these tools did not write."""
-    for path in (index_path(folder), lock_path(folder, "")):
+    for path in (make_index_path(folder), make_lock_path(folder, "")):
         refuse_file(path, inputs)
 
 
@@ -91,9 +92,9 @@ def refuse_file(path: str, inputs: Inputs) -> None:
     replaced, but not its target."""
     inputs.refuse(path, False)
     with contextlib.suppress(FileNotFoundError, NotADirectoryError):
-        about = os.lstat(path)
-        if not stat.S_ISLNK(about.st_mode) and (describe_kind(about.st_mode)
-                                                or not is_own_file(path)):
+        info = os.lstat(path)
+        if not stat.S_ISLNK(info.st_mode) and (describe_kind(info.st_mode)
+                                               or not is_own_file(path)):
             raise Stop(f"{path} exists and was not written by these tools: move it away, or give "
                        "another folder")
 
@@ -105,12 +106,12 @@ def remove_results(folder: str, name: str, parts: PartFiles | None = None) -> No
             os.unlink(path)
 
 
-def claim_pair(folder: str | None, name: str) -> contextlib.AbstractContextManager[None]:
+def lock_pair(folder: str | None, name: str) -> contextlib.AbstractContextManager[None]:
     """Create a folder, and lock the result files of a pair in it until the `with` block ends."""
     return hold_lock(folder, name, f"another run of qc is writing the files of pair {name} to ")
 
 
-def claim_folder(folder: str | None) -> contextlib.AbstractContextManager[None]:
+def lock_folder(folder: str | None) -> contextlib.AbstractContextManager[None]:
     """Create a folder, and lock it against other batches until the `with` block ends."""
     return hold_lock(folder, "", "another run of qc is judging a batch into ")
 
@@ -122,10 +123,10 @@ def hold_lock(folder: str | None, name: str, refusal: str) -> Iterator[None]:
     if folder is None:
         yield
         return
-    path = lock_path(folder, name)
-    with name_errors(folder):
+    path = make_lock_path(folder, name)
+    with add_name_to_errors(folder):
         os.makedirs(folder, exist_ok=True)
-        handle = open_locked(path)
+        handle = open_locked_file(path)
     if handle is None:
         raise FilesInUse(refusal + folder)
     try:
@@ -137,7 +138,7 @@ def hold_lock(folder: str | None, name: str, refusal: str) -> Iterator[None]:
         os.close(handle)
 
 
-def open_locked(path: str) -> int | None:
+def open_locked_file(path: str) -> int | None:
     """Open and lock a file. Return `None` if another process has locked it. If the path is a
     symbolic link, replace the link with a file."""
     while True:
@@ -165,7 +166,7 @@ def is_file_at(handle: int, path: str) -> bool:
         return False
 
 
-ESCAPED = re.compile("[\ud800-\udfff]")  # bytes of a file name that are not UTF-8
+SURROGATES = re.compile("[\ud800-\udfff]")  # bytes of a file name that are not UTF-8
 SIGNALS = (signal.SIGINT, signal.SIGTERM, signal.SIGHUP)
 SUMMARY_LINES = 100  # maximum number of lines of a list in a summary, and in a JUnit file
 
@@ -207,15 +208,15 @@ def judge_and_report(request: Request, call: PairOptions, program_name: str) -> 
     printer.before_last_line = ignore_signals  # so that the last line agrees with the exit status
     printer.is_quiet = call.is_quiet
     if request.profile:
-        printer.print_line(profile_line(request.profile))
+        printer.print_line(format_profile(request.profile))
     command_paths = CommandPaths(program_name, call.program)
     listener = Listener(printer)
     stamps = stamp_inputs(request)
-    verdict = new_verdict(request, listener)
+    verdict = make_verdict(request, listener)
     verdict.is_kept = call.is_kept
-    name = call.name or pair_name(request.stl)
+    name = call.name or make_pair_name(request.stl)
     refuse_outputs(call, request, staging_folder, name)
-    with make_temporary_folder("subttx-qc-") as folder, claim_pair(
+    with make_temporary_folder("subttx-qc-") as folder, lock_pair(
             None if call.is_claimed else staging_folder, name):
         if staging_folder is not None and not call.is_claimed:
             remove_results(staging_folder, name)
@@ -236,7 +237,7 @@ def stamp_inputs(request: Request) -> dict[str, Stamp | None]:
     return {name: read_stamp(name) for name in names if name}
 
 
-def new_verdict(request: Request, listener: Listener) -> Verdict:
+def make_verdict(request: Request, listener: Listener) -> Verdict:
     """Return an empty verdict that shares the notes, commands and choices of `listener`."""
     return Verdict(request, Severity(request.severity, request.is_loss_allowed), now(),
                    notes=listener.notes, commands=listener.commands, selections=listener.selections)
@@ -255,7 +256,7 @@ def refuse_outputs(call: PairOptions, request: Request, out: str | None, name: s
 
 def judge_pair(pair: PairJudge, files: OutputFiles) -> None:
     """Judge a pair and write its output files. The verdict says why a pair is not judged."""
-    verdict, began = pair.verdict, time.monotonic()
+    verdict, start_time = pair.verdict, time.monotonic()
     try:
         pair.judge()
         files.call.examine(verdict)
@@ -269,7 +270,7 @@ def judge_pair(pair: PairJudge, files: OutputFiles) -> None:
     except KeyboardInterrupt:
         ignore_signals()  # so that the known faults can be written
         verdict.unjudged = Unjudged(f"stopped at {pair.stop(now())}", is_stopped=True)
-    verdict.seconds = round(time.monotonic() - began, 3)
+    verdict.seconds = round(time.monotonic() - start_time, 3)
     try:
         files.write(pair.recording)
     except KeyboardInterrupt as reason:
@@ -285,11 +286,11 @@ def report_pair(verdict: Verdict, printer: Printer, files: OutputFiles) -> None:
     except KeyboardInterrupt as reason:
         ignore_signals()
         verdict.failed_outputs.append(format_error(reason))
-        files.write_again()
+        files.rewrite_outputs()
         print_verdict(verdict, printer, files.page)
     except Exception as reason:
         verdict.failed_outputs.append(format_error(reason))
-        files.write_again()
+        files.rewrite_outputs()
         print_stderr(verdict.failed_outputs[-1])
         discard_output(printer.out)
 
@@ -314,7 +315,7 @@ def print_verdict(verdict: Verdict, printer: Printer, page: str | None = None) -
         printer.print_line(format_cause_counts(causes))
     for line in verdict.format_part_lines():
         printer.print_line(line)
-    for line in first_lines([gap.format_line() +
+    for line in limit_lines([gap.format_line() +
                              ("" if gap.is_judged else ", outside the judged range")
                              for gap in verdict.gaps]):
         printer.print_error(line)
@@ -323,7 +324,7 @@ def print_verdict(verdict: Verdict, printer: Printer, page: str | None = None) -
     for line in verdict.notes:
         printer.print_error(line)
     for warning in verdict.warnings:
-        printer.print_error(warning.warning_text())
+        printer.print_error(warning.format_warning())
     if verdict.line is not None:
         if verdict.request.within and verdict.delays:
             printer.print_line(verdict.delays.describe())
@@ -331,7 +332,7 @@ def print_verdict(verdict: Verdict, printer: Printer, page: str | None = None) -
             printer.print_line(verdict.estimated_clock_note)
         for line in verdict.hints:
             printer.print_line(line)
-        printer.print_verdict(verdict.sentence + reference_text(verdict, page), verdict.line)
+        printer.print_verdict(verdict.sentence + format_reference(verdict, page), verdict.line)
     elif is_check_line(printer.last_line):  # the program's last line is not the verdict
         printer.print_line(NOT_JUDGED)
     if verdict.is_stopped:
@@ -343,7 +344,7 @@ def print_verdict(verdict: Verdict, printer: Printer, page: str | None = None) -
         printer.print_error(f"{'try' if at == 0 else 'or'}: {line}")
 
 
-def reference_text(verdict: Verdict, page: str | None) -> str:
+def format_reference(verdict: Verdict, page: str | None) -> str:
     """Return a sentence that refers the reader of a refusal to the report, or else to the manual's
     text about the first reported number."""
     if verdict.word == ACCEPTED or verdict.word == RELATIVE and not verdict.fault_count:
@@ -384,7 +385,7 @@ class OutputFiles:
     @property
     def page(self) -> str | None:
         """Return the path of the report, as the user would type it."""
-        return self.names.display_path("html") if self.names.out else None
+        return self.names.make_display_path("html") if self.names.out else None
 
     def needs_sums(self) -> bool:
         """Return whether an output contains the checksums of the inputs."""
@@ -394,12 +395,12 @@ class OutputFiles:
         """Write all outputs. If an output can't be written, the verdict becomes `not judged`, and
         earlier outputs are written again if possible. The JSON result in the folder is written
         last, except for outputs that are written again."""
-        for output in sorted(self.list_outputs(recording), key=lambda one: not one.is_replaced):
+        for output in sorted(self.list_outputs(recording), key=lambda item: not item.is_replaced):
             self.find_changes()
             if self.try_to_write(output):
                 self.written.append(output)
             else:
-                self.write_again()
+                self.rewrite_outputs()
         self.find_changes()
 
     def find_changes(self) -> None:
@@ -411,9 +412,9 @@ class OutputFiles:
             self.verdict.failed_outputs += [
                 f"{name} changed while it was judged: judge it again when it is complete"
                 for name in changed]
-            self.write_again()
+            self.rewrite_outputs()
 
-    def write_again(self) -> None:
+    def rewrite_outputs(self) -> None:
         """Write the outputs again, since a failure has changed the verdict."""
         for output in self.written:
             if output.is_replaced and not output.is_raw:
@@ -428,14 +429,15 @@ class OutputFiles:
             self.verdict.failed_outputs.append(format_error(reason))
             if output.is_json and not isinstance(reason, (Stop, OSError)):
                 known = make_unjudged(self.names.name, self.verdict.unjudged_reason or "")
-                self.write_output(output._replace(make_chunks=lambda: iter([result_bytes(known)])))
+                self.write_output(output._replace(make_chunks=lambda: iter([encode_result(known)])))
             return False
         return True
 
     def list_outputs(self, recording: Recording | None) -> list[Output]:
         """Return the requested output files."""
         call, verdict, names = self.call, self.verdict, self.names
-        outputs = [Output(call.csv, lambda: results.subtitle_lines(verdict))] if call.csv else []
+        outputs = [Output(call.csv,
+                          lambda: results.make_subtitle_lines(verdict))] if call.csv else []
         outputs += [Output(call.junit, self.make_testcase)] if call.junit else []
         outputs += self.list_raw_outputs(recording) if names.out else []
         if not call.json and not names.json_path:
@@ -456,24 +458,24 @@ class OutputFiles:
 
     def list_raw_outputs(self, recording: Recording | None) -> list[Output]:
         """Return the fault lists of all parts as printed by `check`, and the kept recording."""
-        lists = [Output(part.names.final_path("txt"), part.check_output.read_bytes, True,
+        lists = [Output(part.names.make_final_path("txt"), part.check_output.read_bytes, True,
                         is_raw=True)
                  for part in self.verdict.parts]
         ending = recording and recording.packets.count and recording.kept_ending
         if self.call.is_kept and recording and ending:
-            lists.append(Output(self.names.final_path(ending), recording.read_kept_data, True,
+            lists.append(Output(self.names.make_final_path(ending), recording.read_kept_data, True,
                                 is_raw=True))
         return lists
 
     def make_testcase(self) -> Iterator[bytes]:
         """Yield the JUnit file, which has one test case for the pair."""
         verdict = self.verdict
-        case = results.TestCase(pair_title(verdict.request), verdict.word, verdict.status,
+        case = results.TestCase(make_pair_title(verdict.request), verdict.word, verdict.status,
                                verdict.worst_line or verdict.unjudged_reason or "",
                                 self.list_lines(), verdict.seconds,
                                verdict.subtitle_counts.describe() if verdict.subtitle_counts
                                 else "", verdict.sentence)
-        yield results.junit_file([case], verdict.date)
+        yield results.make_junit_file([case], verdict.date)
 
     def list_lines(self) -> list[str]:
         """Return the first lines of the fault list of each part."""
@@ -491,9 +493,9 @@ class OutputFiles:
 
 def encode_text(text: str) -> bytes:
     """Encode the text of a JSON result, and escape bytes of file names that are not UTF-8."""
-    return ESCAPED.sub(lambda found: "\\" + escape_character(found[0]), text).encode()
+    return SURROGATES.sub(lambda found: "\\" + escape_character(found[0]), text).encode()
 
 
-def pair_title(request: Request) -> str:
+def make_pair_title(request: Request) -> str:
     """Return the title of a pair in tables, which consists of the names of its files."""
     return " ".join([request.stl, *([request.recording] if request.recording else [])])

@@ -22,11 +22,11 @@ from ..common.times import EARLY_TICKS, TICKS, wrap_pts
 from ..stream.packets import HEADER, Packets, PageChange, Range, Texts
 
 VOTES = 1_000_000  # maximum number of pairs of a cue and a page change to compare
-REPEATED = 20  # a text that more cues have is not compared
-TRIED = 64  # maximum number of origins to compare with all cues
+MAX_REPEATED_TEXTS = 20  # a text that more cues have is not compared
+MAX_TRIED_ORIGINS = 64  # maximum number of origins to compare with all cues
 MAX_CUE_OFFSET = 50  # maximum difference between the delays of in-cues and out-cues, in frames
 MAX_BASES = 32  # maximum number of time bases to search
-MAX_ERASED = 5  # maximum number of frames without a text that are not treated as an erasure
+MAX_ERASED_FRAMES = 5  # maximum number of frames without a text that are not treated as an erasure
 
 
 class ExpectedSubtitle(NamedTuple):
@@ -88,11 +88,13 @@ class MatchedChange(NamedTuple):
 
 def find_expected_cues(subtitles: Sequence[ExpectedSubtitle]) -> list[ExpectedCue]:
     """Return the cues of subtitles: the frames at which the expected page changes."""
-    looks: dict[int, ExpectedSubtitle | None] = {shown.end: None for shown in subtitles}
-    looks.update((shown.begin, shown) for shown in subtitles)
+    text_by_frame: dict[int, ExpectedSubtitle | None] = {expected_subtitle.end: None
+                                                         for expected_subtitle in subtitles}
+    text_by_frame.update((expected_subtitle.begin, expected_subtitle)
+                         for expected_subtitle in subtitles)
     cues: list[ExpectedCue] = []
     before: ExpectedSubtitle | None = None
-    for frame, now in sorted(looks.items(), key=lambda item: item[0]):
+    for frame, now in sorted(text_by_frame.items(), key=lambda item: item[0]):
         if (now and now[2:]) != (before and before[2:]):
             cues.append(ExpectedCue(frame, now.letters if now else b"", now is not None))
             before = now
@@ -111,10 +113,11 @@ class TimeBase:
         if within:
             offsets = [(wrap_pts(change.pts - first) + TICKS // 2) % TICKS - TICKS // 2
                        for change in changes]
-            near = sorted(ticks for ticks in offsets if abs(ticks) < EARLY_TICKS)
-            self.first = wrap_pts(first + (near[len(near) // 2] if near else 0))
+            near_offsets = sorted(ticks for ticks in offsets if abs(ticks) < EARLY_TICKS)
+            self.first = wrap_pts(first + (near_offsets[len(near_offsets) // 2] if near_offsets
+                                           else 0))
             changes = list(self.changes_by_frame(changes))
-        erased_frames = min([MAX_ERASED] + [
+        erased_frames = min([MAX_ERASED_FRAMES] + [
             third.frame - second.frame - 1 for cue, second, third in zip(cues, cues[1:], cues[2:])
             if cue.letters == third.letters and not second.letters])
         self.changes: dict[int, MatchedChange] = {}
@@ -126,7 +129,7 @@ class TimeBase:
     def changes_by_frame(self, changes: Sequence[PageChange]) -> Iterator[PageChange]:
         """Yield the last change in each frame, unless it leaves the page as it was before."""
         before: Texts | None = None
-        for change in {self.split_distance(one.pts)[0]: one for one in changes}.values():
+        for change in {self.split_distance(item.pts)[0]: item for item in changes}.values():
             if change.rows != before or not change.letters:
                 yield change
             before = change.rows
@@ -169,7 +172,7 @@ class TimeBase:
             votes = collections.Counter({
                 start: sum(exact_votes.get(start - delay, 0) for delay in range(self.within + 1))
                 for start in exact_votes})
-        best = heapq.nlargest(TRIED + 4 * self.within, votes,
+        best = heapq.nlargest(MAX_TRIED_ORIGINS + 4 * self.within, votes,
                               key=lambda start: (votes[start], -start))
         # Also try the origins of the first and the last cue: all subtitles may have the same text.
         starts = {*best, self.cues[0].frame, self.cues[-1].frame - max(self.changes)}
@@ -183,9 +186,9 @@ class TimeBase:
         """Return, for each start frame, the number of cues that match a page change. If there are
         too many combinations, use only every n-th page change."""
         places = sorted(self.changes)
-        voting = places[::len(places) * len(self.cues) // VOTES + 1]
+        sampled_places = places[::len(places) * len(self.cues) // VOTES + 1]
         return collections.Counter(itertools.starmap(operator.sub, itertools.product(
-            self.frames, voting)))
+            self.frames, sampled_places)))
 
     def count_equal_texts(self) -> collections.Counter[int]:
         """Return, for each start frame, the number of cues that match a change to the same text."""
@@ -194,7 +197,7 @@ class TimeBase:
             frames[cue.letters].append(cue.frame)
         return collections.Counter(
             frame - at for at, (_, letters, _) in self.changes.items()
-            if letters and len(frames[letters]) <= REPEATED for frame in frames[letters])
+            if letters and len(frames[letters]) <= MAX_REPEATED_TEXTS for frame in frames[letters])
 
     def has_text_at(self, cue: ExpectedCue, start: int) -> bool:
         """Return whether the expected characters of a cue are received in its frame."""
@@ -213,16 +216,17 @@ class TimeBase:
                            bisect.bisect_right(self.frames, start + self.length)]
         pairs = [(cue, change) for cue in inside if (change := self.find_match(cue, start))]
         delays = [change.delay for _, change in pairs] if self.within else []
-        equal = [cue for cue, change in pairs if change.letters == cue.letters]
+        equal_cues = [cue for cue, change in pairs if change.letters == cue.letters]
         ticks = sorted([change.ticks for _, change in pairs])
         rest = ticks[len(ticks) // 2] if ticks and not self.within else 0
         matches = {cue.frame for cue, _ in pairs}
-        unmatched = (cue.frame for cue in inside if cue.frame not in matches)
-        return OriginFit(wrap_pts(self.first + rest - TICKS * start), len(pairs), len(equal),
-                         sum(cue.letters != b"" for cue in equal),
+        unmatched_frames = (cue.frame for cue in inside if cue.frame not in matches)
+        return OriginFit(wrap_pts(self.first + rest - TICKS * start), len(pairs), len(equal_cues),
+                         sum(cue.letters != b"" for cue in equal_cues),
                          len(ticks) if self.within else ticks.count(rest), len(inside),
-                         next((cue.frame for cue in equal if cue.letters), None),
-                         next(unmatched, None) if len(pairs) < len(inside) else None, start, delays)
+                         next((cue.frame for cue in equal_cues if cue.letters), None),
+                         next(unmatched_frames, None) if len(pairs) < len(inside) else None,
+                         start, delays)
 
     def find_cue_offset(self, fit: OriginFit) -> CueOffset | None:
         """Return the constant delay between in-cues and out-cues, if there is one."""
@@ -248,7 +252,7 @@ class TimeBase:
                       for at, letters in expected_texts)
         return CueOffset(is_begin, delay, matches, len(expected_texts))
 
-    def align_in_cues(self, fit: OriginFit) -> OriginFit:
+    def align_to_in_cues(self, fit: OriginFit) -> OriginFit:
         """Return the origin of the in-cues if it is another one than the out-cues', else `fit`."""
         cue_offset = self.find_cue_offset(fit)
         return self.fit(fit.start - cue_offset.delay) if cue_offset and cue_offset.is_begin else fit
@@ -260,9 +264,9 @@ def skip_repeats(changes: Sequence[PageChange], most: int) -> Iterator[PageChang
     at = 0
     while at < len(changes):
         yield changes[at]
-        back: int | None = at
-        while back is not None:
-            at, back = back, find_repeat(changes, back, most)
+        previous_place: int | None = at
+        while previous_place is not None:
+            at, previous_place = previous_place, find_repeat(changes, previous_place, most)
         at += 1
 
 
@@ -299,7 +303,7 @@ def select_time_bases(packets: Packets, inside: Range) -> list[tuple[range, Sequ
     Return only the `MAX_BASES` ranges with the most page changes."""
     numbers = [change.number for change in packets.changes]
     candidates = []
-    for base_numbers in packets.time_bases():
+    for base_numbers in packets.split_time_bases():
         base = range(max(base_numbers.start, inside[0]), min(base_numbers.stop, inside[1] + 1))
         first, end = (bisect.bisect_left(numbers, at) for at in (base.start, base.stop))
         if first < end:
@@ -318,9 +322,9 @@ def select_time_bases(packets: Packets, inside: Range) -> list[tuple[range, Sequ
 # are many, the inserter may delay all other subtitles; then the operator must give the clock.
 
 COMMON = 2  # a delay is usual if at least half as many cues have it as have the most common delay
-FEW_CUES = 3  # a delay is usual only if at least 3 cues have it, unless no delay has 3 cues
-FEW_ENDS = 10  # out-cues are ignored if they are less than 1/10 of all cues
-RARE = 20  # minimum share of early cues (1/20) for which the operator must give the clock
+MIN_EQUAL_DELAYS = 3  # a delay is usual only if at least 3 cues have it, unless no delay has 3 cues
+OUT_CUE_SHARE = 10  # out-cues are ignored if they are less than 1/10 of all cues
+RARE_SHARE = 20  # minimum share of early cues (1/20) for which the operator must give the clock
 UNSEEN_SHARE = 0.002  # minimum probability of a delay, and probability of a cue without a match
 
 
@@ -335,7 +339,7 @@ class EarlyCues(NamedTuple):
     @property
     def is_common_delay(self) -> bool:
         """Return whether many cues are early, so that the other cues may be late instead."""
-        return self.early_count * RARE >= self.total
+        return self.early_count * RARE_SHARE >= self.total
 
 
 def choose_clock(base: TimeBase, fit: OriginFit,
@@ -350,10 +354,10 @@ def choose_clock(base: TimeBase, fit: OriginFit,
     first = find_usual_delay(begins, ends)
     if not first:
         return fit, None
-    both = begins + ends
-    before = {delay: count for delay, count in both.items() if delay < first}
+    both_delays = begins + ends
+    before = {delay: count for delay, count in both_delays.items() if delay < first}
     return base.fit(fit.start - first), EarlyCues(
-        sum(before.values()), sum(both.values()), first - min(before))
+        sum(before.values()), sum(both_delays.values()), first - min(before))
 
 
 def count_delays(base: TimeBase, fit: OriginFit) -> tuple[collections.Counter[int],
@@ -371,35 +375,38 @@ def find_usual_delay(begins: Mapping[int, int], ends: Mapping[int, int]) -> int:
     """Return the shortest usual delay of in-cues or out-cues, or 0 if there is none."""
     count = sum(begins.values()) + sum(ends.values())
     kinds = [kind for kind in (begins, ends) if kind and (
-        kind is begins or sum(kind.values()) * FEW_ENDS >= count)]
+        kind is begins or sum(kind.values()) * OUT_CUE_SHARE >= count)]
     return min((delay for kind in kinds for most in [max(kind.values())]
-                for delay, many in kind.items()
-                if many * COMMON >= most and many >= min(most, FEW_CUES)), default=0)
+                for delay, frequency in kind.items()
+                if frequency * COMMON >= most and frequency >= min(most, MIN_EQUAL_DELAYS)),
+               default=0)
 
 
 def find_likeliest_clock(base: TimeBase, fit: OriginFit, lateness: Lateness) -> OriginFit:
     """Return the clock near the clock `fit` that makes the observed delays most likely."""
-    near = range(-base.within, 2 * base.within + 1)
+    near_frames = range(-base.within, 2 * base.within + 1)
     patterns = collections.Counter(
-        (cue.is_begin, tuple(by for by in near if base.has_text_at(cue, fit.start - by)))
+        (cue.is_begin,
+         tuple(shift for shift in near_frames if base.has_text_at(cue, fit.start - shift)))
         for cue in base.cues)
     kinds = [{delay: max(share / sum(kind.values()), UNSEEN_SHARE)
               for delay, share in kind.items()} for kind in lateness]
 
-    def likelihood(by: int) -> float:
-        """Return the log-likelihood of a clock that is `by` frames later."""
+    def compute_likelihood(shift: int) -> float:
+        """Return the log-likelihood of a clock that is `shift` frames later."""
         return sum(count * math.log(next((
-            kinds[not is_begin].get(delay - by, UNSEEN_SHARE) for delay in delays
-            if 0 <= delay - by <= base.within), UNSEEN_SHARE))
+            kinds[not is_begin].get(delay - shift, UNSEEN_SHARE) for delay in delays
+            if 0 <= delay - shift <= base.within), UNSEEN_SHARE))
             for (is_begin, delays), count in patterns.items())
 
-    return base.compare(fit.start - max(range(base.within, -base.within - 1, -1), key=likelihood))
+    return base.compare(fit.start - max(range(base.within, -base.within - 1, -1),
+                                        key=compute_likelihood))
 
 
 # Drift: delays that steadily grow or shrink, as in a recording with another frame rate
 
-FEW_TEXTS = 6  # minimum number of texts that are expected once and sent once
-LEAST_DRIFT = 2  # minimum drift, in frames
+MIN_TEXTS = 6  # minimum number of texts that are expected once and sent once
+MIN_DRIFT = 2  # minimum drift, in frames
 NEAR_LINE = 1.5  # maximum distance in frames between a delay and the regression line
 MAX_OFF = 10  # at most 1/10 of the delays may be farther from the line than `NEAR_LINE`
 # The line must explain all but 1/5 of the variance of the delays. A line through delays that
@@ -422,7 +429,7 @@ def find_drift(cues: Sequence[ExpectedCue], changes: Mapping[int, MatchedChange]
     due = find_single_texts((cue.frame, cue.letters) for cue in cues)
     sent = find_single_texts((at, change.letters) for at, change in changes.items())
     frames = sorted(frame for letters, frame in due.items() if letters in sent)
-    if len(frames) < FEW_TEXTS or 2 * len(frames) < len(due):
+    if len(frames) < MIN_TEXTS or 2 * len(frames) < len(due):
         return None
     at = {frame: sent[letters] - frame for letters, frame in due.items() if letters in sent}
     points = select_near_line([(frame, at[frame]) for frame in frames])
@@ -434,16 +441,16 @@ def find_drift(cues: Sequence[ExpectedCue], changes: Mapping[int, MatchedChange]
         (frame - middle) ** 2 for frame in times)
     drift = slope * (times[-1] - times[0])
     left = sum((delay - usual - slope * (frame - middle)) ** 2 for frame, delay in points)
-    if abs(drift) < LEAST_DRIFT or left * MAX_LEFT > sum((delay - usual) ** 2 for delay in delays):
+    if abs(drift) < MIN_DRIFT or left * MAX_LEFT > sum((delay - usual) ** 2 for delay in delays):
         return None
     return Drift(times[0], times[-1], round(drift))
 
 
 def select_near_line(delays: Sequence[tuple[int, int]]) -> list[tuple[int, int]]:
     """Return the pairs of frame and delay that are close to a common straight line."""
-    half = len(delays) // 2
+    half_count = len(delays) // 2
     slope = statistics.median((late - early) / (last - first) for (first, early), (last, late)
-                              in zip(delays, delays[half:]))
+                              in zip(delays, delays[half_count:]))
     middle = statistics.median(delay - slope * frame for frame, delay in delays)
     return [(frame, delay) for frame, delay in delays
             if abs(delay - slope * frame - middle) <= NEAR_LINE]
@@ -451,8 +458,8 @@ def select_near_line(delays: Sequence[tuple[int, int]]) -> list[tuple[int, int]]
 
 def find_single_texts(several: Iterable[tuple[int, bytes]]) -> dict[bytes, int]:
     """Return the frame of each text that occurs exactly once."""
-    places_of: dict[bytes, list[int]] = {}
+    places_by_text: dict[bytes, list[int]] = {}
     for at, letters in several:
         if letters:
-            places_of.setdefault(letters, []).append(at)
-    return {letters: places[0] for letters, places in places_of.items() if len(places) == 1}
+            places_by_text.setdefault(letters, []).append(at)
+    return {letters: places[0] for letters, places in places_by_text.items() if len(places) == 1}

@@ -10,23 +10,23 @@ from typing import Collection, Iterator, NamedTuple, Sequence
 
 from ..common.command_line import Lateness, Stop, counted, format_frame_range, was
 from ..common.times import (
-    ALL_DAY, Between, FRAMES_A_SECOND, TICKS, ticks_after, ticks_between, ticks_within, time_in,
-    time_of)
-from ..formats.stl import page_letter_codes, read_until_damage, read_stl, subtitle_times
+    ALL_DAY, FRAMES_A_SECOND, FrameRange, TICKS, compute_time, format_frame, subtract_origin,
+    subtract_pts, subtract_pts_within)
+from ..formats.stl import encode_page_characters, read_until_damage, read_stl, get_subtitle_times
 from ..formats.teletext import Page, page_name
-from ..stream.packets import Packets, Range, STRAY, alternating_subcodes, subpage_text
+from ..stream.packets import Packets, Range, STRAY, describe_subpages, find_alternating_subcodes
 from .alignment import (
     Drift, EarlyCues, ExpectedSubtitle, MAX_BASES, MAX_CUE_OFFSET, OriginFit, TimeBase,
     find_drift, find_time_bases)
 from .stretches import (
-    Airing, EstimatedPart, LEAST_ROW, Stretch, find_airings, find_stretches, fit_parts,
+    Airing, EstimatedPart, MIN_MATCHING_CUES, Stretch, find_airings, find_stretches, fit_parts,
     select_other_origins, split_at_breaks)
 
 
 # An origin is reported if its distance from 0 is at most this number of frames.
-NEAR = 10 * FRAMES_A_SECOND
-NAMED = 5  # maximum number of origins or pages to list
-LISTED = 20  # maximum number of changes of the delay to list
+MAX_PRINTED_DISTANCE = 10 * FRAMES_A_SECOND
+MAX_PRINTED_ITEMS = 5  # maximum number of origins or pages to list
+MAX_LISTED_CHANGES = 20  # maximum number of changes of the delay to list
 
 
 class OriginSearch(NamedTuple):
@@ -40,7 +40,7 @@ class OriginSearch(NamedTuple):
     within: int = 0  # allowed delay in frames
     breaks: int = 0  # number of breaks
     inside: Range | None = None  # PES packets to use
-    between: Between = ALL_DAY  # range of frames in which subtitles begin
+    between: FrameRange = ALL_DAY  # range of frames in which subtitles begin
     left_out: Collection[int] = ()  # positions of subtitles to ignore
     lateness: Lateness | None = None  # the option --late
     has_picture: bool = False  # whether the operator may use `--start`
@@ -77,32 +77,35 @@ class OriginEstimate:
     lines: list[str] = dataclasses.field(default_factory=list)  # messages
 
 
-def subtitles_between(path: str, option: str, between: Between,
-                      left_out: Collection[int] = ()) -> list[ExpectedSubtitle]:
+def read_subtitles_between(path: str, option: str, between: FrameRange,
+                           left_out: Collection[int] = ()) -> list[ExpectedSubtitle]:
     """Return the subtitles that begin in the range `between` and end on the same day."""
-    shown = []
-    for place, stored in enumerate(read_until_damage(path, read_stl(path)), 1):
-        begin, end = subtitle_times(stored)
-        is_one = begin is not None and between.has(begin) and place not in left_out
-        if is_one and begin is not None and end is not None and begin < end:
-            shown.append(ExpectedSubtitle(begin, end, (stored.row, stored.justify, stored.text),
-                                          page_letter_codes(stored.text, option)))
-    if not shown:
+    expected_subtitle = []
+    for place, stored_subtitle in enumerate(read_until_damage(path, read_stl(path)), 1):
+        begin, end = get_subtitle_times(stored_subtitle)
+        is_selected = begin is not None and between.includes(begin) and place not in left_out
+        if is_selected and begin is not None and end is not None and begin < end:
+            expected_subtitle.append(ExpectedSubtitle(begin, end,
+                                                      (stored_subtitle.row, stored_subtitle.justify,
+                                                       stored_subtitle.text),
+                                                      encode_page_characters(stored_subtitle.text,
+                                                                             option)))
+    if not expected_subtitle:
         raise Stop(f"{path} has no subtitle that begins and ends within a day")
-    return shown
+    return expected_subtitle
 
 
 def estimate_origin(search: OriginSearch, packets: Packets) -> OriginEstimate:
     """Estimate the origin of a recording, or explain why it is ambiguous."""
     origin = OriginEstimate()
-    subtitles = subtitles_between(search.stl, search.option, search.between, search.left_out)
+    subtitles = read_subtitles_between(search.stl, search.option, search.between, search.left_out)
     if not report_sent_pages(packets, search, origin.lines):
         return origin
     bases = find_time_bases(subtitles, packets, search.within, search.inside)
     if not bases:
         origin.lines += [*explain_mismatch(packets, search.page), "no cue matches at any origin"]
         return origin
-    if (count := len(packets.time_bases())) > MAX_BASES:
+    if (count := len(packets.split_time_bases())) > MAX_BASES:
         origin.lines.append(f"PTS go back at {count - 1} places: only the {MAX_BASES} stretches "
                             "between them with the most page changes are searched")
     airings = find_airings(bases, search.origin is not None)
@@ -128,27 +131,27 @@ def report_sent_pages(packets: Packets, search: OriginSearch, lines: list[str]) 
     """Return whether the page was sent. Append messages to `lines` about skipped PES packets and,
     if the page was not sent, about the other pages."""
     count, marks = packets.count, len(packets.gap_markers)
-    timed = sum(run.length for run in packets.runs_with_pts())
+    pts_count = sum(run.length for run in packets.list_runs_with_pts())
     if packets.damage:
         if not count:
             raise Stop(f"{search.name}: {packets.damage}")
         lines.append(f"{search.name}: {packets.damage}; only the PES packets before it are used")
-    if not timed:
+    if not pts_count:
         lines.append(f"none of {counted(count, 'PES packet')} in {search.name} has a PTS: they "
                      "are refused with fault 34")
         return False
     if marks:
         lines.append(f"{counted(marks, 'gap marker')} {was(marks)} ignored here, but "
                      "check refuses gap markers (fault 45)")
-    if timed + marks < count:
-        lines.append(f"{count - timed - marks} of {counted(count, 'PES packet')} have no PTS and "
-                     "were skipped: they are refused with fault 34")
+    if pts_count + marks < count:
+        lines.append(f"{count - pts_count - marks} of {counted(count, 'PES packet')} have no PTS "
+                     "and were skipped: they are refused with fault 34")
     if not packets.changes:
         requested_page = page_name(*search.page)
         others = sorted((page for page in packets.header_counts if page != requested_page),
                         key=lambda page: -packets.header_counts[page])
         lines.append(f"{search.name} has no header of page {requested_page}; other subtitle pages: "
-                     f"{', '.join(others[:NAMED]) or 'none'}")
+                     f"{', '.join(others[:MAX_PRINTED_ITEMS]) or 'none'}")
     return bool(packets.changes)
 
 
@@ -165,18 +168,19 @@ def store_first_part(origin: OriginEstimate, search: OriginSearch, bases: Sequen
         add_part(origin, part, part.time_base.packets if is_back else None, None, len(cues))
         origin.matches_every_cue = part.best.matches == part.best.content_matches == len(cues)
     origin.lines += format_part(part, len(cues), search.has_picture)
-    compare_with_known(origin, search.origin, part)
+    compare_with_known_origin(origin, search.origin, part)
     if len(parts) > 1:
         origin.first_shift = cues[row[1].first].frame
         origin.shift_texts = shift_lines(row, parts,
                                          part.origin if search.origin is None else search.origin)
     if drift := find_drift(cues, bases[part.base].changes):
-        origin.shift_texts = [drift_line(drift)]
+        origin.shift_texts = [describe_drift(drift)]
     origin.lines += origin.shift_texts
-    first, last = (time_in(pts, part.origin) or "a time outside the day"
+    first, last = (compute_time(pts, part.origin) or "a time outside the day"
                    for pts in part.time_base.pts_range)
-    origin.lines.append(f"subtitles are expected from {time_of(cues[0].frame)} to "
-                        f"{time_of(cues[-1].frame)}; the page was received from {first} to {last}")
+    origin.lines.append(f"subtitles are expected from {format_frame(cues[0].frame)} to "
+                        f"{format_frame(cues[-1].frame)}; the page was received from {first} to "
+                        f"{last}")
 
 
 def prefer_known_origin(part: EstimatedPart, known: int | None) -> EstimatedPart:
@@ -187,7 +191,7 @@ def prefer_known_origin(part: EstimatedPart, known: int | None) -> EstimatedPart
                                        1)
     if known is None or sent.compare(part.best.start).matches:
         return part
-    start = round(ticks_after(known, sent.first) / TICKS)
+    start = round(subtract_origin(known, sent.first) / TICKS)
     fit = sent.compare(start)
     if not fit.matches:
         return part
@@ -215,17 +219,17 @@ def store_parts(origin: OriginEstimate, search: OriginSearch, bases: Sequence[Ti
     for part in parts:
         origin.lines += format_part(part, count, search.has_picture)
         if part is parts[0]:
-            compare_with_known(origin, search.origin, part)
-        origin.lines += [f"the subtitle from {time_of(shown.begin)} to {time_of(shown.end)} "
-                         "reaches into the next part, so it is in no part"
-                         for shown in part.overlapping]
+            compare_with_known_origin(origin, search.origin, part)
+        origin.lines += [f"the subtitle from {format_frame(expected_subtitle.begin)} to "
+                         f"{format_frame(expected_subtitle.end)} reaches into the next part, so it "
+                         "is in no part" for expected_subtitle in part.overlapping]
 
 
 def add_part(origin: OriginEstimate, part: EstimatedPart, packets: Range | None,
              frames: tuple[int, int] | None, count: int) -> None:
     """Store a part whose origin is unambiguous, and its command-line options. `count` is the number
     of cues in the file."""
-    between = f"--from {time_of(frames[0])} --to {time_of(frames[1])} " if frames else ""
+    between = f"--from {format_frame(frames[0])} --to {format_frame(frames[1])} " if frames else ""
     pes = f"--pes {packets[0]}-{packets[1]} " if packets else ""
     best = part.best
     origin.parts.append(PartOrigin(part.origin, packets, frames, best.matches, best.total,
@@ -233,18 +237,21 @@ def add_part(origin: OriginEstimate, part: EstimatedPart, packets: Range | None,
     origin.printed.append(f"{between}{pes}--origin {part.origin}")
 
 
-def compare_with_known(origin: OriginEstimate, known: int | None, part: EstimatedPart) -> None:
+def compare_with_known_origin(origin: OriginEstimate, known: int | None,
+                              part: EstimatedPart) -> None:
     """Store whether all cues of the first part match, and its delay relative to the known origin.
     Without a known origin, report the delay relative to --origin 0 if it is short."""
     best, cue_offset = part.best, part.time_base.find_cue_offset(part.best)
     origin.has_all_cues = best.matches == best.total or bool(
         cue_offset and cue_offset.matches == cue_offset.total)
-    ticks_late = ticks_between(known or 0, part.origin)
+    ticks_late = subtract_pts(known or 0, part.origin)
     origin.ticks_late = None if known is None else ticks_late
-    if known is not None or abs(ticks_late) // TICKS <= NEAR and not 0 <= abs(ticks_late) < TICKS:
-        which = f"--origin {known or 0}"
-        origin.lines.append(f"compared with {which}, the subtitles are {offset_text(ticks_late)}"
-                            if ticks_late else f"the subtitles match {which}")
+    if known is not None or abs(ticks_late) // TICKS <= MAX_PRINTED_DISTANCE \
+            and not 0 <= abs(ticks_late) < TICKS:
+        origin_text = f"--origin {known or 0}"
+        origin.lines.append(f"compared with {origin_text}, the subtitles are "
+                            f"{describe_offset(ticks_late)}" if ticks_late
+                            else f"the subtitles match {origin_text}")
 
 
 def explain_mismatch(packets: Packets, page: Page) -> Iterator[str]:
@@ -254,12 +261,12 @@ def explain_mismatch(packets: Packets, page: Page) -> Iterator[str]:
     if packets.stray_rows:
         count = sum(run.length for run in packets.runs if STRAY in run.flags)
         yield f"rows came while page {name} was not open, in {counted(count, 'PES packet')}"
-    subcodes = alternating_subcodes(packets)
+    subcodes = find_alternating_subcodes(packets)
     if subcodes:
-        yield subpage_text(subcodes, name)
+        yield describe_subpages(subcodes, name)
 
 
-def offset_text(ticks: int) -> str:
+def describe_offset(ticks: int) -> str:
     """Return a delay in ticks as text, such as `2 frames late`."""
     frames, rest = divmod(abs(ticks), TICKS)
     words = [counted(frames, "frame")] * bool(frames or not rest) + \
@@ -271,8 +278,9 @@ def find_equal_origins(part: EstimatedPart) -> list[OriginFit]:
     """Return the origins that are as likely as the best origin of a part. If in-cues and out-cues
     have different delays, ignore nearby origins and those at which only erasures match."""
     best, cue_offset = part.best, part.time_base.find_cue_offset(part.best)
-    ways = (True,) if best.matches >= LEAST_ROW else (True, False)
-    return [fit for fit in part.others if any(fit.score(one) >= best.score(one) for one in ways)
+    erasure_choices = (True,) if best.matches >= MIN_MATCHING_CUES else (True, False)
+    return [fit for fit in part.others
+            if any(fit.score(one) >= best.score(one) for one in erasure_choices)
             and not (cue_offset and (abs(fit.start - best.start) <= MAX_CUE_OFFSET
                                      or not fit.text_matches))]
 
@@ -306,18 +314,19 @@ def format_part(part: EstimatedPart, count: int, has_picture: bool = False) -> I
             f"{format_frame_range(delays[0], delays[-1])} late (median {delays[len(delays) // 2]})"
     equal, cue_offset = find_equal_origins(part), part.time_base.find_cue_offset(best)
     if equal:
-        names = ", ".join(f"--origin {fit.origin}" for fit in equal[:NAMED])
+        names = ", ".join(f"--origin {fit.origin}" for fit in equal[:MAX_PRINTED_ITEMS])
         yield (f"ambiguous: --origin {best.origin} fits no better than {names}"
-               + (f" and {len(equal) - NAMED} more" if len(equal) > NAMED else ""))
+               + (f" and {len(equal) - MAX_PRINTED_ITEMS} more" if len(equal) > MAX_PRINTED_ITEMS
+                  else ""))
     if part.early:
-        yield early_line(part.early, has_picture)
+        yield describe_early_cues(part.early, has_picture)
     if best.first_unmatched is not None:
-        yield f"the first cue without a match is at {time_of(best.first_unmatched)}"
+        yield f"the first cue without a match is at {format_frame(best.first_unmatched)}"
     if cue_offset:
         kinds = ("in-cues", "out-cues")[::1 if cue_offset.is_begin else -1]
         count_text = "all" if cue_offset.matches == cue_offset.total else \
             f"{cue_offset.matches} of {cue_offset.total}"
-        yield f"{count_text} {kinds[0]} are {offset_text(TICKS * cue_offset.delay)} compared " \
+        yield f"{count_text} {kinds[0]} are {describe_offset(TICKS * cue_offset.delay)} compared " \
             f"with the {kinds[1]}"
     if best.exact_matches < best.matches:
         yield (f"{best.matches - best.exact_matches} of the matching cues match only to the "
@@ -328,7 +337,7 @@ def format_part(part: EstimatedPart, count: int, has_picture: bool = False) -> I
                "is the right subtitle file")
 
 
-def early_line(early: EarlyCues, has_picture: bool) -> str:
+def describe_early_cues(early: EarlyCues, has_picture: bool) -> str:
     """Report early cues. If there are many, ask the operator to give the clock."""
     count = f"{early.early_count} of {counted(early.total, 'cue')} " \
         f"{'is' if early.early_count == 1 else 'are'} up to {counted(early.frames, 'frame')} " \
@@ -338,39 +347,40 @@ def early_line(early: EarlyCues, has_picture: bool) -> str:
         if early.is_common_delay else count
 
 
-def drift_line(drift: Drift) -> str:
+def describe_drift(drift: Drift) -> str:
     """Return a line that reports a drift of the delays."""
-    way = "later and later" if drift.frames > 0 else "earlier and earlier"
-    by = counted(abs(drift.frames), "frame")
-    return f"from {time_of(drift.first)} to {time_of(drift.last)}, subtitles come {way}, by {by}" \
-        ": does the file or the recording have another frame rate?"
+    direction = "later and later" if drift.frames > 0 else "earlier and earlier"
+    amount = counted(abs(drift.frames), "frame")
+    return f"from {format_frame(drift.first)} to {format_frame(drift.last)}, subtitles come " \
+        f"{direction}, by {amount}: does the file or the recording have another frame rate?"
 
 
 def shift_lines(row: Sequence[Stretch], parts: Sequence[EstimatedPart], known: int) -> list[str]:
     """Return a line for each change of the delay, which is relative to the origin `known`."""
     lines = []
     for stretch, before, part in zip(row[1:], parts, parts[1:]):
-        distance = ticks_between(known, part.origin)
+        distance = subtract_pts(known, part.origin)
         frames = round(abs(distance) / TICKS)
         words = f"{frames / FRAMES_A_SECOND:.2f} s ({counted(frames, 'frame')}) " \
             f"{'late' if distance > 0 else 'early'}" if abs(distance) >= TICKS else "on time"
-        back = ", where the PTS go back" if part.base != before.base else ""
-        lines.append(f"from {time_of(stretch.track.cues[stretch.first].frame)} on{back}, subtitles "
-                     f"are {words}")
-    left = lines[LISTED - 1:-1]
-    lines = lines[:LISTED - 1] + [f"and {counted(len(left), 'more change')}"] * bool(left) \
-        + lines[LISTED - 1:][-1:]
+        reset_text = ", where the PTS go back" if part.base != before.base else ""
+        lines.append(f"from {format_frame(stretch.track.cues[stretch.first].frame)} "
+                     f"on{reset_text}, subtitles are {words}")
+    left = lines[MAX_LISTED_CHANGES - 1:-1]
+    lines = lines[:MAX_LISTED_CHANGES - 1] \
+        + [f"and {counted(len(left), 'more change')}"] * bool(left) + lines[MAX_LISTED_CHANGES
+                                                                            - 1:][-1:]
     return lines
 
 
 def format_breaks(parts: Sequence[EstimatedPart]) -> Iterator[str]:
     """Yield a line for each later part: its start, and the length of the break before it."""
     for number, (previous, part) in enumerate(zip(parts, parts[1:]), 2):
-        frames, rest = divmod(abs(gap_ticks := ticks_between(previous.origin, part.origin)), TICKS)
-        length = time_of(frames) + (f" and {counted(rest, 'tick')}" if rest else "")
-        where = "where the PTS go back" if part.base != previous.base else \
+        frames, rest = divmod(abs(gap_ticks := subtract_pts(previous.origin, part.origin)), TICKS)
+        length = format_frame(frames) + (f" and {counted(rest, 'tick')}" if rest else "")
+        place_text = "where the PTS go back" if part.base != previous.base else \
             f"after a break of {length}" if gap_ticks > 0 else f"where the recording lacks {length}"
-        yield f"part {number} begins at {time_of(part.begin)}, {where}"
+        yield f"part {number} begins at {format_frame(part.begin)}, {place_text}"
 
 
 def find_airing_packets(airings: Sequence[Airing], number: int, bases: Sequence[TimeBase],
@@ -391,9 +401,9 @@ def find_packet_number(place: tuple[int, int], bases: Sequence[TimeBase], packet
     length, least = TICKS * base.length, TICKS * place[1] - TICKS // 2
 
     def is_reached(pts: int) -> bool:
-        return ticks_within(base.first, length, pts) >= least
+        return subtract_pts_within(base.first, length, pts) >= least
 
-    return next((number for run in packets.runs_between(*base.packets)
+    return next((number for run in packets.list_runs_between(*base.packets)
                  if run.last is not None and is_reached(run.last)
                  for number in range(run.first, run.end) if is_reached(run.pts_of(number) or 0)),
                 base.packets[1])

@@ -7,8 +7,8 @@ from typing import NamedTuple, Sequence
 from ..common.command_line import counted, format_pid, escape_hidden, was
 from ..common.files import read_first_bytes
 from ..common.times import (
-    ALL_DAY, Between, EARLY_TICKS, TICKS, frame_in, frame_of, frame_of_code, ticks_after,
-    ticks_between, time_of, wrap_pts)
+    ALL_DAY, EARLY_TICKS, FrameRange, TICKS, compute_frame, decode_frame, format_frame, parse_frame,
+    subtract_origin, subtract_pts, wrap_pts)
 from ..formats.stl import GSI
 from ..request.request import ORIGIN_CHOICE, Request, Selection, Unclear
 from ..stream.packets import Packets, Range
@@ -69,7 +69,7 @@ class TimedPart(NamedTuple):
     end: int  # its last TCO
     clock: Clock
     packets: Range | None = None  # its PES packets, if the PTS go back somewhere in the recording
-    between: Between = ALL_DAY  # range of frames in which its subtitles begin
+    between: FrameRange = ALL_DAY  # range of frames in which its subtitles begin
 
     @property
     def origin(self) -> int:
@@ -79,14 +79,16 @@ class TimedPart(NamedTuple):
 # Names of the supported video formats, by stream_type.
 NAMES = {0x01: "MPEG-1", 0x02: "MPEG-2", 0x1B: "H.264", 0x24: "HEVC"}
 # Video formats that are not supported.
-OTHERS = {0x10: "MPEG-4 part 2", 0x1E: "MPEG-C", 0x1F: "SVC", 0x20: "MVC", 0x21: "JPEG 2000",
-          0x25: "HEVC sub-bitstream", 0x32: "JPEG XS", 0x33: "VVC", 0x35: "EVC", 0x42: "AVS",
-          0xD1: "Dirac", 0xD2: "AVS2", 0xD4: "AVS3", 0xEA: "VC-1"}
+OTHER_STREAM_TYPES = {0x10: "MPEG-4 part 2", 0x1E: "MPEG-C", 0x1F: "SVC", 0x20: "MVC",
+                      0x21: "JPEG 2000", 0x25: "HEVC sub-bitstream", 0x32: "JPEG XS", 0x33: "VVC",
+                      0x35: "EVC", 0x42: "AVS", 0xD1: "Dirac", 0xD2: "AVS2", 0xD4: "AVS3",
+                      0xEA: "VC-1"}
 TCP_PLACE = slice(256, 264)  # the bytes of the TCP in the GSI block
-FRAMES_NEAR = 25  # maximum number of frames from the last PTS to the end of the last subtitle
+MAX_PCR_DISTANCE = 25  # maximum number of frames from the last PTS to the end of the last subtitle
 MAX_SAMPLES = 1000  # maximum number of PTS of Teletext to compare with the first picture
-REORDERED = 16  # maximum number of pictures that are sent before a picture shown earlier
-LONGEST = 10 * 90_000  # longest span of pictures to compare, in ticks
+# maximum number of pictures that are sent before a picture shown earlier
+MAX_REORDERED_PICTURES = 16
+MAX_COMPARED_TICKS = 10 * 90_000  # longest span of pictures to compare, in ticks
 CLOSED = "closed"  # `Video.form` of a group whose pictures can all be decoded
 
 
@@ -107,7 +109,7 @@ class FirstPicture(NamedTuple):
     @property
     def picture_offset(self) -> int:
         """Return the number of frames from the chosen picture to the other picture, or 0."""
-        return 0 if self.other is None else round(ticks_between(self.pts, self.other) / TICKS)
+        return 0 if self.other is None else round(subtract_pts(self.pts, self.other) / TICKS)
 
     def line(self) -> str:
         frames = counted(abs(self.picture_offset), "frame")
@@ -133,20 +135,20 @@ class StartClock(NamedTuple):
 def find_video(survey: Survey, teletext: int) -> tuple[int, int]:
     """Return the video PID that belongs to a Teletext PID, and its stream_type. Raise
     `NoFirstPicture` if there is not exactly one, or if its format is not supported."""
-    programmes = survey.programmes_of(teletext)
+    programmes = survey.find_programmes(teletext)
     if not programmes:
         raise NoFirstPicture(f"no PMT names {format_pid(teletext)}")
     kinds = {pid: kind for program_map in programmes for pid, kind in program_map.kinds.items()}
-    known = NAMES | OTHERS
-    there = ", ".join(f"{format_pid(pid)} {known.get(kind, f'stream_type {kind:02X}')}"
-                      for pid, kind in sorted(kinds.items()))
+    known = NAMES | OTHER_STREAM_TYPES
+    stream_texts = ", ".join(f"{format_pid(pid)} {known.get(kind, f'stream_type {kind:02X}')}"
+                             for pid, kind in sorted(kinds.items()))
     videos = {pid: kind for pid, kind in kinds.items() if kind in known}
     if len(videos) != 1:
         raise NoFirstPicture(f"the PMT that names {format_pid(teletext)} has "
-                             f"{'several video PIDs' if videos else 'no video'}: {there}")
+                             f"{'several video PIDs' if videos else 'no video'}: {stream_texts}")
     pid, kind = videos.popitem()
     if kind not in NAMES:
-        raise NoFirstPicture(f"{OTHERS[kind]} video is not supported: {there}")
+        raise NoFirstPicture(f"{OTHER_STREAM_TYPES[kind]} video is not supported: {stream_texts}")
     return pid, kind
 
 
@@ -179,7 +181,7 @@ def find_first_picture(survey: Survey, teletext: int) -> FirstPicture:
         raise NoFirstPicture(f"the PTS of the first pictures of {name} skip "
                              f"{counted(frames, 'frame')}: a PES packet has several pictures, or "
                              "pictures are missing")
-    least = min(pts, key=lambda each: ticks_between(pts[0], each))
+    least = min(pts, key=lambda pts_value: subtract_pts(pts[0], pts_value))
     first, other = (least, pts[0]) if video.form in ("", CLOSED) else (pts[0], least)
     return FirstPicture(pid, kind, first, video.skipped, other if video.form and other != first
                         else None)
@@ -188,10 +190,10 @@ def find_first_picture(survey: Survey, teletext: int) -> FirstPicture:
 def count_skipped(pts: list[int], is_cut: bool) -> int:
     """Return the number of frames without a picture, from the PTS of the first pictures. If the
     recording is cut off, ignore the last pictures: pictures shown between them may be missing."""
-    shown_at = sorted(ticks_between(pts[0], one) for one in pts)
-    if is_cut or shown_at[-1] - shown_at[0] > LONGEST:
-        del shown_at[-REORDERED:]
-    steps = [second - first for first, second in zip(shown_at, shown_at[1:])]
+    display_ticks = sorted(subtract_pts(pts[0], item) for item in pts)
+    if is_cut or display_ticks[-1] - display_ticks[0] > MAX_COMPARED_TICKS:
+        del display_ticks[-MAX_REORDERED_PICTURES:]
+    steps = [second - first for first, second in zip(display_ticks, display_ticks[1:])]
     return sum(round(step / TICKS) - 1 for step in steps if step > TICKS + EARLY_TICKS)
 
 
@@ -204,7 +206,7 @@ def has_first_picture(survey: Survey, teletext: int) -> bool:
     return True
 
 
-def clock_advice(has_picture: bool) -> str:
+def advise_on_clock(has_picture: bool) -> str:
     """Return advice on the options that set the clock of a recording."""
     return "add --origin PTS, --start tcp, or --start TIME (the time code of the recording's " \
         "first picture on the subtitle file's clock)" if has_picture else \
@@ -217,7 +219,7 @@ def find_frame_offset(packets: Packets, pts: int, within: int) -> int:
     near a whole frame: Teletext may have a PTS for each of the two fields of a frame."""
     ticks: collections.Counter[int] = collections.Counter()
     for _, (sent, _) in zip(range(MAX_SAMPLES), ((sent, 0) for sent in packets.pts())):
-        ticks[ticks_after(pts, sent) % TICKS] += 1
+        ticks[subtract_origin(pts, sent) % TICKS] += 1
     known = [rest for rest, _ in ticks.most_common()]
     near_rests = [rest for rest in known if rest <= EARLY_TICKS or rest >= TICKS - EARLY_TICKS]
     return (near_rests if within and near_rests else known)[0]
@@ -226,12 +228,12 @@ def find_frame_offset(packets: Packets, pts: int, within: int) -> int:
 def read_start_frame(request: Request) -> int:
     """Return the frame of the first picture: the value of --start, or the TCP of the GSI block."""
     if request.start != TCP:
-        frame = frame_of(request.start or "")
+        frame = parse_frame(request.start or "")
         assert frame is not None  # the command line was checked
         return frame
     code = read_first_bytes(request.stl_path, GSI)[TCP_PLACE].decode("latin-1")
     is_code = code.isascii() and code.isdecimal() and len(code) == 8
-    first = frame_of_code(int(code[at:at + 2]) for at in range(0, 8, 2)) if is_code else None
+    first = decode_frame(int(code[at:at + 2]) for at in range(0, 8, 2)) if is_code else None
     if first is None:
         raise Unclear(f"the TCP in the GSI block of {request.stl} is not a time: "
                       f"{escape_hidden(code)!r}")
@@ -246,28 +248,30 @@ def compute_start_clock(request: Request, survey: Survey, packets: Packets) -> S
         raise Unclear(f"{first.line()}. The Teletext PTS are half a frame later, so it is "
                       "not clear to which frame they belong")
     ticks = after if after * 2 < TICKS else after - TICKS
-    moved = wrap_pts(first.pts - TICKS * frame + ticks)
+    shifted_pts = wrap_pts(first.pts - TICKS * frame + ticks)
     source = TCP if request.start == TCP else START
     name = "the TCP" if source == TCP else "--start"
-    said = "which agrees with the Teletext PTS" if not ticks else \
+    relation = "which agrees with the Teletext PTS" if not ticks else \
         f"shifted {'forward' if ticks > 0 else 'back'} by {counted(abs(ticks), 'tick')} to " \
         "agree with the Teletext PTS"
-    return StartClock(Clock(moved, source, picture_offset=first.picture_offset),
-                      [first.line(), f"by {name}, the time of this picture is {time_of(frame)}, so "
-                       f"the clock is --origin {moved}, {said}"], frame)
+    return StartClock(Clock(shifted_pts, source, picture_offset=first.picture_offset),
+                      [first.line(),
+                       f"by {name}, the time of this picture is {format_frame(frame)}, so the "
+                       f"clock is --origin {shifted_pts}, {relation}"], frame)
 
 
-def refuse_outside(request: Request, began: StartClock, begin: int, end: int,
-                   last: int | None) -> None:
+def refuse_outside_recording(request: Request, start_clock: StartClock, begin: int, end: int,
+                             last: int | None) -> None:
     """Raise `Unclear` if the subtitles from frame `begin` to `end` lie outside the recording,
     assuming that it begins at the TCP and ends at the PTS `last`."""
-    if begin < began.frame:
-        raise Unclear(f"the first subtitle of {request.stl} begins at {time_of(begin)}, before "
-                      f"its TCP {time_of(began.frame)}, at which the recording would begin")
-    over = None if last is None else frame_in(last, began.clock.origin)
-    if over is not None and end > over + FRAMES_NEAR:
-        raise Unclear(f"the last subtitle of {request.stl} ends at {time_of(end)}, but by the TCP "
-                      f"the recording ends at {time_of(over)}")
+    if begin < start_clock.frame:
+        raise Unclear(f"the first subtitle of {request.stl} begins at {format_frame(begin)}, "
+                      f"before its TCP {format_frame(start_clock.frame)}, at which the recording "
+                      "would begin")
+    last_frame = None if last is None else compute_frame(last, start_clock.clock.origin)
+    if last_frame is not None and end > last_frame + MAX_PCR_DISTANCE:
+        raise Unclear(f"the last subtitle of {request.stl} ends at {format_frame(end)}, but by the "
+                      f"TCP the recording ends at {format_frame(last_frame)}")
 
 
 MILLISECOND = 90  # ticks in a millisecond
@@ -276,11 +280,11 @@ MAX_PTS = 100_000  # maximum number of PTS to compare
 
 def find_largest_offset(several: Sequence[int], origin: int) -> int:
     """Return the largest distance in ticks from a PTS to the start of the nearest frame."""
-    rests = (ticks_after(origin, pts) % TICKS for pts in several[:MAX_PTS])
-    return max((min(rest, TICKS - rest) for rest in rests), default=0)
+    remainders = (subtract_origin(origin, pts) % TICKS for pts in several[:MAX_PTS])
+    return max((min(rest, TICKS - rest) for rest in remainders), default=0)
 
 
-def largest_offset_text(most: int) -> str:
+def describe_largest_offset(most: int) -> str:
     """Return the largest distance of PTS from their frames as text, or "" if it is 0."""
     return f"PTS differ from the times of their frames by up to {counted(most, 'tick')} " \
         f"({most / MILLISECOND:.2f} ms)" if most else ""

@@ -15,18 +15,18 @@ from typing import Mapping, NamedTuple, Sequence
 from ..common.command_line import Lateness
 from ..common.times import FRAMES_A_SECOND, FRAMES_OF_A_DAY
 from .alignment import (
-    EarlyCues, ExpectedCue, ExpectedSubtitle, OriginFit, TRIED, TimeBase, choose_clock,
+    EarlyCues, ExpectedCue, ExpectedSubtitle, MAX_TRIED_ORIGINS, OriginFit, TimeBase, choose_clock,
     find_expected_cues)
 
-LEADERS = 8  # number of best sequences of tracks for which a change of track is considered
-LEAST_ROW = 5  # minimum number of consecutive cues that must match on a new track
-NEW_TRACK = LEAST_ROW - 1  # cost of a change of track, in points of `Track.points`
-LEAST_BREAK = 5 * FRAMES_A_SECOND  # minimum length of a break; a shorter shift is a delay
-LEAST_GAP = 60 * FRAMES_A_SECOND  # minimum jump of the time codes in the file at a break
+MAX_CANDIDATES = 8  # number of best sequences of tracks for which a change of track is considered
+MIN_MATCHING_CUES = 5  # minimum number of consecutive cues that must match on a new track
+NEW_TRACK = MIN_MATCHING_CUES - 1  # cost of a change of track, in points of `Track.points`
+MIN_BREAK_FRAMES = 5 * FRAMES_A_SECOND  # minimum length of a break; a shorter shift is a delay
+MIN_GAP_FRAMES = 60 * FRAMES_A_SECOND  # minimum jump of the time codes in the file at a break
 TEXT_POINTS = 3  # score of a cue whose expected text is sent
-MAX_COMPARED = 500  # maximum number of cues to compare with each other
+MAX_COMPARED_CUES = 500  # maximum number of cues to compare with each other
 TRIED_TIMES = 8  # maximum number of origins to try if texts are ignored
-LEAST_CUES = 10  # minimum number of cues if texts are ignored; twice as many with --within N
+MIN_AIRING_CUES = 10  # minimum number of cues if texts are ignored; twice as many with --within N
 Place = tuple[int, int]
 
 
@@ -37,17 +37,17 @@ class Track:
 
     def __init__(self, number: int, start: int, base: TimeBase) -> None:
         self.base, self.start, self.within, self.cues = number, start, base.within, base.cues
-        matched = [base.find_match(cue, start) for cue in base.cues]
-        self.points = [0 if not one else 1 if one.letters != cue.letters else
-                       TEXT_POINTS if cue.letters else 2 for cue, one in zip(base.cues, matched)]
-        self.total_delay = sum(one.delay for one in matched if one)
-        self.places = [cue.frame - start + (one.delay if one else 0)
-                       for cue, one in zip(base.cues, matched)]
+        matches = [base.find_match(cue, start) for cue in base.cues]
+        self.points = [0 if not item else 1 if item.letters != cue.letters else
+                       TEXT_POINTS if cue.letters else 2 for cue, item in zip(base.cues, matches)]
+        self.total_delay = sum(item.delay for item in matches if item)
+        self.places = [cue.frame - start + (item.delay if item else 0)
+                       for cue, item in zip(base.cues, matches)]
 
     @functools.cached_property
     def row_lengths(self) -> list[int]:
         """Return, for each cue, the number of consecutive matching cues, starting with this cue."""
-        rows = itertools.accumulate(reversed(self.points), lambda row, one: row + 1 if one else 0,
+        rows = itertools.accumulate(reversed(self.points), lambda row, item: row + 1 if item else 0,
                                     initial=0)
         return list(rows)[:0:-1]
 
@@ -70,7 +70,7 @@ class Stretch(NamedTuple):
     first: int
     end: int
 
-    def matching_places(self) -> list[int]:
+    def list_matching_places(self) -> list[int]:
         """Return the frames of the matching cues in the time base."""
         return [self.track.places[at] for at in range(self.first, self.end)
                 if self.track.points[at]]
@@ -80,24 +80,25 @@ def find_stretches(bases: Sequence[TimeBase]) -> list[Stretch]:
     """Divide all cues into stretches. Return an empty list if five consecutive cues never match at
     the same origin."""
     candidates = [(number, base) for number, base in enumerate(bases)
-                  if len(base.changes) >= LEAST_ROW]
+                  if len(base.changes) >= MIN_MATCHING_CUES]
     for number, base in candidates:
-        first_fit = base.align_in_cues(base.fits[0]) if base.fits else None
-        if first_fit and len(base.cues) >= LEAST_ROW and (
+        first_fit = base.align_to_in_cues(base.fits[0]) if base.fits else None
+        if first_fit and len(base.cues) >= MIN_MATCHING_CUES and (
                 first_fit.content_matches == len(base.cues) or base.find_cue_offset(first_fit)):
             return [Stretch(Track(number, first_fit.start, base), 0, len(base.cues))]
     tracks: list[Track] = []
     for number, base in candidates:
-        starts = {fit.start for fit in base.fits[:TRIED]}
-        starts.update(start for start, _ in base.count_equal_texts().most_common(TRIED))
+        starts = {fit.start for fit in base.fits[:MAX_TRIED_ORIGINS]}
+        starts.update(start for start, _ in base.count_equal_texts().most_common(MAX_TRIED_ORIGINS))
         tracks += [track for start in sorted(starts) if max(
-            (track := Track(number, start, base)).row_lengths, default=0) >= LEAST_ROW]
-    distinct: list[Track] = []
+            (track := Track(number, start, base)).row_lengths, default=0) >= MIN_MATCHING_CUES]
+    distinct_tracks: list[Track] = []
     for track in sorted(tracks, key=Track.rank):
         if not track.within or not any(other.base == track.base and abs(
-                other.start - track.start) <= track.within for other in distinct):
-            distinct.append(track)
-    return find_best_stretches(bases[0].cues, distinct[:TRIED]) if distinct else []
+                other.start - track.start) <= track.within for other in distinct_tracks):
+            distinct_tracks.append(track)
+    return find_best_stretches(bases[0].cues,
+                               distinct_tracks[:MAX_TRIED_ORIGINS]) if distinct_tracks else []
 
 
 class TrackSequence(NamedTuple):
@@ -124,18 +125,18 @@ class TrackSequence(NamedTuple):
 def find_best_stretches(cues: Sequence[ExpectedCue], tracks: Sequence[Track]) -> list[Stretch]:
     """Return the stretches of the `TrackSequence` with the highest `rank`. To change track, five
     consecutive cues must match on the new track. At each cue, keep the best sequence for each last
-    track, and consider a change of track only for the `LEADERS` best sequences. Finally, move the
-    borders between stretches to earlier cues if this gives more points."""
+    track, and consider a change of track only for the `MAX_CANDIDATES` best sequences. Finally,
+    move the borders between stretches to earlier cues if this gives more points."""
     best: dict[Track, TrackSequence] = {}
     for at, cue in enumerate(cues):
         gap = cue.frame - cues[at - 1].frame if at else 0
-        leaders = heapq.nlargest(LEADERS, best.items(), key=lambda item: item[1].rank)
+        candidates = heapq.nlargest(MAX_CANDIDATES, best.items(), key=lambda item: item[1].rank)
         extended: dict[Track, TrackSequence] = {}
         for track in tracks:
             sequences = [best[track]] if track in best else []
-            if track.row_lengths[at] >= LEAST_ROW:
+            if track.row_lengths[at] >= MIN_MATCHING_CUES:
                 sequences = sequences or [TrackSequence(sum(track.points[:at]), 0, ((0, track),))]
-                sequences += [sequence.switch_track(at, track) for previous, sequence in leaders
+                sequences += [sequence.switch_track(at, track) for previous, sequence in candidates
                               if previous is not track and track.may_follow(previous, gap)]
             if sequences:
                 sequence = max(sequences, key=lambda sequence: sequence.rank)
@@ -154,12 +155,12 @@ def find_best_stretches(cues: Sequence[ExpectedCue], tracks: Sequence[Track]) ->
 def find_border(cues: Sequence[ExpectedCue], previous: Stretch, following: Stretch) -> int:
     """Return the number of the cue at which `following` should begin: its first cue, or an earlier
     cue if more points are then reached."""
-    best, most, gained = following.first, 0, 0
-    for border in range(following.first - 1, previous.first + LEAST_ROW - 1, -1):
-        gained += following.track.points[border] - previous.track.points[border]
-        if gained > most and following.track.may_follow(
+    best, most, gain = following.first, 0, 0
+    for border in range(following.first - 1, previous.first + MIN_MATCHING_CUES - 1, -1):
+        gain += following.track.points[border] - previous.track.points[border]
+        if gain > most and following.track.may_follow(
                 previous.track, cues[border].frame - cues[border - 1].frame):
-            best, most = border, gained
+            best, most = border, gain
     return best
 
 
@@ -188,14 +189,14 @@ def fit_parts(subtitles: Sequence[ExpectedSubtitle], bases: Sequence[TimeBase],
     if len(row) > 1:
         return [fit_part(subtitles, bases, row, number, lateness) for number in range(len(row))]
     number = row[0].track.base if row else max(
-        range(len(bases)), key=lambda one: bases[one].fits[0].matches if bases[one].fits else 0)
+        range(len(bases)), key=lambda item: bases[item].fits[0].matches if bases[item].fits else 0)
     own = bases[number]
     if not own.fits:
         return []
-    estimate = own.fit(row[0].track.start) if row else own.align_in_cues(own.fits[0])
+    estimate = own.fit(row[0].track.start) if row else own.align_to_in_cues(own.fits[0])
     best, early = choose_clock(own, estimate, lateness)
-    return [EstimatedPart(min(shown.begin for shown in subtitles),
-                          max(shown.end for shown in subtitles), best,
+    return [EstimatedPart(min(expected_subtitle.begin for expected_subtitle in subtitles),
+                          max(expected_subtitle.end for expected_subtitle in subtitles), best,
                        select_other_origins(own, estimate.start, best.start), own, number, [],
                           early)]
 
@@ -211,23 +212,26 @@ def fit_part(subtitles: Sequence[ExpectedSubtitle], bases: Sequence[TimeBase],
              number: int, lateness: Lateness | None) -> EstimatedPart:
     """Return the part for stretch `number`, without the page changes of neighbouring stretches."""
     track, first, end = row[number]
-    whole = bases[track.base]
-    begin = whole.cues[first].frame if number else 0
-    stop = whole.cues[end].frame if number + 1 < len(row) else FRAMES_OF_A_DAY
-    low, high = -1, whole.length + 1
+    full_base = bases[track.base]
+    begin = full_base.cues[first].frame if number else 0
+    stop = full_base.cues[end].frame if number + 1 < len(row) else FRAMES_OF_A_DAY
+    low, high = -1, full_base.length + 1
     if number and row[number - 1].track.base == track.base:
-        low = row[number - 1].matching_places()[-1]
+        low = row[number - 1].list_matching_places()[-1]
     if number + 1 < len(row) and row[number + 1].track.base == track.base:
-        high = row[number + 1].matching_places()[0]
-    inside = [shown for shown in subtitles if begin <= shown.begin and shown.end <= stop]
-    overlapping = [shown for shown in subtitles if begin <= shown.begin < stop < shown.end]
+        high = row[number + 1].list_matching_places()[0]
+    inside = [expected_subtitle for expected_subtitle in subtitles
+              if begin <= expected_subtitle.begin and expected_subtitle.end <= stop]
+    overlapping = [expected_subtitle for expected_subtitle in subtitles
+                   if begin <= expected_subtitle.begin < stop < expected_subtitle.end]
     # `find_expected_cues` adds an out-cue at the end of the part, even if the first subtitle of the
     # next part follows without a pause.
-    own = whole.copy_between(find_expected_cues(inside) or whole.cues[first:end], low, high)
+    own = full_base.copy_between(find_expected_cues(inside) or full_base.cues[first:end], low, high)
     best, early = choose_clock(own, own.fit(track.start), lateness)
-    return EstimatedPart(min((shown.begin for shown in inside), default=begin),
-                         max((shown.end for shown in inside), default=stop), best,
-                         select_other_origins(own, track.start, best.start), own, track.base,
+    return EstimatedPart(min((expected_subtitle.begin for expected_subtitle in inside), default=
+                             begin),
+                         max((expected_subtitle.end for expected_subtitle in inside), default=stop),
+                         best, select_other_origins(own, track.start, best.start), own, track.base,
                          overlapping, early)
 
 
@@ -240,8 +244,8 @@ def split_at_breaks(row: Sequence[Stretch]) -> list[Stretch]:
     for previous, stretch in zip(row, row[1:]):
         track = stretch.track
         gap_frames = track.start - parts[-1].track.start
-        is_break = max(gap_frames, track.start - previous.track.start) <= -LEAST_BREAK
-        if track.base != parts[-1].track.base or is_break or gap_frames >= LEAST_GAP:
+        is_break = max(gap_frames, track.start - previous.track.start) <= -MIN_BREAK_FRAMES
+        if track.base != parts[-1].track.base or is_break or gap_frames >= MIN_GAP_FRAMES:
             parts.append(stretch)
         else:
             parts[-1] = parts[-1]._replace(end=stretch.end)
@@ -264,7 +268,7 @@ def find_airings(bases: Sequence[TimeBase], has_clock: bool = False) -> list[Air
     uses_times = not has_clock and not have_equal_steps([cue.frame for cue in bases[0].cues])
     if len(row) > 1:  # the sequence of stretches may end in another airing
         whole, *others = sorted((Stretch(track, 0, row[-1].end) for track in dict.fromkeys(
-            stretch.track for stretch in row)), key=lambda one: -sum(one.track.points))
+            stretch.track for stretch in row)), key=lambda item: -sum(item.track.points))
         if places := find_text_places([whole]):
             first, last = make_airing(places)
             sides = (side for found in (find_text_places([other]) for other in others) for side in (
@@ -279,12 +283,13 @@ def find_airings(bases: Sequence[TimeBase], has_clock: bool = False) -> list[Air
     while windows:
         low, high = windows.pop()
         other_bases = limit_bases(bases, low, high)
-        again = find_text_places(find_stretches(other_bases)) \
+        repeat_places = find_text_places(find_stretches(other_bases)) \
             if any(base.changes for base in other_bases) else {}
-        if not is_repeated_airing(bases, first_places, again):
-            again = find_changes_by_time(other_bases, len(first_places)) if uses_times else {}
-        if again:
-            airings.append(run := make_airing(again))
+        if not is_repeated_airing(bases, first_places, repeat_places):
+            repeat_places = find_changes_by_time(other_bases,
+                                                 len(first_places)) if uses_times else {}
+        if repeat_places:
+            airings.append(run := make_airing(repeat_places))
             windows += [(low, run.first), (run.last, high)]
     return sorted(airings)
 
@@ -301,24 +306,25 @@ def make_airing(places: Mapping[int, Place]) -> Airing:
 
 
 def is_repeated_airing(bases: Sequence[TimeBase], first: dict[int, Place],
-                       again: dict[int, Place]) -> bool:
+                       repeat_places: dict[int, Place]) -> bool:
     """Return whether the cues that match outside the first airing are a repeat of the programme. At
     least half of all cues and half of the cues with a text must match. Alternatively, a quarter of
     the cues with a text must match, and extend over half of the programme. In both cases, half of
     these texts must also match in the first airing."""
     cues = bases[0].cues
-    texts = [at for at in again if cues[at].letters]
+    texts = [at for at in repeat_places if cues[at].letters]
     count = sum(1 for cue in cues if cue.letters)
     if not texts or sum(at in first for at in texts) * 2 < len(texts):
         return False
-    is_half = len(again) * 2 >= len(cues) and len(texts) * 2 >= count
-    return is_half or len(texts) * 4 >= count and (max(texts) - min(texts)) * 2 >= len(cues)
+    is_half_repeated = len(repeat_places) * 2 >= len(cues) and len(texts) * 2 >= count
+    return is_half_repeated or len(texts) * 4 >= count \
+        and (max(texts) - min(texts)) * 2 >= len(cues)
 
 
 def have_equal_steps(frames: Sequence[int]) -> bool:
     """Return whether many pairs of frames are the same distance apart, as with regular cues: at
-    least half as many pairs as frames. Compare only the first `MAX_COMPARED` frames."""
-    frames = frames[:MAX_COMPARED]
+    least half as many pairs as frames. Compare only the first `MAX_COMPARED_CUES` frames."""
+    frames = frames[:MAX_COMPARED_CUES]
     counts = collections.Counter(second - first for first, second in itertools.combinations(
         frames, 2))
     return max(counts.values(), default=0) * 2 >= len(frames)
@@ -329,7 +335,7 @@ def find_changes_by_time(bases: Sequence[TimeBase], count: int) -> dict[int, Pla
     the cue. Return an empty dictionary if these are fewer than 90 % of `count`, the number of
     matching cues in the first airing, or fewer than 75 % of all cues."""
     for number, base in enumerate(bases):
-        if not base.changes or count < LEAST_CUES * (2 if base.within else 1):
+        if not base.changes or count < MIN_AIRING_CUES * (2 if base.within else 1):
             continue
         for start, _ in base.votes().most_common(TRIED_TIMES):
             changed = find_changes(base, number, start)

@@ -11,13 +11,13 @@ import sys
 import traceback
 from typing import Any, Callable, IO, Mapping, NamedTuple, NoReturn, Sequence, TextIO
 
-from .times import CLOCK, frame_of
+from .times import CLOCK, parse_frame
 
 
 # Control characters, marks of the writing direction, line separators, surrogates and
 # non-characters, some of which XML does not allow.
-HIDDEN = re.compile("[\x00-\x1f\x7f-\x9f\u061c\u200e\u200f\u2028-\u202e\u2066-\u2069"
-                    "\ud800-\udfff\ufffe\uffff]")
+CONTROL_CHARACTERS = re.compile("[\x00-\x1f\x7f-\x9f\u061c\u200e\u200f\u2028-\u202e\u2066-\u2069"
+                                "\ud800-\udfff\ufffe\uffff]")
 INSTALLED = "subttx-"  # prefix of the names of installed tools
 MAX_EVERY = 2_160_000  # maximum number of frames for --every and --pace: one day
 MAX_WITHIN = 50  # maximum number of frames for --within
@@ -111,7 +111,7 @@ def parse_page(text: str) -> tuple[int, int]:
 
 def parse_time(text: str) -> int:
     """Parse a time of day HH:MM:SS:FF. Return its frame."""
-    frame = frame_of(text)
+    frame = parse_frame(text)
     if frame is None:
         raise argparse.ArgumentTypeError(
             f"{text} is not a time of day: give HH:MM:SS:FF, 25 frames a second")
@@ -166,7 +166,7 @@ def parse_break_count(text: str) -> int:
 
 def parse_start(text: str) -> str:
     """Parse the time code of the first picture, or `tcp`. Return the text unchanged."""
-    if text != TCP_WORD and frame_of(text) is None:
+    if text != TCP_WORD and parse_frame(text) is None:
         raise argparse.ArgumentTypeError(
             f"{text} is not a time code: give HH:MM:SS:FF, 25 frames a second, or {TCP_WORD}")
     return text
@@ -188,7 +188,7 @@ def format_pid(pid: int) -> str:
     return f"PID 0x{pid:X}"
 
 
-def stream_options(pid: int | None, packet_size: int = PACKET_SIZE) -> list[str]:
+def make_stream_options(pid: int | None, packet_size: int = PACKET_SIZE) -> list[str]:
     """Return the options that select a PID of a transport stream. A PES file needs none."""
     if pid is None:
         return []
@@ -263,9 +263,9 @@ def add_verbose(parser: ToolParser) -> None:
                         help="print a line for each, also if it passed")
 
 
-def counted(count: int, thing: str) -> str:
+def counted(count: int, noun: str) -> str:
     """Return a number with its noun, such as `1 fault` or `2 faults`."""
-    return f"{count} {thing}" if count == 1 else f"{count} {thing}s"
+    return f"{count} {noun}" if count == 1 else f"{count} {noun}s"
 
 
 def was(count: int) -> str:
@@ -281,7 +281,7 @@ def format_frame_range(least: int, most: int) -> str:
 def escape_hidden(text: str) -> str:
     """Escape, in the form \\x1b, characters that are not safe in terminals and text files: control
     characters, characters that change the writing direction, and bytes that are not UTF-8."""
-    return HIDDEN.sub(lambda found: escape_character(found[0]), text)
+    return CONTROL_CHARACTERS.sub(lambda found: escape_character(found[0]), text)
 
 
 def escape_hidden_lines(text: str) -> str:
@@ -289,16 +289,16 @@ def escape_hidden_lines(text: str) -> str:
     return "\n".join(map(escape_hidden, text.split("\n")))
 
 
-def escape_character(letter: str) -> str:
+def escape_character(character: str) -> str:
     """Return the escape sequence of a character, or of a byte that is not UTF-8."""
-    code = ord(letter)
+    code = ord(character)
     is_byte = 0xDC80 <= code <= 0xDCFF
     return f"\\x{code & 0xFF:02x}" if is_byte or code < 0x80 else f"\\u{code:04x}"
 
 
 def quote_argument(word: str) -> str:
     """Quote an argument for a shell. If it has hidden characters, use the syntax of bash."""
-    if not HIDDEN.search(word):
+    if not CONTROL_CHARACTERS.search(word):
         return shlex.quote(word)
     return "$'" + escape_hidden(word.replace("\\", "\\\\").replace("'", "\\'")) + "'"
 
@@ -361,8 +361,9 @@ def format_error(reason: BaseException) -> str:
     if isinstance(reason, MemoryError):
         return "out of memory"
     if isinstance(reason, OSError):
-        where = "the output" if reason.filename is None else reason.filename or "an empty name"
-        return f"{where}: {reason.strerror or ' '.join(str(reason).split())}"
+        output_name = "the output" if reason.filename is None else reason.filename or "an empty " \
+            "name"
+        return f"{output_name}: {reason.strerror or ' '.join(str(reason).split())}"
     text = " ".join(str(reason).split())
     if isinstance(reason, Stop):
         return text

@@ -19,14 +19,14 @@ from .command_line import Stop
 
 STANDARD = "-"  # standard input or output, as the name of a file
 READ_SIZE = 1 << 20  # maximum number of bytes to read at once
-SPECIAL = ("-", "=", "+", "@")  # first characters of options and of spreadsheet formulas
+FORMULA_PREFIXES = ("-", "=", "+", "@")  # first characters of options and of spreadsheet formulas
 FILE_KINDS = ((stat.S_ISDIR, "a folder"), (stat.S_ISFIFO, "a pipe"), (stat.S_ISCHR, "a device"),
               (stat.S_ISBLK, "a device"), (stat.S_ISLNK, "a link"), (stat.S_ISSOCK, "a socket"))
 
 KINDS_BY_ERROR = {errno.ENXIO: "a socket", errno.ELOOP: "a link", errno.EISDIR: "a folder"}
 
 
-class Damaged(Exception):
+class DamagedFile(Exception):
     """Raised if damaged data can't be read further; the message says where and why."""
 
 
@@ -46,7 +46,7 @@ class Input:
     def open(self) -> BinaryIO:
         """Open the file for reading, without a buffer."""
         is_standard = self.name == STANDARD
-        with name_errors(self.name):
+        with add_name_to_errors(self.name):
             return open(0 if is_standard else self.name, "rb", buffering=0,
                         closefd=not is_standard)
 
@@ -59,7 +59,7 @@ class Input:
     def read(self, size: int = READ_SIZE, /) -> bytes:
         """Return the available bytes without waiting until `size` bytes have arrived. Return at
         least one byte, except at the end of the file."""
-        with name_errors(self.name):
+        with add_name_to_errors(self.name):
             data: bytes | None = self.file.read(size)
             while data is None:  # nothing has arrived yet
                 if not self.is_stream:
@@ -70,7 +70,7 @@ class Input:
 
 
 @contextlib.contextmanager
-def name_errors(name: str) -> Iterator[None]:
+def add_name_to_errors(name: str) -> Iterator[None]:
     """Set the file name of an `OSError` to the name that the user typed."""
     try:
         yield
@@ -81,7 +81,7 @@ def name_errors(name: str) -> Iterator[None]:
 
 def describe_kind(mode: int) -> str | None:
     """Return a description such as `a folder` for a file mode. Return `None` for a regular file."""
-    return next((words for is_one, words in FILE_KINDS if is_one(mode)), None)
+    return next((words for is_kind, words in FILE_KINDS if is_kind(mode)), None)
 
 
 class File(Input):
@@ -104,7 +104,7 @@ class File(Input):
         if self.name == STANDARD:
             return super().open()
         try:
-            with name_errors(self.name):
+            with add_name_to_errors(self.name):
                 return open(self.name, "rb", buffering=0, opener=lambda name, _: os.open(
                     name, self.flags))
         except OSError as error:
@@ -155,25 +155,25 @@ def read_chunks(name: str, may_be_pipe: bool = False) -> Iterator[bytes]:
 Stamp = Tuple[int, ...]
 
 
-def make_stamp(about: os.stat_result) -> Stamp:
+def make_stamp(info: os.stat_result) -> Stamp:
     """Return a stamp of a file, which changes if the file is written to or replaced."""
-    return about.st_dev, about.st_ino, about.st_size, about.st_mtime_ns, about.st_ctime_ns
+    return info.st_dev, info.st_ino, info.st_size, info.st_mtime_ns, info.st_ctime_ns
 
 
 def read_stamp(path: str) -> Stamp | None:
     """Return the stamp of a regular file. If the path is a link, the stamp covers the link and its
     target. Return `None` for any other kind of file."""
     with contextlib.suppress(OSError, ValueError):
-        link, about = os.lstat(path), os.stat(path)
-        if path != STANDARD and stat.S_ISREG(about.st_mode):
-            return make_stamp(link) + make_stamp(about)
+        link, info = os.lstat(path), os.stat(path)
+        if path != STANDARD and stat.S_ISREG(info.st_mode):
+            return make_stamp(link) + make_stamp(info)
     return None
 
 
 def make_safe_name(name: str) -> str:
     """Return a file name, with `./` in front if it could be mistaken for an option or a formula.
     """
-    return os.path.join(".", name) if name.startswith(SPECIAL) else name
+    return os.path.join(".", name) if name.startswith(FORMULA_PREFIXES) else name
 
 
 def is_utf_8(name: str) -> bool:
@@ -206,13 +206,13 @@ class Inputs:
     @functools.cached_property
     def known(self) -> dict[tuple[int, int], str]:
         """Return the names of the input files by device and inode."""
-        return {one: name for name in self.names for one in find_identities(name, True)}
+        return {identity: name for name in self.names for identity in find_identities(name, True)}
 
     def refuse(self, path: str, is_followed: bool) -> None:
         """Raise `OutputIsInput` if writing to `path` would change an input file or remove its name.
         Examine a matching input file again: if it was removed, another file may have its inode."""
-        for one in find_identities(path, is_followed):
-            if one in self.known and one in find_identities(self.known[one], True):
+        for identity in find_identities(path, is_followed):
+            if identity in self.known and identity in find_identities(self.known[identity], True):
                 raise OutputIsInput(f"{path} is also an input: give another name")
 
 
@@ -221,9 +221,9 @@ def find_identities(name: str, is_followed: bool) -> set[tuple[int, int]]:
     found = set()
     for follow in (False, True)[:1 + is_followed]:
         with contextlib.suppress(OSError, ValueError):
-            about = os.fstat(0) if name == STANDARD else os.stat(name, follow_symlinks=follow)
-            if name != STANDARD or stat.S_ISREG(about.st_mode):
-                found.add((about.st_dev, about.st_ino))
+            info = os.fstat(0) if name == STANDARD else os.stat(name, follow_symlinks=follow)
+            if name != STANDARD or stat.S_ISREG(info.st_mode):
+                found.add((info.st_dev, info.st_ino))
     return found
 
 
@@ -247,7 +247,7 @@ def open_output(path: str) -> Iterator[BinaryIO]:
         with open_standard_output() as file:
             yield file
     elif not is_replaced(path):
-        with name_errors(path):
+        with add_name_to_errors(path):
             device = open(path, "wb")
         with close_after_writing(device, path):
             yield device
@@ -282,14 +282,14 @@ def open_replacement(path: str, target: str, is_stored: bool = False) -> Iterato
     `path`. If `is_stored`, ensure that the file survives a power failure."""
     name = make_temporary_name(os.path.dirname(target), TEMPORARY_PREFIX)
     try:
-        with name_errors(path):
+        with add_name_to_errors(path):
             file = open(name, "xb")  # x: fail if there is a link with that name
         with close_after_writing(file, path):
             yield file
             if is_stored:
                 file.flush()
                 os.fsync(file.fileno())
-        with name_errors(path):
+        with add_name_to_errors(path):
             os.replace(name, target)
         if is_stored:
             sync_folder(os.path.dirname(target))
@@ -349,7 +349,7 @@ class SummedFile(NamedTuple):
     sha256: str
 
 
-class BackgroundSum:
+class BackgroundChecksum:
     """A thread that computes the SHA-256 of a file."""
 
     def __init__(self, name: str) -> None:
@@ -379,9 +379,9 @@ class BackgroundSum:
 
 def sum_file(path: str, name: str) -> SummedFile:
     """Return the size and SHA-256 of the file at `path`, with the name that the user typed."""
-    digest, room, size = hashlib.sha256(), memoryview(bytearray(BUFFER_SIZE)), 0
+    digest, buffer, size = hashlib.sha256(), memoryview(bytearray(BUFFER_SIZE)), 0
     with File(path) as file:
-        while count := file.file.readinto(room):  # type: ignore[attr-defined]
-            digest.update(room[:count])
+        while count := file.file.readinto(buffer):  # type: ignore[attr-defined]
+            digest.update(buffer[:count])
             size += count
     return SummedFile(name, size, digest.hexdigest())

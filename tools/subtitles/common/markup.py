@@ -33,11 +33,11 @@ class Markup:
     def __mul__(self, times: int) -> Markup:
         return Markup(self.source * times)
 
-    def capital(self) -> Markup:
+    def capitalize_first(self) -> Markup:
         """Return this markup with its first letter in upper case."""
         return Markup(self.source[:1].upper() + self.source[1:])
 
-    def anchored(self, prefix: str) -> Markup:
+    def prefix_anchors(self, prefix: str) -> Markup:
         """Add a prefix to each anchor and each link to an anchor, so that anchors of several parts
         of a page differ. Quotes in text are escaped, so text never matches `ANCHOR`."""
         return Markup(ANCHOR.sub(lambda found: found[0] + prefix, self.source))
@@ -70,7 +70,7 @@ def format_value(value: Value) -> str | int | float:
 
 def join_markup(parts: Iterable[Value], between: Value = "") -> Markup:
     """Join values with the separator `between`. Text is escaped."""
-    return Markup(str(format_value(between)).join(str(format_value(one)) for one in parts))
+    return Markup(str(format_value(between)).join(str(format_value(part)) for part in parts))
 
 
 def read_style(path: str) -> Markup:

@@ -11,7 +11,7 @@ import sys
 from typing import NamedTuple
 
 from .command_line import INSTALLED, Stop, version
-from .files import Stamp, sum_file, name_errors, make_stamp
+from .files import Stamp, sum_file, add_name_to_errors, make_stamp
 
 
 TOP = os.path.realpath(os.path.join(os.path.dirname(__file__), "..", "..", ".."))
@@ -19,18 +19,18 @@ TOP = os.path.realpath(os.path.join(os.path.dirname(__file__), "..", "..", "..")
 
 def sources() -> str:
     """Return the checksum line of the program's sources from `tools/sources`."""
-    done = subprocess.run([os.path.join(TOP, "tools", "sources")], stdin=subprocess.DEVNULL,
-                          stdout=subprocess.PIPE, check=False)
-    if done.returncode:
+    process = subprocess.run([os.path.join(TOP, "tools", "sources")], stdin=subprocess.DEVNULL,
+                             stdout=subprocess.PIPE, check=False)
+    if process.returncode:
         raise Stop("tools/sources can't read the sources")
-    return done.stdout.decode().strip()
+    return process.stdout.decode().strip()
 
 
 def find_program(top: str) -> tuple[str, str]:
     """Run `tools/program` in a repository. Return the path and the error message that it prints."""
-    done = subprocess.run([os.path.join(top, "tools", "program")], stdin=subprocess.DEVNULL,
-                          stdout=subprocess.PIPE, stderr=subprocess.PIPE, check=False)
-    return done.stdout.decode().rstrip("\n"), done.stderr.decode().strip()
+    process = subprocess.run([os.path.join(top, "tools", "program")], stdin=subprocess.DEVNULL,
+                             stdout=subprocess.PIPE, stderr=subprocess.PIPE, check=False)
+    return process.stdout.decode().rstrip("\n"), process.stderr.decode().strip()
 
 
 def find_built_program(path: str | None = None) -> str:
@@ -39,9 +39,9 @@ def find_built_program(path: str | None = None) -> str:
         if os.path.isdir(path) or not os.access(path, os.X_OK):
             raise Stop(f"{path} is not an executable program")
         return resolve_script(path)
-    program, why = find_program(TOP)
+    program, reason = find_program(TOP)
     if not program:
-        raise Stop(why or "no program is built for the sources: run ./subttx, or the gate")
+        raise Stop(reason or "no program is built for the sources: run ./subttx, or the gate")
     return program
 
 
@@ -77,24 +77,25 @@ class ProgramInfo(NamedTuple):
 
 def describe_program(path: str) -> ProgramInfo:
     """Return the version, the SHA-256 and the proof of the program at a path."""
-    real = os.path.realpath(resolve_script(path))
-    with name_errors(path):
-        about = os.stat(real)
-    sha256 = compute_sum(real, make_stamp(about))
-    return ProgramInfo(version(), sha256, find_proved_line(real, sha256))
+    real_path = os.path.realpath(resolve_script(path))
+    with add_name_to_errors(path):
+        info = os.stat(real_path)
+    sha256 = compute_sum(real_path, make_stamp(info))
+    return ProgramInfo(version(), sha256, find_proved_line(real_path, sha256))
 
 
 @functools.lru_cache(maxsize=None)
-def compute_sum(path: str, like: Stamp) -> str:
-    """Return the SHA-256 of a file. Compute it again only if the stamp `like` has changed."""
+def compute_sum(path: str, expected_stamp: Stamp) -> str:
+    """Return the SHA-256 of a file. Compute it again only if the stamp `expected_stamp` has
+    changed."""
     return sum_file(path, path).sha256
 
 
 def find_proved_line(program: str, sha256: str) -> str | None:
     """Return the prover's line about a program from the file PROVED that contains the program's
     SHA-256. Return `None` if there is no such file."""
-    beside = os.path.dirname(program)
-    for folder in (beside, os.path.dirname(beside), os.path.join(TOP, "dist")):
+    program_folder = os.path.dirname(program)
+    for folder in (program_folder, os.path.dirname(program_folder), os.path.join(TOP, "dist")):
         lines = (read(os.path.join(folder, PROVED)) or "").splitlines()
         versions = [line for line in map(PROVED_LINE.fullmatch, lines) if line]
         if f"program {sha256}" in lines and versions:
@@ -104,8 +105,8 @@ def find_proved_line(program: str, sha256: str) -> str | None:
 
 TOOLS = ["qc", "air"]
 PAGES = ["subttx.1", "subttx-qc.1", "subttx-air.1"]
-READ = ["README.md", os.path.join("docs", "MANUAL.md"),
-        os.path.join("docs", "verdict.schema.json"), "VERSION"]
+INSTALLED_DOCUMENTS = ["README.md", os.path.join("docs", "MANUAL.md"),
+                       os.path.join("docs", "verdict.schema.json"), "VERSION"]
 COMPLETION = os.path.join("tools", "completion.bash")
 HOME = os.path.join("lib", "subttx")
 MAN = os.path.join("share", "man", "man1")
@@ -164,13 +165,14 @@ def compile_tools(prefix: str) -> None:
 
 def list_documents() -> list[str]:
     """Return README.md, the manual, and the files that they link to, except those in dist/."""
-    names = list(READ)
+    names = list(INSTALLED_DOCUMENTS)
     for name in names:
         text = (read(os.path.join(TOP, name)) or "") if name.endswith(".md") else ""
         for _, target in LINK.findall(text):
             path = os.path.normpath(os.path.join(os.path.dirname(name), target))
-            is_one = os.path.isfile(os.path.join(TOP, path)) and path.split(os.sep)[0] != "dist"
-            names += [path] if is_one and path not in names else []
+            is_included = os.path.isfile(os.path.join(TOP,
+                                                      path)) and path.split(os.sep)[0] != "dist"
+            names += [path] if is_included and path not in names else []
     return names
 
 
@@ -191,11 +193,11 @@ def copy_documents(home: str) -> None:
 
 def remove_dead_links(text: str, folder: str) -> str:
     """Replace each link to a missing file in a document with the text of the link."""
-    def kept(link: re.Match[str]) -> str:
-        is_there = ":" in link[2] or os.path.exists(os.path.join(folder, link[2]))
-        return link[0] if is_there else link[1]
+    def keep_live_link(link: re.Match[str]) -> str:
+        has_target = ":" in link[2] or os.path.exists(os.path.join(folder, link[2]))
+        return link[0] if has_target else link[1]
 
-    return LINK.sub(kept, text)
+    return LINK.sub(keep_live_link, text)
 
 
 def copy_completion(prefix: str) -> None:
@@ -231,13 +233,13 @@ def list_shared_folders(prefix: str) -> list[str]:
 
 def install_and_note(program: str, prefix: str) -> list[str]:
     """Install and compile everything, and record the new folders for `remove`."""
-    made = [os.path.relpath(path, prefix) for path in list_shared_folders(prefix)
-            if not os.path.isdir(path)]
+    installed_paths = [os.path.relpath(path, prefix) for path in list_shared_folders(prefix)
+                       if not os.path.isdir(path)]
     paths = install(program, prefix)
     compile_tools(prefix)
     note = os.path.join(prefix, HOME, FOLDERS)
     known = (read(note) or "").splitlines()
-    write(note, "".join(f"{name}\n" for name in dict.fromkeys([*known, *made])))
+    write(note, "".join(f"{name}\n" for name in dict.fromkeys([*known, *installed_paths])))
     return paths
 
 
@@ -249,19 +251,20 @@ def remove(prefix: str) -> list[str]:
         raise Stop(f"{prefix} has no subttx: there is no {os.path.join(home, 'tools', 'qc')}")
     if os.path.islink(home):
         raise Stop(f"{home} is a link that no installation made: remove its target, then the link")
-    made = {os.path.normpath(os.path.join(prefix, name))
-            for name in (read(os.path.join(home, FOLDERS)) or "").splitlines()}
+    installed_paths = {os.path.normpath(os.path.join(prefix, name))
+                       for name in (read(os.path.join(home, FOLDERS)) or "").splitlines()}
     paths = [os.path.join(prefix, "bin", "subttx"), *find_installed_links(prefix),
              *(os.path.join(prefix, MAN, page) for page in PAGES),
              os.path.join(prefix, COMPLETIONS, "subttx")]
-    removed = [path for path in paths if os.path.lexists(path)]
-    for path in removed:
+    removed_paths = [path for path in paths if os.path.lexists(path)]
+    for path in removed_paths:
         os.remove(path)
     shutil.rmtree(home)
     for path in list_shared_folders(prefix):
-        if os.path.normpath(path) in made and os.path.isdir(path) and not os.listdir(path):
+        if os.path.normpath(path) in installed_paths and os.path.isdir(path) \
+                and not os.listdir(path):
             os.rmdir(path)
-    return [*removed, home]
+    return [*removed_paths, home]
 
 
 def find_installed_links(prefix: str) -> list[str]:

@@ -30,7 +30,7 @@ class Shape:
     def schema(self) -> Schema:
         raise NotImplementedError
 
-    def inner_shapes(self) -> Iterator[Shape]:
+    def list_inner_shapes(self) -> Iterator[Shape]:
         """Yield the types that this type contains."""
         return iter(())
 
@@ -51,9 +51,9 @@ class Text(Shape):
         return value[:self.most - 3] + "..." if is_cut else value
 
     def find_misfit(self, value: object) -> str | None:
-        fits = isinstance(value, str) and self.least <= len(value) <= self.most and (
+        is_valid = isinstance(value, str) and self.least <= len(value) <= self.most and (
             not self.pattern or self.pattern.fullmatch(value))
-        return None if fits else ""
+        return None if is_valid else ""
 
     def schema(self) -> Schema:
         pattern = {"pattern": f"^{self.pattern.pattern}$"} if self.pattern else {}
@@ -96,7 +96,8 @@ class OneOf(Shape):
         self.values = values
 
     def find_misfit(self, value: object) -> str | None:
-        return None if any(type(value) is type(one) and value == one for one in self.values) else ""
+        return None if any(type(value) is type(item) and value == item
+                           for item in self.values) else ""
 
     def schema(self) -> Schema:
         return {"const": self.values[0]} if len(self.values) == 1 else {"enum": [*self.values]}
@@ -127,18 +128,18 @@ class Maybe(Shape):
     def schema(self) -> Schema:
         return {"anyOf": [self.shape.make_reference(), {"type": "null"}]}
 
-    def inner_shapes(self) -> Iterator[Shape]:
+    def list_inner_shapes(self) -> Iterator[Shape]:
         yield self.shape
 
 
-class Listed(Shape):
+class ListOf(Shape):
     """A list of values of the same type. Values after the first `most` are not written."""
 
     def __init__(self, shape: Shape, most: int, least: int = 0) -> None:
         self.shape, self.most, self.least = shape, most, least
 
     def to_json(self, value: Any) -> Any:
-        return [self.shape.to_json(one) for one in itertools.islice(value, self.most)]
+        return [self.shape.to_json(item) for item in itertools.islice(value, self.most)]
 
     def find_misfit(self, value: object) -> str | None:
         if not isinstance(value, list) or not self.least <= len(value) <= self.most:
@@ -154,7 +155,7 @@ class Listed(Shape):
         return {"type": "array", "items": self.shape.make_reference(), **least,
                 "maxItems": self.most}
 
-    def inner_shapes(self) -> Iterator[Shape]:
+    def list_inner_shapes(self) -> Iterator[Shape]:
         yield self.shape
 
 
@@ -190,19 +191,19 @@ class Record(Shape):
     def __init__(self, name: str, meaning: str, *members: Member,
                  rules: Sequence[Rules] = ()) -> None:
         self.name, self.meaning, self.members, self.rules = name, meaning, members, rules
-        self.shapes = {one.name: one.shape for one in members}
-        self.needed = {one.name for one in members if one.is_required}
+        self.shapes = {member.name: member.shape for member in members}
+        self.needed = {member.name for member in members if member.is_required}
 
     def to_json(self, value: Any) -> Any:
-        return {one.name: one.to_json(value) for one in self.members
-                if one.is_required or one.name in value}
+        return {member.name: member.to_json(value) for member in self.members
+                if member.is_required or member.name in value}
 
     def find_misfit(self, value: object) -> str | None:
         if not isinstance(value, dict):
             return ""
-        strange = (value.keys() - self.shapes.keys()) | (self.needed - value.keys())
-        if strange:
-            return f".{min(strange)}"
+        wrong_keys = (value.keys() - self.shapes.keys()) | (self.needed - value.keys())
+        if wrong_keys:
+            return f".{min(wrong_keys)}"
         for name, member in value.items():
             place = self.shapes[name].find_misfit(member)
             if place is not None:
@@ -215,11 +216,11 @@ class Record(Shape):
         rules = {"allOf": [rule.schema() for rule in self.rules]} if self.rules else {}
         meaning = {"description": self.meaning} if self.meaning else {}
         return {**meaning, "type": "object",
-                "required": [one.name for one in self.members if one.is_required],
+                "required": [member.name for member in self.members if member.is_required],
                 "additionalProperties": False,
-                "properties": {one.name: one.schema() for one in self.members}, **rules}
+                "properties": {member.name: member.schema() for member in self.members}, **rules}
 
-    def inner_shapes(self) -> Iterator[Shape]:
+    def list_inner_shapes(self) -> Iterator[Shape]:
         return iter(self.shapes.values())
 
 
@@ -230,9 +231,9 @@ class Rules(NamedTuple):
 
     def find_misfit(self, value: Any) -> str | None:
         """Return `None` if any of the rows fits, else the path of the first member in `rows`."""
-        is_one = any(all(shape.find_misfit(value[name]) is None for name, shape in row.items())
-                     for row in self.rows)
-        return None if is_one else f".{next(iter(self.rows[0]))}"
+        is_valid = any(all(shape.find_misfit(value[name]) is None for name, shape in row.items())
+                       for row in self.rows)
+        return None if is_valid else f".{next(iter(self.rows[0]))}"
 
     def schema(self) -> Schema:
         """Return the JSON schema of the alternatives."""
@@ -240,7 +241,7 @@ class Rules(NamedTuple):
                           for row in self.rows]}
 
 
-def name_shape(name: str, shape: Shape, meaning: str = "") -> Shape:
+def make_named_shape(name: str, shape: Shape, meaning: str = "") -> Shape:
     """Give a type a name, under which it is defined once in the schema."""
     shape.name, shape.meaning = name, meaning
     return shape
@@ -257,15 +258,15 @@ def make_definitions(shapes: Sequence[Shape]) -> Schema:
         if shape.name:
             meaning = {"description": shape.meaning} if shape.meaning else {}
             known[shape.name] = {**meaning, **shape.schema()}
-        waiting += shape.inner_shapes()
+        waiting += shape.list_inner_shapes()
     return known
 
 
 Members = dict[str, Any]  # members of a JSON object, by name
 MAX_NUMBER = (1 << 53) - 1  # largest integer that every JSON parser reads exactly
 
-TIME = name_shape("time", Text(r"[0-9]{2}:[0-9]{2}:[0-9]{2}:[0-9]{2}"))
-COUNT = name_shape("count", Integer(0, MAX_NUMBER))
-PTS = name_shape("pts", Integer(0, CLOCK - 1))
-PID = name_shape("pid", Integer(0, NO_PID - 1))
-CHECKSUM = name_shape("sum", Text(r"[0-9a-f]{64}"))
+TIME = make_named_shape("time", Text(r"[0-9]{2}:[0-9]{2}:[0-9]{2}:[0-9]{2}"))
+COUNT = make_named_shape("count", Integer(0, MAX_NUMBER))
+PTS = make_named_shape("pts", Integer(0, CLOCK - 1))
+PID = make_named_shape("pid", Integer(0, NO_PID - 1))
+CHECKSUM = make_named_shape("sum", Text(r"[0-9a-f]{64}"))

@@ -21,32 +21,32 @@ NO_FRAME = -1  # result for a PTS that belongs to no frame; less than every fram
 EARLY_TICKS = TICKS // 4  # maximum ticks by which a PTS may be early, with --within 1 or more
 
 
-class Between(NamedTuple):
+class FrameRange(NamedTuple):
     """The frames in `range(begin, end)`. A subtitle belongs to the frame of its TCI."""
 
     begin: int = 0
     end: int = FRAMES_OF_A_DAY
 
-    def has(self, frame: int) -> bool:
+    def includes(self, frame: int) -> bool:
         return self.begin <= frame < self.end
 
     def words(self) -> list[str]:
         """Return the options --from and --to for this range. The whole day needs no options."""
-        return [*(["--from", time_of(self.begin)] if self.begin else []),
-                *(["--to", time_of(self.end)] if self.end < FRAMES_OF_A_DAY else [])]
+        return [*(["--from", format_frame(self.begin)] if self.begin else []),
+                *(["--to", format_frame(self.end)] if self.end < FRAMES_OF_A_DAY else [])]
 
 
-ALL_DAY = Between()
+ALL_DAY = FrameRange()
 
 
-def frame_of(time: str) -> int | None:
+def parse_frame(time: str) -> int | None:
     """Return the frame of the day for a time HH:MM:SS:FF, or `None` if it is not valid."""
     if not re.fullmatch(r"\d\d:\d\d:\d\d:\d\d", time, re.ASCII):
         return None
-    return frame_of_code(map(int, time.split(":")))
+    return decode_frame(map(int, time.split(":")))
 
 
-def frame_of_code(code: Iterable[int]) -> int | None:
+def decode_frame(code: Iterable[int]) -> int | None:
     """Return the frame of the day for hours, minutes, seconds and frames. Return `None` if a number
     is too large."""
     hours, minutes, seconds, frames = code
@@ -55,18 +55,18 @@ def frame_of_code(code: Iterable[int]) -> int | None:
     return ((hours * 60 + minutes) * 60 + seconds) * FRAMES_A_SECOND + frames
 
 
-def time_of_code(code: bytes) -> str:
+def decode_time(code: bytes) -> str:
     """Format four bytes of a TTI block as HH:MM:SS:FF, even if that is not a valid time of day."""
     return ":".join(f"{part:02}" for part in code)
 
 
-def time_of(frame: int) -> str:
+def format_frame(frame: int) -> str:
     """Return the time HH:MM:SS:FF of a frame. The end of the day is 24:00:00:00."""
     seconds, frames = divmod(frame, FRAMES_A_SECOND)
     return f"{seconds // 3600:02}:{seconds // 60 % 60:02}:{seconds % 60:02}:{frames:02}"
 
 
-def duration_text(frames: int) -> str:
+def describe_duration(frames: int) -> str:
     """Return a duration in frames as text, such as `10 h 15 min`."""
     seconds, rest = divmod(frames, FRAMES_A_SECOND)
     parts = [(seconds // 3600, "h"), (seconds // 60 % 60, "min"), (seconds % 60, "s"),
@@ -79,12 +79,12 @@ def wrap_pts(ticks: int) -> int:
     return ticks % CLOCK
 
 
-def ticks_between(first: int, second: int) -> int:
+def subtract_pts(first: int, second: int) -> int:
     """Return the ticks from the first PTS to the second (negative if the second is earlier)."""
     return wrap_pts(second - first + CLOCK // 2) - CLOCK // 2
 
 
-def ticks_within(first: int, length: int, pts: int) -> int:
+def subtract_pts_within(first: int, length: int, pts: int) -> int:
     """Return the ticks from the PTS `first` to another PTS, or a negative number if that is
     earlier. A PTS up to `length` ticks after `first` is later, even if that is more than half of
     the clock's range."""
@@ -92,10 +92,10 @@ def ticks_within(first: int, length: int, pts: int) -> int:
     return wrap_pts(pts - first + before) - before
 
 
-def ticks_after(origin: int, pts: int) -> int:
+def subtract_origin(origin: int, pts: int) -> int:
     """Return the ticks from an origin to a PTS of the following 24 hours. The result is negative if
     the PTS is up to an hour before the origin."""
-    return ticks_within(origin, TICKS * FRAMES_OF_A_DAY, pts)
+    return subtract_pts_within(origin, TICKS * FRAMES_OF_A_DAY, pts)
 
 
 def pts_of(frame: int, origin: int) -> int:
@@ -103,25 +103,25 @@ def pts_of(frame: int, origin: int) -> int:
     return wrap_pts(origin + TICKS * frame)
 
 
-def frame_in(pts: int, origin: int, within: int = 0) -> int:
+def compute_frame(pts: int, origin: int, within: int = 0) -> int:
     """Return the frame of the day that contains a PTS, even after the end of the day. `origin` is
     the PTS of frame 0. If `within` is not 0, frames begin a quarter of a frame earlier."""
     return wrap_pts(pts - origin + EARLY_TICKS * (within > 0)) // TICKS
 
 
-def time_in(pts: int, origin: int) -> str | None:
+def compute_time(pts: int, origin: int) -> str | None:
     """Return the time of the frame that contains a PTS. Return `None` after the end of the day."""
-    frame = frame_in(pts, origin)
-    return time_of(frame) if frame < FRAMES_OF_A_DAY else None
+    frame = compute_frame(pts, origin)
+    return format_frame(frame) if frame < FRAMES_OF_A_DAY else None
 
 
-def frame_at(pts: int, origin: int, within: int = 0) -> int | None:
+def find_frame_of_day(pts: int, origin: int, within: int = 0) -> int | None:
     """Return the frame of the day to which a PTS belongs, or `None` if it belongs to none."""
-    frame = frames_at([pts], origin, within)[0]
+    frame = find_frames_of_day([pts], origin, within)[0]
     return None if frame == NO_FRAME else frame
 
 
-def frames_at(several: Sequence[int], origin: int, within: int = 0) -> Sequence[int]:
+def find_frames_of_day(several: Sequence[int], origin: int, within: int = 0) -> Sequence[int]:
     """Return the frame of the day to which each PTS belongs, or `NO_FRAME` if there is none."""
     early = EARLY_TICKS * (within > 0)
     end, count = TICKS * FRAMES_OF_A_DAY, len(several)
@@ -200,7 +200,7 @@ class Spans:
         first, last = bisect.bisect_left(self.ends, begin), bisect.bisect_left(self.begins, end)
         return map(Span, self.begins[first:last], self.ends[first:last])
 
-    def without(self, others: Iterable[tuple[int, int]]) -> Spans:
+    def exclude(self, others: Iterable[tuple[int, int]]) -> Spans:
         """Return these spans without the numbers that are also in `others`."""
         found: list[tuple[int, int]] = [*self]
         for begin, end in others:
@@ -216,5 +216,5 @@ class Spans:
 
 def join_spans(several: Iterable[Spans]) -> Spans:
     """Join several lists of spans into one list in ascending order."""
-    rising = [each if each.is_rising() else Spans(sorted(each)) for each in several]
-    return Spans(heapq.merge(*rising))
+    rising_spans = [spans if spans.is_rising() else Spans(sorted(spans)) for spans in several]
+    return Spans(heapq.merge(*rising_spans))

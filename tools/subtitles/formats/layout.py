@@ -17,7 +17,7 @@ CODES = bytes(range(SPACE))
 COLOURS, DRAWN_CODES = range(0x01, 0x08), range(0x01, 0x0E)
 MAX_BEFORE, MAX_AFTER, MAX_SHIFT = 6, 4, 22
 NEW_LINE, NO_CELL, CONTROLS = 0x8A, range(0x80, 0x86), (*range(0x20), *range(0x80, 0xA0))
-CHARACTER, CONTROL, TOO_LONG, PAST_BOTTOM, DOUBLE_ROW, HIDDEN = 50, 51, 52, 53, 54, 55
+CHARACTER, CONTROL, TOO_LONG, TOO_MANY_ROWS, DOUBLE_ROW, HIDDEN = 50, 51, 52, 53, 54, 55
 FLAGS = ("fit", "white", "trim", "text", "up", "double", "pack", "last")
 NUMBER_RANGES = {"left": range(40), "right": range(40), "free": range(1, 4),
            "row": range(-MAX_SHIFT, MAX_SHIFT + 1)}
@@ -79,8 +79,8 @@ class DrawnLine(NamedTuple):
 def parse_codes(text: str, most: int, allowed: Sequence[int]) -> bytes | None:
     """Parse hexadecimal digits as codes. Return `None` if any code is not allowed."""
     codes = bytes.fromhex(text) if HEX.fullmatch(text) else None
-    fits = codes is not None and len(codes) <= most and all(code in allowed for code in codes)
-    return codes if fits else None
+    is_valid = codes is not None and len(codes) <= most and all(code in allowed for code in codes)
+    return codes if is_valid else None
 
 
 def parse_item(name: str, value: str | None) -> dict[str, object] | None:
@@ -114,8 +114,8 @@ def parse_layout(text: str) -> Layout | None:
     values: dict[str, object] = {}
     names: set[str] = set()
     for word in text.split(","):
-        name, equals, value = word.partition("=")
-        item = parse_item(name, value if equals else None)
+        name, equals_sign, value = word.partition("=")
+        item = parse_item(name, value if equals_sign else None)
         if item is None or name in names:
             return None
         names.add(name)
@@ -127,12 +127,12 @@ def find_layout_fault(text: str) -> str | None:
     """Return a message about the first invalid item in a value of `--layout`, if any."""
     names = set[str]()
     for word in text.split(","):
-        name, equals, value = word.partition("=")
+        name, equals_sign, value = word.partition("=")
         if name in names:
             return f"{name} is given twice"
-        if parse_item(name, value if equals else None) is None:
-            takes = ALLOWED_VALUES.get(name, "no value" if name in FLAGS else "")
-            return f"{word} is not valid: {name} takes {takes}" if takes else \
+        if parse_item(name, value if equals_sign else None) is None:
+            allowed_value = ALLOWED_VALUES.get(name, "no value" if name in FLAGS else "")
+            return f"{word} is not valid: {name} takes {allowed_value}" if allowed_value else \
                 f"{word or 'an empty word'} is an unknown item"
         names.add(name)
     return None
@@ -146,8 +146,8 @@ def list_items(layout: Layout) -> list[str]:
     items += [f"{name}={getattr(layout, name).hex().upper()}" for name in ("strip", "after")
               if getattr(layout, name) != getattr(PLAIN, name)]
     if (layout.before, layout.behind) != (PLAIN.before, PLAIN.behind):
-        star = "*" + layout.behind.hex().upper() if layout.behind else ""
-        items.append(f"before={layout.before.hex().upper()}{star}")
+        restored_codes = "*" + layout.behind.hex().upper() if layout.behind else ""
+        items.append(f"before={layout.before.hex().upper()}{restored_codes}")
     return sorted(items)
 
 
@@ -156,7 +156,7 @@ def format_layout(layout: Layout) -> str:
     return ",".join(list_items(layout))
 
 
-def complexity_key(layout: Layout) -> tuple[int, int, str]:
+def compute_complexity(layout: Layout) -> tuple[int, int, str]:
     """Return a key that sorts simple layouts first."""
     text = format_layout(layout)
     return text.count(",") + bool(text), len(text), text
@@ -225,9 +225,9 @@ def assign_rows(lines: Sequence[bytes], first: int, layout: Layout) -> list[int]
     for number, line in enumerate(lines):
         places.append(place if layout.pack else number)
         place += bool(line)
-    shown = [at for at, line in zip(places, lines) if line]
-    back = shown[-1] if layout.last and shown else 0
-    return [first + layout.row + layout.unit * (at - back) for at in places]
+    used_rows = [at for at, line in zip(places, lines) if line]
+    shift = used_rows[-1] if layout.last and used_rows else 0
+    return [first + layout.row + layout.unit * (at - shift) for at in places]
 
 
 def draw_text(text: bytes, first: int, justify: int, layout: Layout, option: NationalOption
@@ -241,22 +241,22 @@ def draw_text(text: bytes, first: int, justify: int, layout: Layout, option: Nat
 def draw_lines(cells: Sequence[bytes], first: int, justify: int, layout: Layout
                 ) -> list[DrawnLine] | TextFault:
     """Draw lines of cells, omitting empty lines. If a line has a fault, return the fault."""
-    lines = [prepare_line(one, layout) for one in cells]
-    placed: list[DrawnLine] = []
-    above = b""  # the previous line
+    lines = [prepare_line(cell, layout) for cell in cells]
+    drawn_lines: list[DrawnLine] = []
+    previous_line = b""  # the previous line
     for number, (line, row) in enumerate(zip(lines, assign_rows(lines, first, layout))):
-        is_under = DOUBLE in above and not layout.double
-        above = above if layout.pack and not line else line
+        is_under = DOUBLE in previous_line and not layout.double
+        previous_line = previous_line if layout.pack and not line else line
         if not line:
             continue
-        for fault, is_so in ((TOO_LONG, len(line) > COLUMNS),
-                             (PAST_BOTTOM, not 1 <= row <= LAST_ROW),
-                             (DOUBLE_ROW, DOUBLE in line and row == LAST_ROW),
-                             (HIDDEN, is_under)):
-            if is_so:
+        for fault, is_faulty in ((TOO_LONG, len(line) > COLUMNS),
+                                 (TOO_MANY_ROWS, not 1 <= row <= LAST_ROW),
+                                 (DOUBLE_ROW, DOUBLE in line and row == LAST_ROW),
+                                 (HIDDEN, is_under)):
+            if is_faulty:
                 return TextFault(fault, number)
-        placed.append(DrawnLine(number, row, find_column(line, justify, layout), line))
-    return placed
+        drawn_lines.append(DrawnLine(number, row, find_column(line, justify, layout), line))
+    return drawn_lines
 
 
 def make_page_rows(lines: Sequence[DrawnLine]) -> tuple[bytes, ...]:
@@ -267,7 +267,7 @@ def make_page_rows(lines: Sequence[DrawnLine]) -> tuple[bytes, ...]:
     return tuple(rows)
 
 
-def find_text_letters(text: bytes, option: NationalOption) -> bytes | None:
+def encode_text_characters(text: bytes, option: NationalOption) -> bytes | None:
     """Return the cells of a text, omitting spaces and attributes. These cells are the same in each
     layout. Return `None` if a character has no cell."""
     lines = make_cell_lines(text, option, bytes(range(0x20)))
@@ -275,7 +275,7 @@ def find_text_letters(text: bytes, option: NationalOption) -> bytes | None:
         cell for line in lines for cell in line if cell > SPACE)
 
 
-def find_page_letters(rows: Sequence[bytes]) -> bytes:
+def list_page_characters(rows: Sequence[bytes]) -> bytes:
     """Return the cells of a page, row by row, omitting spaces and attributes."""
     return bytes(cell for row in rows for cell in row if cell > SPACE)
 

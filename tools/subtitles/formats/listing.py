@@ -7,7 +7,7 @@ from typing import NamedTuple
 
 from ..common.markup import Markup, join_markup, markup
 from ..common.program import TOP
-from ..common.times import FRAMES_A_SECOND, frame_of
+from ..common.times import FRAMES_A_SECOND, parse_frame
 
 
 # Lines of `check --all`. Only this module parses them.
@@ -44,9 +44,9 @@ LOST_PACKETS = 45  # TS packets are missing
 SILENT = 79  # no PES packet for too long
 LOSSES = {LOST_PACKETS, SILENT}
 REFUSED, ENDED, FAULT = "refused", "ended", "fault"
-CONTENT, CHARACTER, LETTERS, CONTROL, PARITY, CHANGED = 72, 50, (50, 51), 67, 68, 69
+CONTENT, CHARACTER, TEXT_FAULTS, CONTROL, PARITY, CHANGED = 72, 50, (50, 51), 67, 68, 69
 BEGIN, END = 63, 74  # the recording begins after the first TCI, or ends before the last TCO
-WITH_CAUSE = {BEGIN, CONTENT, END}
+FAULTS_WITH_CAUSE = {BEGIN, CONTENT, END}
 INCOMPLETE = 77
 
 
@@ -68,7 +68,7 @@ class FaultLine(NamedTuple):
     @property
     def frame(self) -> int | None:
         """Return the frame of the time in the line, or `None` if there is no time."""
-        frame: int | None = frame_of(self.time) if self.time else None
+        frame: int | None = parse_frame(self.time) if self.time else None
         return frame
 
     @property
@@ -191,29 +191,30 @@ class Meaning(NamedTuple):
 def read_meanings() -> dict[int, Meaning]:
     """Return the descriptions of faults in the manual by fault number. Return an empty dictionary
     if the manual is not installed."""
-    by_number: dict[int, Meaning] = {}
+    meaning_by_number: dict[int, Meaning] = {}
     if not os.path.isfile(REFUSALS_PATH):
-        return by_number
+        return meaning_by_number
     with open(REFUSALS_PATH, encoding="utf-8") as file:
         for line in file:
             cells = [cell.strip() for cell in line.strip().strip("|").split("|")]
             if len(cells) >= 4 and cells[0].isdecimal():
-                by_number[int(cells[0])] = Meaning(*cells[1:4])  # the fifth cell lists options
-    return by_number
+                # the fifth cell lists options
+                meaning_by_number[int(cells[0])] = Meaning(*cells[1:4])
+    return meaning_by_number
 
 
 def read_named_meanings() -> dict[str, Meaning]:
     """Return the descriptions of faults without a number in the manual, by fault name."""
-    by_name: dict[str, Meaning] = {}
+    meaning_by_name: dict[str, Meaning] = {}
     if not os.path.isfile(REFUSALS_PATH):
-        return by_name
+        return meaning_by_name
     with open(REFUSALS_PATH, encoding="utf-8") as file:
         for line in file:
             cells = [cell.strip() for cell in line.strip().strip("|").split("|")]
             name = cells[0].strip("`")
             if len(cells) == 4 and name in FAULT_NAMES:
-                by_name[name] = Meaning(name, *cells[2:])
-    return by_name
+                meaning_by_name[name] = Meaning(name, *cells[2:])
+    return meaning_by_name
 
 
 def remove_markup(text: str) -> str:

@@ -8,11 +8,11 @@ from dataclasses import dataclass
 from typing import Collection, Iterable, Iterator, NamedTuple, Sequence
 
 from ..common.command_line import Stop, print_stderr
-from ..common.files import Damaged, read_first_bytes
+from ..common.files import DamagedFile, read_first_bytes
 from ..common.times import (
-    ALL_DAY, Between, FRAMES_OF_A_DAY, count_until, frame_of, frame_of_code, time_of_code)
+    ALL_DAY, FRAMES_OF_A_DAY, FrameRange, count_until, decode_frame, decode_time, parse_frame)
 from .listing import parse_fault_line
-from .teletext import ACCENTS, BY_WORD, encode_line, decode_text
+from .teletext import ACCENTS, OPTION_BY_WORD, encode_line, decode_text
 
 
 # Blocks of subtitle files: a GSI block, then TTI blocks (EBU Tech 3264).
@@ -37,26 +37,27 @@ class StoredSubtitle(NamedTuple):
 
 
 def read_stored_subtitles(data: bytes) -> Iterator[StoredSubtitle]:
-    """Yield the stored subtitles of a file, without comments and user data. Raise `Damaged` if a
-    block can't be read."""
+    """Yield the stored subtitles of a file, without comments and user data. Raise `DamagedFile` if
+    a block can't be read."""
     if len(data) < GSI or data[3:8] not in (b"STL25", b"STL30"):
-        raise Damaged("not an EBU STL file: its GSI block is too short, or its DFC is not STL25.01")
+        raise DamagedFile("not an EBU STL file: its GSI block is too short, or its DFC is not "
+                          "STL25.01")
     if data[3:8] == b"STL30":
-        raise Damaged("it has 30 frames a second (STL30.01): give a file with 25 (STL25.01)")
+        raise DamagedFile("it has 30 frames a second (STL30.01): give a file with 25 (STL25.01)")
     first: bytes | None = None
     texts: list[bytes] = []
     block = 0
     for block, at in enumerate(range(GSI, len(data), TTI), 1):
         tti = data[at:at + TTI]
         if len(tti) < TTI:
-            raise Damaged(f"block {block} is incomplete")
+            raise DamagedFile(f"block {block} is incomplete")
         ebn = tti[3]
         if ebn == USER_DATA or tti[15] == 1:
             continue
         if LAST_CONTINUED < ebn < LAST_BLOCK:
-            raise Damaged(f"block {block} has the reserved extension block number {ebn:02X}")
+            raise DamagedFile(f"block {block} has the reserved extension block number {ebn:02X}")
         if first is not None and first[:3] != tti[:3]:
-            raise Damaged(f"block {block} begins a subtitle, but the one before is incomplete")
+            raise DamagedFile(f"block {block} begins a subtitle, but the one before is incomplete")
         first = first or tti
         texts.append(tti[16:].split(UNUSED)[0])
         if ebn == LAST_BLOCK:
@@ -65,12 +66,12 @@ def read_stored_subtitles(data: bytes) -> Iterator[StoredSubtitle]:
             first = None
             texts.clear()
     if first is not None:
-        raise Damaged(f"the subtitle of block {block} has no last block")
+        raise DamagedFile(f"the subtitle of block {block} has no last block")
 
 
-def subtitle_times(subtitle: StoredSubtitle) -> tuple[int | None, int | None]:
+def get_subtitle_times(subtitle: StoredSubtitle) -> tuple[int | None, int | None]:
     """Return the frames of a subtitle's TCI and TCO. An invalid time is `None`."""
-    return frame_of_code(subtitle.begin), frame_of_code(subtitle.end)
+    return decode_frame(subtitle.begin), decode_frame(subtitle.end)
 
 
 def read_stl(path: str) -> bytes:
@@ -83,18 +84,18 @@ def read_until_damage(name: str, data: bytes) -> Iterator[StoredSubtitle]:
     there is no such subtitle."""
     is_empty = True
     try:
-        for stored in read_stored_subtitles(data):
+        for stored_subtitle in read_stored_subtitles(data):
             is_empty = False
-            yield stored
-    except Damaged as reason:
+            yield stored_subtitle
+    except DamagedFile as reason:
         if is_empty:
             raise Stop(f"{name}: {reason}") from None
         print_stderr(f"{name}: {reason}; only the subtitles before it are used")
 
 
-def page_letter_codes(text: bytes, option: str) -> bytes:
+def encode_page_characters(text: bytes, option: str) -> bytes:
     """Return the codes of a text on a page, omitting spaces and characters that have no code."""
-    return bytes(code for code in encode_line(text, BY_WORD[option])
+    return bytes(code for code in encode_line(text, OPTION_BY_WORD[option])
                  if code is not None and code > 0x20)
 
 
@@ -114,7 +115,7 @@ def read_titles(path: str) -> list[str]:
     titles: list[str] = []
     for place in (ORIGINAL, TRANSLATED):
         text = block[place].decode(code_page, "replace")
-        title = "".join(letter if letter.isprintable() else " " for letter in text).strip()
+        title = "".join(character if character.isprintable() else " " for character in text).strip()
         if title and title not in titles:
             titles.append(title)
     return titles
@@ -143,10 +144,10 @@ class Subtitle:
     @property
     def name(self) -> str:
         """Return the name of the subtitle in messages."""
-        return subtitle_name(self.index, self.number)
+        return format_subtitle_name(self.index, self.number)
 
 
-def subtitle_name(position: int, number: int) -> str:
+def format_subtitle_name(position: int, number: int) -> str:
     """Return the name of a subtitle: its position, counted from 1, and its SN if that differs."""
     return f"subtitle {position}" if number == position else f"subtitle {position} (SN {number})"
 
@@ -164,18 +165,19 @@ def parse_subtitles(lines: Sequence[str]) -> list[Subtitle]:
 def decode_subtitles(data: bytes) -> list[Subtitle]:
     """Decode the stored subtitles that have valid times."""
     subtitles: list[Subtitle] = []
-    for index, stored in enumerate(read_stored_subtitles(data), 1):
-        begin, end = subtitle_times(stored)
+    for index, stored_subtitle in enumerate(read_stored_subtitles(data), 1):
+        begin, end = get_subtitle_times(stored_subtitle)
         if begin is not None and end is not None and begin < end:
-            subtitles.append(Subtitle(index, stored.number, begin, end, stored.row, stored.justify,
-                                      stored.text))
+            subtitles.append(Subtitle(index, stored_subtitle.number, begin, end,
+                                      stored_subtitle.row, stored_subtitle.justify,
+                                      stored_subtitle.text))
     return subtitles
 
 
 def parse_subtitle(index: int, line: str) -> Subtitle:
     """Parse a line of the output of `show`."""
     match = SHOW_LINE.fullmatch(line)
-    begin, end = (frame_of(match[name]) if match else None for name in ("begin", "end"))
+    begin, end = (parse_frame(match[name]) if match else None for name in ("begin", "end"))
     if not match or begin is None or end is None:
         raise Stop(f"`show` printed no subtitle: {line}")
     text = b"" if match["text"] == NO_TEXT else bytes.fromhex(match["text"])
@@ -217,7 +219,7 @@ class SubtitleList:
     def find_nearest(self, places: Sequence[int], frame: int) -> int:
         """Return the index, one of `places`, of the subtitle that begins nearest to a frame."""
         at = count_until(places, lambda place: self.begins[place] >= frame)
-        return min(places[max(at - 1, 0):at + 1], key=lambda one: abs(self.begins[one] - frame))
+        return min(places[max(at - 1, 0):at + 1], key=lambda item: abs(self.begins[item] - frame))
 
     def list_cues(self, first: int, last: int) -> list[int]:
         """Return the frames of the cues after frame `first`, up to `last`."""
@@ -243,7 +245,7 @@ class SubtitleFile:
     """A subtitle file, which may be faulty. Subtitles outside `between` are skipped like comments.
     The subtitles at the positions `left_out` are not expected."""
 
-    def __init__(self, path: str, between: Between = ALL_DAY,
+    def __init__(self, path: str, between: FrameRange = ALL_DAY,
                  left_out: Collection[int] = ()) -> None:
         self.between = between
         self.data = read_stl(path)
@@ -260,9 +262,9 @@ class SubtitleFile:
                 self.start_blocks.append(block)
             first, is_open = first if is_open else block, tti[3] != LAST_BLOCK
             self.first_blocks.append(first)
-            begin = frame_of_code(tti[5:9])
-            is_one = first == block and len(self.start_blocks) not in left_out
-            if is_one and begin is not None and between.has(begin):
+            begin = decode_frame(tti[5:9])
+            is_listed = first == block and len(self.start_blocks) not in left_out
+            if is_listed and begin is not None and between.includes(begin):
                 self.begins.append(begin)
                 self.blocks.append(block)
 
@@ -277,13 +279,13 @@ class SubtitleFile:
             return None
         tti = self.block(self.first_blocks[block])
         return NamedSubtitle(bisect.bisect_right(self.start_blocks, self.first_blocks[block]),
-                             tti[1] + 256 * tti[2], time_of_code(tti[5:9]),
-                             time_of_code(tti[9:13]))
+                             tti[1] + 256 * tti[2], decode_time(tti[5:9]),
+                             decode_time(tti[9:13]))
 
     def is_outside(self, block: int) -> bool:
         """Return whether the subtitle of a block is outside the judged range."""
-        begin = frame_of_code(self.block(self.first_blocks[block])[5:9])
-        return begin is not None and not self.between.has(begin)
+        begin = decode_frame(self.block(self.first_blocks[block])[5:9])
+        return begin is not None and not self.between.includes(begin)
 
     def count(self) -> int:
         """Return the number of blocks."""
@@ -292,11 +294,11 @@ class SubtitleFile:
     def count_ended(self) -> tuple[int, int]:
         """Return the numbers of subtitles with a last block, without and with comments."""
         own = sum(1 for _ in self.list_last_blocks())
-        lasts = sum(self.block(number)[3] == LAST_BLOCK for number in
-                    range(1, len(self.first_blocks)))
-        return own, lasts
+        last_block_count = sum(self.block(number)[3] == LAST_BLOCK for number in
+                               range(1, len(self.first_blocks)))
+        return own, last_block_count
 
-    def find_previous_first(self, block: int) -> int | None:
+    def find_previous_block(self, block: int) -> int | None:
         """Return the first block of the previous subtitle, or `None` for the first subtitle."""
         at = bisect.bisect_left(self.blocks, self.first_blocks[block])
         return self.blocks[at - 1] if at else None
@@ -314,14 +316,14 @@ class SubtitleFile:
         if at < 0:
             return None
         block = self.blocks[at]
-        end = frame_of_code(self.block(block)[9:13])
+        end = decode_frame(self.block(block)[9:13])
         return self.find_by_block(block) if end is not None and frame < end else None
 
     def text(self, block: int) -> bytes:
         """Return the text of a subtitle up to the given block."""
-        blocks = (self.block(one) for one in range(self.first_blocks[block], block + 1))
-        return b"".join(one[16:].split(UNUSED)[0] for one in blocks
-                        if one[3] != USER_DATA and one[15] != COMMENT)
+        blocks = (self.block(item) for item in range(self.first_blocks[block], block + 1))
+        return b"".join(item[16:].split(UNUSED)[0] for item in blocks
+                        if item[3] != USER_DATA and item[15] != COMMENT)
 
     def list_last_blocks(self) -> Iterator[int]:
         """Yield the block number of the last block of each subtitle."""
@@ -337,6 +339,6 @@ class SubtitleFile:
         if at >= len(text):
             return None, None
         has_accent = ACCENTS.get(text[at], " ") != " "
-        letter = decode_text(text[at:at + 1 + has_accent])
-        is_letter = 0x20 <= text[at] <= 0x7E or text[at] >= 0xA0
-        return f"{text[at]:02X}", letter if is_letter else None
+        character = decode_text(text[at:at + 1 + has_accent])
+        is_character = 0x20 <= text[at] <= 0x7E or text[at] >= 0xA0
+        return f"{text[at]:02X}", character if is_character else None

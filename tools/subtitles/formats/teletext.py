@@ -55,12 +55,12 @@ UPPER = {
     **dict(zip(range(0xE6, 0xF0), "ĲĿŁØŒºÞŦŊŉ")),
     **dict(zip(range(0xF0, 0xFF), "ĸæđðħıĳŀłøœßþŧŋ")),
 }
-NO_LETTER = "\ufffd"
+NO_CHARACTER = "\ufffd"
 
 
 def decode_byte(byte: int) -> str:
     """Return the character of a byte. Byte 24 is a dollar sign, as in the program."""
-    return chr(byte) if 0x20 <= byte <= 0x7E else UPPER.get(byte, NO_LETTER)
+    return chr(byte) if 0x20 <= byte <= 0x7E else UPPER.get(byte, NO_CHARACTER)
 
 
 def decode_text(text: bytes) -> str:
@@ -126,21 +126,21 @@ CZECH = NationalOption(
 
 OPTIONS = (ENGLISH, GERMAN, SWEDISH, ITALIAN, FRENCH, SPANISH, CZECH)
 OPTION_WORDS = tuple(one.word for one in OPTIONS)
-BY_WORD = {one.word: one for one in OPTIONS}
-BY_BITS = {one.bits: one for one in OPTIONS}
+OPTION_BY_WORD = {one.word: one for one in OPTIONS}
+OPTION_BY_BITS = {one.bits: one for one in OPTIONS}
 RESERVED = 7  # value of C12 to C14 that no option of the default region uses
 # Languages in a PMT whose characters are not in the default region.
 OTHER_REGIONS = ("ara bul ell est gre heb hrv lit pol ron rum rus scc scr slv srp ukr").split()
 UNKNOWN_CHARACTER = "\u25a1"  # shown for a character of an unknown option
 ACCENT_BYTES = {byte for byte, mark in ACCENTS.items() if mark != " "}
 
-def option_for_language(language: bytes) -> NationalOption:
+def choose_language_option(language: bytes) -> NationalOption:
     """Return the national option for the language of a GSI block (LC). The default is English."""
     word = language.decode("ascii", "replace").upper()
     return next((option for option in OPTIONS if word in option.languages.split()), ENGLISH)
 
 
-def option_for_track(language: str) -> NationalOption | None:
+def choose_track_option(language: str) -> NationalOption | None:
     """Return the national option for the language of a PMT, if an option has this language."""
     return next((option for option in OPTIONS if language.lower() in option.tracks.split()), None)
 
@@ -151,17 +151,17 @@ def reverse_option_bits(option: NationalOption) -> int:
 
 
 @functools.lru_cache(maxsize=None)
-def option_cells(option: NationalOption) -> dict[bytes, int]:
+def list_option_cells(option: NationalOption) -> dict[bytes, int]:
     """Return the codes of the 13 characters that depend on the option, by their bytes in a text."""
-    return {bytes.fromhex(one): place
+    return {bytes.fromhex(item): place
             for place, words in zip(NATIONAL_CODES, option.cells.split())
-            for one in words.split(",") if one != "-"}
+            for item in words.split(",") if item != "-"}
 
 
 def split_cells(text: bytes, option: NationalOption) -> Iterator[tuple[int, int, int | None]]:
     """Yield the offset, first byte and code of each character in a text. The code is `None` if the
     option lacks the character."""
-    own, at = option_cells(option), 0
+    own, at = list_option_cells(option), 0
     while at < len(text):
         size = 2 if text[at:at + 2] in own and text[at] in ACCENT_BYTES else 1
         yield at, text[at], own.get(text[at:at + size], text[at] if text[at] in COMMON else None)
@@ -175,21 +175,21 @@ def encode_line(text: bytes, option: NationalOption) -> list[int | None]:
 
 def has_characters(text: bytes, option: NationalOption) -> bool:
     """Return whether a national option has all characters of a text. Ignore control codes."""
-    shown = bytes(byte for byte in text if byte not in range(0x80, 0x90))
-    return None not in encode_line(shown, option)
+    character_codes = bytes(byte for byte in text if byte not in range(0x80, 0x90))
+    return None not in encode_line(character_codes, option)
 
 
-def character_bytes(text: bytes, at: int) -> bytes:
+def read_character_bytes(text: bytes, at: int) -> bytes:
     """Return the byte at an offset. If it is an accent, add the letter after it."""
-    is_pair = text[at] in ACCENT_BYTES and text[at + 1:at + 2].isalpha()
-    return text[at:at + 1 + is_pair]
+    is_accent_pair = text[at] in ACCENT_BYTES and text[at + 1:at + 2].isalpha()
+    return text[at:at + 1 + is_accent_pair]
 
 
-def find_options(letter: bytes) -> list[NationalOption]:
+def find_options(character: bytes) -> list[NationalOption]:
     """Return the national options that have a character, given as its bytes in a text."""
-    if len(letter) == 1 and letter[0] in COMMON:
+    if len(character) == 1 and character[0] in COMMON:
         return list(OPTIONS)
-    return [option for option in OPTIONS if letter in option_cells(option)]
+    return [option for option in OPTIONS if character in list_option_cells(option)]
 
 
 def decode_character(letter: bytes) -> str | None:
@@ -197,21 +197,21 @@ def decode_character(letter: bytes) -> str | None:
     if len(letter) == 1 and letter[0] in ACCENT_BYTES:
         return None
     character = decode_text(letter)
-    return None if NO_LETTER in character or len(character) != 1 else character
+    return None if NO_CHARACTER in character or len(character) != 1 else character
 
 
 BLOCK = "\u25a0"  # the character displayed for code 7F
 
 
 @functools.lru_cache(maxsize=None)
-def character_table(option: int) -> list[str]:
+def make_character_table(option: int) -> list[str]:
     """Return the character of each code 00 to 7F (EN 300 706, Latin G0). A spacing attribute is a
     space. `option` is C12 + 2 C13 + 4 C14 of a page header."""
     table = [" "] * 32 + [chr(code) for code in range(32, 127)] + [BLOCK]
-    national = BY_BITS.get(option)
-    for code, letter in zip(NATIONAL_CODES, national.characters if national else UNKNOWN_CHARACTER *
-                            len(NATIONAL_CODES)):
-        table[code] = letter
+    national_characters = OPTION_BY_BITS.get(option)
+    for code, character in zip(NATIONAL_CODES, national_characters.characters if national_characters
+                               else UNKNOWN_CHARACTER * len(NATIONAL_CODES)):
+        table[code] = character
     return table
 
 

@@ -7,12 +7,12 @@ from typing import Iterable, NamedTuple
 
 from ..common.command_line import counted
 from ..common.shapes import Members
-from ..common.times import Span, time_of
+from ..common.times import Span, format_frame
 from ..formats.listing import BEGIN, CONTENT, END
 from ..formats.stl import Subtitle
-from ..formats.teletext import BY_WORD, page_name
-from ..stream.packets import HEADER, alternating_subcodes, subpage_text
-from ..stream.receiver import BLANK_PAGE, HIT, LEAST, Rows, Timeline
+from ..formats.teletext import OPTION_BY_WORD, page_name
+from ..stream.packets import HEADER, describe_subpages, find_alternating_subcodes
+from ..stream.receiver import BLANK_PAGE, HIT, MIN_FRAMES, Rows, Timeline
 from .check import CheckOutput
 from .pages import (
     describe_attribute_difference, describe_extra_rows, describe_move, format_page_text,
@@ -60,14 +60,14 @@ class FaultyFrames:
 
     def __init__(self) -> None:
         self.during: Span | None = None
-        self.after_end: Span | None = None
+        self.span_after_end: Span | None = None
 
     def add(self, span: Span, subtitle: Subtitle) -> None:
         """Add consecutive frames in which the decoded page is wrong and does not change."""
         if subtitle.begin <= span.first < subtitle.end:
             self.during = self.during or span
         elif span.first >= subtitle.end:
-            self.after_end = self.after_end or span
+            self.span_after_end = self.span_after_end or span
 
 
 class CauseFinder(PageTransmissions):
@@ -78,104 +78,109 @@ class CauseFinder(PageTransmissions):
         super().__init__(expected, timeline)
         self.output = output
 
-    def find_cause(self, place: int, faulty: FaultyFrames) -> Cause:
+    def find_cause(self, place: int, faulty_frames: FaultyFrames) -> Cause:
         """Return the cause of a subtitle's fault. It is unknown if an interval without PES packets
         explains the fault."""
-        cause, subtitle = self.classify_transmission(place, faulty), self.subtitles[place]
-        pause = self.timeline.pause_at(subtitle.end if cause.name == NOT_ERASED else subtitle.begin)
+        cause, subtitle = self.classify_transmission(place, faulty_frames), self.subtitles[place]
+        pause = self.timeline.find_pause(subtitle.end if cause.name == NOT_ERASED
+                                         else subtitle.begin)
         if pause is None:
             return cause
-        is_by_pause = {
+        is_in_pause = {
             LATE: subtitle.begin + (cause.frames or 0) == pause.last + 1,
             NEVER: subtitle.end - 1 <= pause.last,
-            NOT_ERASED: self.timeline.number_at(pause.last +
-                                                1) != self.timeline.number_at(pause.last)}
-        if not is_by_pause.get(cause.name):
+            NOT_ERASED: self.timeline.find_page_number_at(pause.last +
+                                                          1)
+            != self.timeline.find_page_number_at(pause.last)}
+        if not is_in_pause.get(cause.name):
             return cause
         return self.make_unknown_cause(place, subtitle.begin, cause.final_frame,
                                        "no PES packet for "
                                        f"{counted(pause.last + 1 - pause.first, 'frame')}, from "
-                                       f"{time_of(pause.first)} on")
+                                       f"{format_frame(pause.first)} on")
 
-    def classify_transmission(self, place: int, faulty: FaultyFrames) -> Cause:
+    def classify_transmission(self, place: int, faulty_frames: FaultyFrames) -> Cause:
         """Return the cause of a subtitle's fault, from its page transmissions."""
-        subtitle, came = self.subtitles[place], self.find_transmission(place)
-        if self.timeline.page_at(subtitle.begin) == self.pages[place]:
-            if came is not None and came < subtitle.begin:
-                return self.classify_delay(place, came)
-            return self.classify_later_fault(place, faulty)
-        if came is not None and self.is_allowed_delay(place, came):
-            return self.classify_later_fault(place, faulty)
-        strange = self.find_unknown_page(place, came)
-        if strange is not None:
-            return self.classify_difference(place, strange)
-        other = self.find_other_at_cue(place)
+        subtitle, sent_frame = self.subtitles[place], self.find_transmission(place)
+        if self.timeline.get_page_at(subtitle.begin) == self.pages[place]:
+            if sent_frame is not None and sent_frame < subtitle.begin:
+                return self.classify_delay(place, sent_frame)
+            return self.classify_later_fault(place, faulty_frames)
+        if sent_frame is not None and self.is_allowed_delay(place, sent_frame):
+            return self.classify_later_fault(place, faulty_frames)
+        unknown_page = self.find_unknown_page(place, sent_frame)
+        if unknown_page is not None:
+            return self.classify_difference(place, unknown_page)
+        other = self.find_other_text_at_cue(place)
         if other is not None:
             return self.make_other_text_cause(place, other, self.search_window(place).last)
-        if came is None:
+        if sent_frame is None:
             return self.classify_missing_page(place)
-        return self.classify_delay(place, came)
+        return self.classify_delay(place, sent_frame)
 
-    def classify_delay(self, place: int, came: int) -> Cause:
-        """Return the cause for a subtitle whose page was sent late or early, in frame `came`."""
+    def classify_delay(self, place: int, sent_frame: int) -> Cause:
+        """Return the cause for a subtitle whose page was sent late or early, in frame
+        `sent_frame`."""
         subtitle = self.subtitles[place]
-        if came > subtitle.begin and not self.timeline.was_received(subtitle.begin, came):
-            return self.make_unknown_cause(place, subtitle.begin, came,
-                                           self.describe_unreceived(subtitle.begin, came))
-        name, frames = (LATE, came - subtitle.begin) if came > subtitle.begin else (
-            EARLY, subtitle.begin - came)
-        words = self.describe_incomplete_frames(came) if name == LATE and \
+        if sent_frame > subtitle.begin and not self.timeline.was_received(subtitle.begin,
+                                                                          sent_frame):
+            return self.make_unknown_cause(place, subtitle.begin, sent_frame,
+                                           self.describe_unreceived(subtitle.begin, sent_frame))
+        name, frames = (LATE, sent_frame - subtitle.begin) if sent_frame > subtitle.begin else (
+            EARLY, subtitle.begin - sent_frame)
+        words = self.describe_incomplete_frames(sent_frame) if name == LATE and \
             frames <= self.timeline.within else ""
-        if name == LATE and self.came_while_closed(place):
+        if name == LATE and self.was_received_while_closed(place):
             words = self.describe_closed_page()
-        return Cause(place, name, frames, self.pages[place], None, words, max(came, subtitle.begin))
+        return Cause(place, name, frames, self.pages[place], None, words,
+                     max(sent_frame, subtitle.begin))
 
-    def is_allowed_delay(self, place: int, came: int) -> bool:
+    def is_allowed_delay(self, place: int, sent_frame: int) -> bool:
         """Return whether a page was late, and incomplete, for at most the allowed delay."""
-        late = came - self.subtitles[place].begin
+        late = sent_frame - self.subtitles[place].begin
         return 0 < late <= self.timeline.within and \
-            came - self.find_first_wrong_frame(came - 1) <= self.timeline.within
+            sent_frame - self.find_first_wrong_frame(sent_frame - 1) <= self.timeline.within
 
     def find_first_wrong_frame(self, frame: int) -> int:
         """Return the first frame of the uninterrupted span of wrong pages that ends at `frame`.
         Search at most 250 frames."""
         first = frame
-        while frame - first < LEAST and first > 0 and not self.is_expected_page(first - 1):
+        while frame - first < MIN_FRAMES and first > 0 and not self.is_expected_page(first - 1):
             first -= 1
         return first
 
-    def describe_incomplete_frames(self, came: int) -> str:
-        """Describe for how many frames the page was incomplete before frame `came`. The number is
-        larger than the delay if the page was already incomplete before the TCI."""
-        first = self.find_first_wrong_frame(came - 1)
-        return f"the page is incomplete for {counted(came - first, 'frame')} in a row, from " \
-            f"{time_of(first)} on"
+    def describe_incomplete_frames(self, sent_frame: int) -> str:
+        """Describe for how many frames the page was incomplete before frame `sent_frame`. The
+        number is larger than the delay if the page was already incomplete before the TCI."""
+        first = self.find_first_wrong_frame(sent_frame - 1)
+        return f"the page is incomplete for {counted(sent_frame - first, 'frame')} in a row, " \
+            f"from {format_frame(first)} on"
 
     def classify_missing_page(self, place: int) -> Cause:
         """Return the cause for a subtitle whose page was not sent near its time."""
         subtitle, window = self.subtitles[place], self.search_window(place)
-        other = self.find_other_during(place)
+        other = self.find_other_text_during(place)
         if other is not None:
             return self.make_other_text_cause(place, other, window.last)
         if not self.timeline.was_received(subtitle.begin, subtitle.end - 1):
             reason = self.describe_unreceived(subtitle.begin, subtitle.end - 1)
             return self.make_unknown_cause(place, subtitle.begin, window.last, reason)
-        if self.came_while_closed(place):
+        if self.was_received_while_closed(place):
             return self.make_unknown_cause(place, subtitle.begin, window.last,
                                            self.describe_closed_page())
-        for number in self.timeline.page_numbers(subtitle.begin, subtitle.end):
+        for number in self.timeline.list_page_numbers(subtitle.begin, subtitle.end):
             page = self.timeline.pages[number]
             if page != BLANK_PAGE and self.belongs_to_subtitle(number, place) and \
                     is_partial_page(page, self.pages[place]):
                 return Cause(place, WRONG_TEXT, None, page, None, "rows are missing", window.last)
-        sent = self.timeline.page_at(subtitle.begin)
-        is_all = self.timeline.last >= min(window.last, subtitle.begin + LEAST)
-        words = self.subcode_text if is_all else \
-            f"the recording was read up to {time_of(self.timeline.last)}"
+        sent = self.timeline.get_page_at(subtitle.begin)
+        is_decoded_completely = self.timeline.last >= min(window.last, subtitle.begin + MIN_FRAMES)
+        words = self.subcode_text if is_decoded_completely else \
+            f"the recording was read up to {format_frame(self.timeline.last)}"
         return Cause(place, NEVER, None, None if sent == BLANK_PAGE else sent, None, words,
                      window.last)
 
-    def came_while_closed(self, place: int) -> bool:
+    def was_received_while_closed(self, place: int) -> bool:
         """Return whether rows of a subtitle were received outside a transmission of the page."""
         subtitle, page = self.subtitles[place], self.pages[place]
         return any(span.first < subtitle.end and subtitle.begin <= span.last and any(
@@ -191,7 +196,7 @@ class CauseFinder(PageTransmissions):
         subtitle, due, sent = self.subtitles[place], self.pages[place], self.timeline.pages[number]
         words = join_page_text(sent)
         if words != join_page_text(due):
-            places = self.expected.by_text.get(words)
+            places = self.expected.positions_by_letters.get(words)
             if places and words:
                 other = self.expected.find_nearest(places, subtitle.begin)
                 return self.make_other_text_cause(place, other,
@@ -208,87 +213,89 @@ class CauseFinder(PageTransmissions):
         """Return the cause for a subtitle that was sent with the text of another subtitle."""
         return Cause(place, OTHER_TEXT, None, self.pages[other], other, "", known)
 
-    def classify_later_fault(self, place: int, faulty: FaultyFrames) -> Cause:
+    def classify_later_fault(self, place: int, faulty_frames: FaultyFrames) -> Cause:
         """Return the cause for a subtitle whose page was correct at its TCI, but wrong later."""
         subtitle = self.subtitles[place]
-        span = faulty.during or faulty.after_end
+        span = faulty_frames.during or faulty_frames.span_after_end
         if span and self.is_expected_page(span.first):
             if rows := self.list_omitted_rows(span.first):
                 return Cause(place, INCOMPLETE_REPEAT, None, self.pages[place], None,
                              f"{rows} {OMITTED_BY_REPEAT}", subtitle.end)
             return self.make_unknown_cause(place, span.first, subtitle.end,
                                            self.describe_hidden_fault(span.first))
-        if faulty.during:
-            return self.classify_replacement(place, faulty.during)
-        if faulty.after_end is None:
+        if faulty_frames.during:
+            return self.classify_replacement(place, faulty_frames.during)
+        if faulty_frames.span_after_end is None:
             return self.make_unknown_cause(place, subtitle.begin, subtitle.end,
                                            "the same text is also sent at another time")
-        number = self.timeline.number_at(faulty.after_end.first)
-        until = self.timeline.page_span(number).last
+        number = self.timeline.find_page_number_at(faulty_frames.span_after_end.first)
+        last_frame = self.timeline.get_page_span(number).last
         if self.timeline.frames[number] >= subtitle.end:
-            return self.classify_after_end(place, number, faulty.after_end.first)
-        if not self.timeline.was_received(subtitle.end, until):
+            return self.classify_after_end(place, number, faulty_frames.span_after_end.first)
+        if not self.timeline.was_received(subtitle.end, last_frame):
             return self.make_unknown_cause(place, subtitle.end, subtitle.end,
-                                           self.describe_unreceived(subtitle.end, until))
+                                           self.describe_unreceived(subtitle.end, last_frame))
         return Cause(place, NOT_ERASED, None, self.timeline.pages[number], None,
                      self.describe_removal(place, number), subtitle.end)
 
     def describe_hidden_fault(self, frame: int) -> str:
         """Describe why `check` reports a wrong page in a frame although the decoded page is correct
         at the end of this frame."""
-        if len(self.timeline.runs_in_frame(frame)) > 1:
+        if len(self.timeline.list_frame_runs(frame)) > 1:
             return COMPLETED_LATER
         if not self.timeline.was_received(frame, frame):
             return NOT_READABLE
-        return EVEN_PARITY if HIT in b"".join(self.timeline.state_at(frame).rows) else ""
+        return EVEN_PARITY if HIT in b"".join(self.timeline.get_state_at(frame).rows) else ""
 
     def list_omitted_rows(self, frame: int) -> str:
         """Describe which rows a repeat of the page omitted. Return an empty string if omitted rows
         can't explain the fault in this frame, because some of its packets can't be read, or because
         it has several PES packets (without --within)."""
-        is_one = self.timeline.within or len(self.timeline.runs_in_frame(frame)) == 1
-        return find_omitted_rows(self.timeline, self.expected.page_at(frame), frame, self.output) \
-            if is_one and self.timeline.was_received(frame, frame) else ""
+        is_single = self.timeline.within or len(self.timeline.list_frame_runs(frame)) == 1
+        return find_omitted_rows(self.timeline, self.expected.get_page_at(frame), frame,
+                                 self.output) \
+            if is_single and self.timeline.was_received(frame, frame) else ""
 
     @functools.cached_property
     def subcode_text(self) -> str:
         """Describe the sub-pages that alternate, or return an empty string."""
-        subcodes = alternating_subcodes(self.timeline.packets, self.timeline.inside)
-        return subpage_text(subcodes, page_name(*self.timeline.page)) if subcodes else ""
+        subcodes = find_alternating_subcodes(self.timeline.packets, self.timeline.inside)
+        return describe_subpages(subcodes, page_name(*self.timeline.page)) if subcodes else ""
 
     def classify_after_end(self, place: int, number: int, frame: int) -> Cause:
         """Return the cause of a fault if page `number` was sent after the TCO of a subtitle. A page
         of no subtitle is another text in the pause, or after the last TCO the next programme."""
         subtitle, page = self.subtitles[place], self.timeline.pages[number]
-        is_other = page not in self.expected.by_page and page != BLANK_PAGE
-        is_ours = join_page_text(page) in self.expected.by_text
+        is_unexpected_page = page not in self.expected.positions_by_page and page != BLANK_PAGE
+        is_expected_text = join_page_text(page) in self.expected.positions_by_letters
         is_last = place == len(self.subtitles) - 1
         late = self.timeline.frames[number] - subtitle.end
-        if is_other and is_last and late <= self.timeline.within:
+        if is_unexpected_page and is_last and late <= self.timeline.within:
             return self.make_unknown_cause(place, frame, subtitle.end, NEXT_PROGRAMME)
-        if is_other and not is_ours and self.timeline.was_received(subtitle.end, frame):
-            return Cause(place, TEXT_IN_PAUSE, None, page, None, f"at {time_of(frame)}",
+        if is_unexpected_page and not is_expected_text and self.timeline.was_received(subtitle.end,
+                                                                                      frame):
+            return Cause(place, TEXT_IN_PAUSE, None, page, None, f"at {format_frame(frame)}",
                          subtitle.end)
         return self.make_unknown_cause(place, frame, subtitle.end,
-                                       f"sent after its TCO, at {time_of(frame)}")
+                                       f"sent after its TCO, at {format_frame(frame)}")
 
     def describe_removal(self, place: int, number: int) -> str:
         """Describe how long page `number` stayed after the TCO, or return "" if this is unknown."""
-        until, end = self.timeline.page_span(number).last, self.subtitles[place].end
+        last_frame, end = self.timeline.get_page_span(number).last, self.subtitles[place].end
         following = self.subtitles[place + 1:place + 2]
-        if following and following[0].begin <= until and \
+        if following and following[0].begin <= last_frame and \
                 self.pages[place + 1] == self.timeline.pages[number]:
             frames = following[0].begin - end
             return f"it stays for {counted(frames, 'frame')}, until {following[0].name}, which " \
                 "has the same content" if frames else \
                 f"{following[0].name} follows immediately and has the same content"
-        if until == self.timeline.last or self.timeline.halt is not None:
+        if last_frame == self.timeline.last or self.timeline.halt is not None:
             return ""
-        return f"it disappears {counted(until + 1 - end, 'frame')} later"
+        return f"it disappears {counted(last_frame + 1 - end, 'frame')} later"
 
     def classify_replacement(self, place: int, span: Span) -> Cause:
         """Return the cause for a subtitle whose page was received, but replaced before the TCO."""
-        subtitle, number = self.subtitles[place], self.timeline.number_at(span.first)
+        subtitle, number = self.subtitles[place], self.timeline.find_page_number_at(span.first)
         page = self.timeline.pages[number]
         other = self.expected.find_subtitle(page, span.first)
         if not self.timeline.was_received(span.first, span.last):
@@ -297,32 +304,34 @@ class CauseFinder(PageTransmissions):
         if other is not None and other != place:
             return self.make_other_text_cause(place, other, subtitle.end)
         if page == BLANK_PAGE:
-            erased = self.timeline.frames[number]
-            if erased < subtitle.begin:
+            erased_page = self.timeline.frames[number]
+            if erased_page < subtitle.begin:
                 return self.make_unknown_cause(place, span.first, subtitle.end,
-                                               f"it is missing at {time_of(span.first)}")
+                                               f"it is missing at {format_frame(span.first)}")
             if self.was_erased(number):
                 return Cause(place, ERASED, None, None, None,
-                             f"by a header without rows, at {time_of(erased)}", subtitle.end)
-            return self.make_unknown_cause(place, span.first, subtitle.end, "it disappears at "
-                                           f"{time_of(self.find_first_wrong_frame(span.first))}")
+                             f"by a header without rows, at {format_frame(erased_page)}",
+                             subtitle.end)
+            wrong_frame = self.find_first_wrong_frame(span.first)
+            return self.make_unknown_cause(place, span.first, subtitle.end,
+                                           f"it disappears at {format_frame(wrong_frame)}")
         return self.classify_difference(place, number)
 
     def was_erased(self, number: int) -> bool:
         """Return whether a header without rows erased the page. The next page must have its own
         header; otherwise its rows belong to the same header, and the page was not erased."""
         begins = self.timeline.frames[number:number + 2]
-        return all(any(HEADER in run.flags for run in self.timeline.runs_in_frame(frame))
+        return all(any(HEADER in run.flags for run in self.timeline.list_frame_runs(frame))
                    for frame in begins)
 
     def describe_unreceived(self, first: int, last: int) -> str:
         """Explain why it is unknown what was sent from frame `first` to frame `last`."""
-        return NOT_RECEIVED if self.timeline.lost.has(first, last) else NOT_READABLE
+        return NOT_RECEIVED if self.timeline.lost.includes(first, last) else NOT_READABLE
 
     def make_unknown_cause(self, place: int, frame: int, known: int, words: str) -> Cause:
         """Return the cause `NOT_RECEIVED` or `UNKNOWN_CAUSE` with the details `words`. No frame
         after `known` can change the cause."""
-        sent = self.timeline.page_at(frame)
+        sent = self.timeline.get_page_at(frame)
         name, words = (NOT_RECEIVED, "") if words == NOT_RECEIVED else (UNKNOWN_CAUSE, words)
         return Cause(place, name, None, None if sent == BLANK_PAGE else sent, None, words, known)
 
@@ -338,15 +347,15 @@ class Causes:
                  recorded_span: Span | None = None) -> None:
         self.expected, self.timeline, self.recorded_span = expected, timeline, recorded_span
         self.finder = CauseFinder(expected, timeline)
-        self.by_index: dict[int, Cause] = {}  # by index of the subtitle
+        self.cause_by_index: dict[int, Cause] = {}  # by index of the subtitle
         # The subtitle for the fault at the beginning of the recording (63) or at its end (74), if
         # the recording is longer than the judged frames
-        self.by_end_fault: dict[int, int] = {}
+        self.frames_by_end_fault: dict[int, int] = {}
         self.pending: dict[int, FaultyFrames] = {}
         # For each subtitle, the first frame with a wrong page
         self.first_wrong_frames: dict[int, int] = {}
 
-    def classify_all(self, output: CheckOutput) -> None:
+    def classify_faults(self, output: CheckOutput) -> None:
         """Find the causes of all reported faults."""
         self.finder.output = output
         begin, end = (output.first_faults.get(number) for number in (BEGIN, END))
@@ -357,7 +366,7 @@ class Causes:
         if end and end.frame is not None:
             self.compare_after(end.frame)
         for place in sorted(self.pending):
-            self.by_index[place] = self.classify_subtitle(place)
+            self.cause_by_index[place] = self.classify_subtitle(place)
         self.pending = {}
         if begin and begin.frame is not None:
             self.classify_first(begin.frame)
@@ -370,7 +379,7 @@ class Causes:
     def add_span(self, place: int, span: Span) -> int:
         """Add frames with a wrong page to the subtitle with index `place`, and return `place`."""
         self.first_wrong_frames.setdefault(place, span.first)
-        if place not in self.by_index:
+        if place not in self.cause_by_index:
             self.pending.setdefault(place, FaultyFrames()).add(span, self.expected.subtitles[place])
         return place
 
@@ -388,27 +397,28 @@ class Causes:
         if not (held.frames and held.frames[0] <= begin or
                 self.find_covered_span().first <= 2 * begin - frame):
             return
-        came = self.finder.find_transmission(0)
-        if came is not None and came < begin and self.finder.is_expected_page(begin):
-            self.by_end_fault[BEGIN] = self.add_span(0, Span(came, begin - 1))
+        sent_frame = self.finder.find_transmission(0)
+        if sent_frame is not None and sent_frame < begin and self.finder.is_expected_page(begin):
+            self.frames_by_end_fault[BEGIN] = self.add_span(0, Span(sent_frame, begin - 1))
         self.add_differences(BEGIN, begin, frame - 1)
 
     def classify_first(self, frame: int) -> None:
         """Classify the first subtitle as late if the recording begins with its page. The second
         subtitle must be late too, and the beginning or the end of the first page must have the same
         delay. The first page alone is no evidence: its beginning may be cut off."""
-        page, following = self.expected.pages[0], self.by_index.get(1)
-        if following is None or following.name != LATE or BEGIN in self.by_end_fault \
-                or self.timeline.first != frame or self.timeline.page_at(frame) != page:
+        page, following = self.expected.pages[0], self.cause_by_index.get(1)
+        if following is None or following.name != LATE or BEGIN in self.frames_by_end_fault \
+                or self.timeline.first != frame or self.timeline.get_page_at(frame) != page:
             return
         first, second = self.expected.subtitles[:2]
-        until = self.timeline.page_span(self.timeline.number_at(frame)).last
+        last_frame = self.timeline.get_page_span(self.timeline.find_page_number_at(frame)).last
         late = following.frames or 0
         if late == frame - first.begin:
-            self.by_end_fault[BEGIN] = 0
-        elif late != until + 1 - first.end or first.end == second.begin:
+            self.frames_by_end_fault[BEGIN] = 0
+        elif late != last_frame + 1 - first.end or first.end == second.begin:
             return
-        self.by_index[0] = Cause(0, LATE, late, page, None, "", max(frame, first.begin + late))
+        self.cause_by_index[0] = Cause(0, LATE, late, page, None, "",
+                                       max(frame, first.begin + late))
 
     def compare_after(self, frame: int) -> None:
         """Compare the decoded pages with the expected pages after `frame`, the last judged frame,
@@ -423,7 +433,7 @@ class Causes:
         for span in self.finder.split_frames(first, last):
             if not self.finder.is_expected_page(span.first):
                 place = self.add_span(self.finder.find_owner(span.first), span)
-                self.by_end_fault.setdefault(number, place)
+                self.frames_by_end_fault.setdefault(number, place)
 
     def classify_subtitle(self, place: int) -> Cause:
         cause = self.finder.find_cause(place, self.pending[place])
@@ -432,32 +442,33 @@ class Causes:
                 and begin < self.find_covered_span().first:
             # The subtitle is not certainly late: its page may have been sent before the recording.
             cause = self.finder.classify_later_fault(place, self.pending[place])
-        is_before = cause.name == EARLY and self.by_end_fault.get(BEGIN) == place
+        is_before = cause.name == EARLY and self.frames_by_end_fault.get(BEGIN) == place
         return cause._replace(details=SENT_BEFORE_CUT) if is_before else cause
 
     def find_cause(self, number: int, frame: int) -> Cause | None:
         """Return the cause of a fault in a frame, if it has one."""
         if number == CONTENT:
-            return self.by_index.get(self.finder.find_owner(frame))
-        edge = self.by_end_fault.get(number)
-        return None if edge is None else self.by_index.get(edge)
+            return self.cause_by_index.get(self.finder.find_owner(frame))
+        edge = self.frames_by_end_fault.get(number)
+        return None if edge is None else self.cause_by_index.get(edge)
 
-    def ended_early(self, place: int) -> bool:
+    def was_replaced_early(self, place: int) -> bool:
         """Return whether a subtitle was sent early and the recording has the page after it."""
-        cause = self.by_index.get(place)
+        cause = self.cause_by_index.get(place)
         if cause is None or cause.name != EARLY:
             return False
-        came = self.expected.begins[place] - (cause.frames or 0)
-        return self.timeline.number_at(came) + 1 < len(self.timeline.frames)
+        sent_frame = self.expected.begins[place] - (cause.frames or 0)
+        return self.timeline.find_page_number_at(sent_frame) + 1 < len(self.timeline.frames)
 
     def list_causes(self) -> list[Cause]:
         """Return all causes in the order of the subtitles."""
-        return [self.by_index[place] for place in sorted(self.by_index)]
+        return [self.cause_by_index[place] for place in sorted(self.cause_by_index)]
 
 
 def count_causes(several: Iterable[Causes]) -> dict[str, int]:
     """Return the number of causes with each name in several parts."""
-    counted = collections.Counter(cause.name for one in several for cause in one.by_index.values())
+    counted = collections.Counter(cause.name for item in several
+                                  for cause in item.cause_by_index.values())
     return {name: counted[name] for name in CAUSE_NAMES}
 
 
@@ -471,14 +482,14 @@ class CauseDescriber:
     def __init__(self, causes: Causes, option: str) -> None:
         self.causes, self.subtitles = causes, causes.expected.subtitles
         self.pages = causes.expected.pages
-        self.option = BY_WORD[option].bits
+        self.option = OPTION_BY_WORD[option].bits
 
     def make_json(self, cause: Cause) -> Members:
         subtitle = self.subtitles[cause.subtitle_index]
         other = None if cause.other_index is None else self.subtitles[cause.other_index]
         return {
             "subtitle": {"position": subtitle.index, "number": subtitle.number,
-                         "begin": time_of(subtitle.begin), "end": time_of(subtitle.end)},
+                         "begin": format_frame(subtitle.begin), "end": format_frame(subtitle.end)},
             "name": cause.name, "frames": cause.frames,
             "expected_text": self.format_expected_text(cause),
             "decoded_text": None if cause.sent_page is None
@@ -496,7 +507,7 @@ class CauseDescriber:
         subtitle = self.subtitles[cause.subtitle_index]
         if cause.name == TEXT_IN_PAUSE:  # not a fault of the subtitle before the pause
             return f"{LINE_PREFIX}{self.describe(cause)}"
-        return (f'{LINE_PREFIX}{subtitle.name} at {time_of(subtitle.begin)}, '
+        return (f'{LINE_PREFIX}{subtitle.name} at {format_frame(subtitle.begin)}, '
                 f'"{self.format_expected_text(cause)}": {self.describe(cause)}')
 
     def describe(self, cause: Cause, has_text: bool = True) -> str:
@@ -506,7 +517,7 @@ class CauseDescriber:
         if cause.name in (LATE, EARLY):
             words += f" by {counted(cause.frames or 0, 'frame')}"
         elif cause.name == NOT_ERASED:
-            words += f" at {time_of(subtitle.end)}"
+            words += f" at {format_frame(subtitle.end)}"
         elif cause.name == OTHER_TEXT:
             words += " at its time"
         if cause.name == TEXT_IN_PAUSE:
@@ -525,7 +536,7 @@ class CauseDescriber:
 
 def format_cause_counts(several: list[Causes]) -> str:
     """Return a line with the number of subtitles whose fault has a cause, in total and by cause."""
-    count = sum(len(one.by_index) for one in several)
+    count = sum(len(item.cause_by_index) for item in several)
     return f"causes of faults in {counted(count, 'subtitle')}: {list_cause_counts(several)}"
 
 

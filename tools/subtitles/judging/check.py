@@ -10,7 +10,7 @@ import shutil
 import subprocess
 from typing import BinaryIO, Callable, Iterator, NamedTuple
 
-from ..common.files import name_errors, read_chunks
+from ..common.files import add_name_to_errors, read_chunks
 from ..common.times import FRAMES_OF_A_DAY, Spans
 from ..formats.listing import (
     ENDED, FaultLine, SKIPPED_PACKETS, REFUSED, STL_FAULTS, UNDECIDED, parse_accepted_line,
@@ -106,7 +106,7 @@ class CheckOutput:
 
     def read_line(self, line: str) -> None:
         """Store one line of output, and append it to the file."""
-        with name_errors(self.path):
+        with add_name_to_errors(self.path):
             self.file.write(line.encode() + b"\n")
         self.last_line, self.is_accepted = line, False
         words = split_line(line)
@@ -114,18 +114,18 @@ class CheckOutput:
             self.read_fault(line, words)
         elif words[0] == ENDED and is_check_line(line):
             self.read_end(words)
-        elif accepted := parse_accepted_line(line):
-            self.frames, self.transmissions = accepted
+        elif accepted_line := parse_accepted_line(line):
+            self.frames, self.transmissions = accepted_line
             self.is_accepted = True
-        elif trusted := parse_trusted_line(line):
-            self.trusted_frames.add(*map(parse_place_time, trusted))
+        elif trusted_line := parse_trusted_line(line):
+            self.trusted_frames.add(*map(parse_place_time, trusted_line))
         elif self.unknown_line is None and not is_check_line(line):
             self.unknown_line = line
 
     def finish(self, status: int) -> None:
         """Close the file, and store the exit status of `check`. Raise `IncompleteAnswer` if there
         is no verdict."""
-        with name_errors(self.path):
+        with add_name_to_errors(self.path):
             self.file.close()
         self.exit_status = status
         if self.verdict == NOT_JUDGED:
@@ -135,7 +135,7 @@ class CheckOutput:
 
     def close_file(self) -> None:
         """Close the file before `check` has ended. The list remains incomplete."""
-        with name_errors(self.path):
+        with add_name_to_errors(self.path):
             self.file.close()
 
     @functools.cached_property
@@ -157,7 +157,7 @@ class CheckOutput:
 
     def move_file(self, path: str) -> None:
         """Move the file with the output lines to another path."""
-        with name_errors(path):
+        with add_name_to_errors(path):
             shutil.move(self.path, path)
         self.path = path
 
@@ -184,14 +184,14 @@ class CheckOutput:
 
     def copy_without(self, number: int, path: str) -> CheckOutput:
         """Return a copy of this output at `path`, without the faults that have this number."""
-        made = CheckOutput(path)
+        output = CheckOutput(path)
         for line in self.read_lines():
             if parse_count_line(line) is not None:
-                made.read_line(f"{made.fault_count} faults")
+                output.read_line(f"{output.fault_count} faults")
             elif parse_fault_number(line) != number:
-                made.read_line(line)
-        made.finish(self.exit_status or 0)
-        return made
+                output.read_line(line)
+        output.finish(self.exit_status or 0)
+        return output
 
     @property
     def line(self) -> str:
@@ -243,7 +243,7 @@ def check_file_alone(request: Request, program: str, names: OutputNames) -> Chec
     """Check the subtitle file without PES packets; print nothing."""
     return run_check([program, "check", *request.check_arguments(True), "--all", "--",
                       names.program_stl, NO_PES],
-                     CheckOutput(names.temporary_path("alone.txt")), lambda line: None)
+                     CheckOutput(names.make_temporary_path("alone.txt")), lambda line: None)
 
 
 def report_file_check(request: Request, command_paths: CommandPaths, listener: Listener) -> None:

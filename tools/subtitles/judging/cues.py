@@ -8,11 +8,11 @@ from typing import Iterator, NamedTuple, Sequence
 
 from ..common.command_line import counted
 from ..common.shapes import Members
-from ..common.times import Span, join_spans, pts_of, ticks_between, time_of, wrap_pts
-from ..formats.listing import BEGIN, FaultLine, STL_FAULTS, WITH_CAUSE
+from ..common.times import Span, format_frame, join_spans, pts_of, subtract_pts, wrap_pts
+from ..formats.listing import BEGIN, FAULTS_WITH_CAUSE, FaultLine, STL_FAULTS
 from ..formats.stl import COMMENT, LAST_BLOCK, NamedSubtitle, Subtitle, SubtitleFile, USER_DATA, \
     decode_subtitles
-from ..formats.teletext import BY_WORD, decode_text
+from ..formats.teletext import OPTION_BY_WORD, decode_text
 from ..stream.receiver import BLANK_PAGE, Rows, Timeline
 from .causes import (
     Cause, CauseDescriber, EARLY, LATE, NOT_RECEIVED, OTHER_TEXT, UNKNOWN_CAUSE, WRONG_ATTRIBUTE,
@@ -54,7 +54,7 @@ def find_cues(part: Part) -> Iterator[Cue]:
     expected, causes = part.expected_pages(), part.causes
     timeline = causes.timeline if causes else part.decoded_pages
     for place, (subtitle, page) in enumerate(zip(expected.subtitles, expected.pages)):
-        cue = Cue(subtitle, page, causes.by_index.get(place) if causes else None)
+        cue = Cue(subtitle, page, causes.cause_by_index.get(place) if causes else None)
         delay = part.delays[place] if part.delays else 0
         yield find_decoded_times(cue, place, expected, timeline, delay) if timeline else cue
 
@@ -66,11 +66,12 @@ def find_decoded_times(cue: Cue, place: int, expected: ExpectedPages, timeline: 
     number = find_page_number(cue, expected, timeline, delay)
     if number is None:
         return cue
-    subtitle, page, (first, last) = cue.subtitle, timeline.pages[number], timeline.page_span(number)
+    subtitle, page, (first,
+                     last) = cue.subtitle, timeline.pages[number], timeline.get_page_span(number)
     while last + 1 < subtitle.end and number + 1 < len(timeline.pages) and is_variant(
             timeline.pages[number + 1], page, expected):
         number += 1
-        last = timeline.page_span(number).last
+        last = timeline.get_page_span(number).last
     before, after = expected.subtitles[place - 1:place], expected.subtitles[place + 1:place + 2]
     begin: int | None = first
     if place and before[0].end == subtitle.begin and expected.pages[place - 1] == page:
@@ -95,18 +96,18 @@ def find_page_number(cue: Cue, expected: ExpectedPages, timeline: Timeline,
     cause, (begin, end) = cue.cause, (cue.subtitle.begin, cue.subtitle.end)
     if cause and cause.name in (LATE, EARLY):
         frame = begin + (cause.frames or 0) * (1 if cause.name == LATE else -1)
-        number = timeline.number_at(max(frame, timeline.first))
+        number = timeline.find_page_number_at(max(frame, timeline.first))
         return number if number >= 0 else None
-    number = timeline.number_at(max(begin + (delay or 0), min(timeline.first, end - 1)))
+    number = timeline.find_page_number_at(max(begin + (delay or 0), min(timeline.first, end - 1)))
     if number >= 0 and timeline.pages[number] == cue.expected:
         return number
     sent = cause.sent_page if cause and cause.name in REPLACING_CAUSES else None
     if sent is not None and sent != BLANK_PAGE:
         frames = [frame for frame in timeline.page_frames.get(sent, ()) if frame < end
-                  and timeline.page_span(timeline.number_at(frame)).last >= begin]
+                  and timeline.get_page_span(timeline.find_page_number_at(frame)).last >= begin]
         if frames:
-            return timeline.number_at(min(frames, key=lambda frame: abs(frame - begin)))
-    return next((number for number in timeline.page_numbers(begin, end)
+            return timeline.find_page_number_at(min(frames, key=lambda frame: abs(frame - begin)))
+    return next((number for number in timeline.list_page_numbers(begin, end)
                  if is_variant(timeline.pages[number], cue.expected, expected)), None) \
         if cause else None
 
@@ -114,10 +115,10 @@ def find_page_number(cue: Cue, expected: ExpectedPages, timeline: Timeline,
 def is_variant(page: Rows, decoded: Rows, expected: ExpectedPages) -> bool:
     """Return whether `page` is a damaged or corrected repeat of the page `decoded`. Most characters
     must be equal, and `page` must not be the expected page of any subtitle."""
-    if page == decoded or page in expected.by_page:
+    if page == decoded or page in expected.positions_by_page:
         return page == decoded
-    differing: int = sum(map(operator.ne, b"".join(page), b"".join(decoded)))
-    return 2 * differing < sum(code > SPACE for code in b"".join(decoded))
+    differing_cells: int = sum(map(operator.ne, b"".join(page), b"".join(decoded)))
+    return 2 * differing_cells < sum(code > SPACE for code in b"".join(decoded))
 
 
 RIGHT, WRONG, WAIVED, NOT_KNOWN = "right", "wrong", "waived", "not known"
@@ -139,15 +140,15 @@ class CueJudge:
     def __init__(self, part: Part, severity: Severity) -> None:
         self.part, self.severity = part, severity
         self.wording = CauseDescriber(part.causes, part.request.option) if part.causes else None
-        with_cause = WITH_CAUSE if part.causes else set[int]()
+        cause_numbers = FAULTS_WITH_CAUSE if part.causes else set[int]()
         self.spans = {number: join_spans([spans]) for number,
                       spans in part.check_output.fault_spans.items()
-                      if number not in with_cause | {BEGIN}}
+                      if number not in cause_numbers | {BEGIN}}
 
     @functools.cached_property
     def is_cause_waived(self) -> bool:
         """Return whether the severity file turns all faults that have a cause into warnings."""
-        numbers = WITH_CAUSE & self.part.check_output.fault_numbers
+        numbers = FAULTS_WITH_CAUSE & self.part.check_output.fault_numbers
         return bool(numbers) and not any(map(self.severity.is_error, numbers))
 
     def judge(self, cue: Cue) -> CueVerdict:
@@ -162,8 +163,9 @@ class CueJudge:
             return CueVerdict(NOT_KNOWN if unsure else RIGHT, doubt=unsure)
         is_waived = not any(map(self.severity.is_error, numbers)) and \
             (self.is_cause_waived or not words)
-        is_unsure = cue.cause and cue.cause.name in (NOT_RECEIVED, UNKNOWN_CAUSE) and not numbers
-        word = WAIVED if is_waived else NOT_KNOWN if is_unsure else WRONG
+        has_unknown_cause = cue.cause and cue.cause.name in (NOT_RECEIVED,
+                                                             UNKNOWN_CAUSE) and not numbers
+        word = WAIVED if is_waived else NOT_KNOWN if has_unknown_cause else WRONG
         return CueVerdict(word, words, numbers)
 
     def describe_doubt(self, cue: Cue) -> str:
@@ -174,25 +176,25 @@ class CueJudge:
             is_lost = any(span.first < end and begin <= span.last
                           for span in self.part.unmarked_losses)
             return NOT_ALL_RECEIVED if is_lost else ""
-        trusted = sum(min(span.last + 1, end) - max(span.first, begin)
-                      for span in self.part.trusted_frames.between(begin, end))
-        if trusted == end - begin:
+        trusted_count = sum(min(span.last + 1, end) - max(span.first, begin)
+                            for span in self.part.trusted_frames.between(begin, end))
+        if trusted_count == end - begin:
             return ""
         if cue.begin is None and cue.end is None:
             return "not received"
-        words = f"check does not trust {end - begin - trusted} of its frames"
+        words = f"check does not trust {end - begin - trusted_count} of its frames"
         return f"{words}: the out-cue is moved" if cue.delay_out else words
 
     def describe_reason(self, verdict: CueVerdict) -> str:
         """Return the reason for a verdict as text, or an empty string for a right cue."""
-        firsts = self.part.check_output.first_faults
-        faults = [f"{number} {firsts[number].name}" for number in verdict.fault_numbers]
+        faults_by_number = self.part.check_output.first_faults
+        faults = [f"{number} {faults_by_number[number].name}" for number in verdict.fault_numbers]
         also = "also " if verdict.cause and faults else ""
         return "; ".join(filter(None, [verdict.cause, also + ", ".join(faults), verdict.doubt]))
 
 
 MAX_FAULTS_READ = 20_000  # maximum number of faults to read from a subtitle file
-NEXT_IS_REFUSED = "not judged: the next subtitle is refused"
+NEXT_REFUSED = "not judged: the next subtitle is refused"
 
 
 class SubtitleFaults(NamedTuple):
@@ -206,12 +208,12 @@ class SubtitleFaults(NamedTuple):
         return not any(severity.is_error(fault.number) for fault in self.faults)
 
 
-def find_refused_subtitles(part: Part, file: SubtitleFile, beside: ValidSubtitles | None) \
+def find_refused_subtitles(part: Part, file: SubtitleFile, valid_subtitles: ValidSubtitles | None) \
         -> Iterator[SubtitleFaults]:
     """Yield the refused subtitles in a file, each with its faults. Then yield the subtitles without
-    a fault that are not judged because the next subtitle is refused. `beside` has the subtitles
-    that are judged although others are refused."""
-    left_out = set(beside.skipped_positions) if beside else set[int]()
+    a fault that are not judged because the next subtitle is refused. `valid_subtitles` has the
+    subtitles that are judged although others are refused."""
+    left_out = set(valid_subtitles.skipped_positions) if valid_subtitles else set[int]()
     faults = [fault for fault,
               _ in itertools.islice(part.check_output.read_faults(), MAX_FAULTS_READ)
               if fault.number in STL_FAULTS]
@@ -253,14 +255,16 @@ def find_recording_start(part: Part) -> int | None:
     the part, the length of the jump is left out."""
     if part.recording is None or part.pes is None:
         return None
-    clock = part.recording.survey.clock_of(part.packets.pid) if part.recording.is_stream else None
-    last, elapsed = clock[0] if clock else None, 0
-    for run in part.packets.runs_between(0, part.pes[0]):
+    clock = part.recording.survey.get_pcr_range(part.packets.pid) if part.recording.is_stream \
+        else None
+    last, elapsed_ticks = clock[0] if clock else None, 0
+    for run in part.packets.list_runs_between(0, part.pes[0]):
         if run.pts is not None and run.last is not None:
-            step = 0 if last is None else ticks_between(last, run.pts)
-            elapsed += (step if 0 <= step < LONGEST_STEP else 0) + ticks_between(run.pts, run.last)
+            step = 0 if last is None else subtract_pts(last, run.pts)
+            elapsed_ticks += (step if 0 <= step < LONGEST_STEP else 0) + subtract_pts(run.pts,
+                                                                                      run.last)
             last = run.last
-    return None if last is None else wrap_pts(last - elapsed)
+    return None if last is None else wrap_pts(last - elapsed_ticks)
 
 
 def format_recording_offset(part: Part, start: int | None, frame: int) -> str:
@@ -268,7 +272,7 @@ def format_recording_offset(part: Part, start: int | None, frame: int) -> str:
     an empty string if the beginning is unknown or later than the frame."""
     if start is None or part.origin is None:
         return ""
-    seconds = ticks_between(start, pts_of(frame, part.origin)) // 90_000
+    seconds = subtract_pts(start, pts_of(frame, part.origin)) // 90_000
     return "" if seconds < 0 else f"{seconds // 3600}:{seconds // 60 % 60:02}:{seconds % 60:02}"
 
 
@@ -276,28 +280,28 @@ def find_text_spans(timeline: Timeline) -> Iterator[Span]:
     """Yield the spans of frames in which the decoded page has text."""
     for number, page in enumerate(timeline.pages):
         if page != BLANK_PAGE:
-            yield timeline.page_span(number)
+            yield timeline.get_page_span(number)
 
 
-def make_subtitle_rows(part: Part, severity: Severity, beside: ValidSubtitles | None) \
+def make_subtitle_rows(part: Part, severity: Severity, valid_subtitles: ValidSubtitles | None) \
         -> Iterator[Members]:
     """Yield the JSON value of each subtitle in a part, in the order of the file."""
-    rows = [*make_judged_rows(part, severity), *make_refused_rows(part, severity, beside)]
+    rows = [*make_judged_rows(part, severity), *make_refused_rows(part, severity, valid_subtitles)]
     yield from sorted(rows, key=lambda row: int(row["position"]))
 
 
 def make_judged_rows(part: Part, severity: Severity) -> Iterator[Members]:
     """Yield the JSON values of the judged subtitles."""
-    judge, option = CueJudge(part, severity), BY_WORD[part.request.option].bits
+    judge, option = CueJudge(part, severity), OPTION_BY_WORD[part.request.option].bits
     start = find_recording_start(part)
     for place, cue in enumerate(find_cues(part)):
         subtitle, verdict = cue.subtitle, judge.judge(cue)
         yield {
             "part": part.number, "position": subtitle.index, "number": subtitle.number,
             "recording_offset": format_recording_offset(part, start, subtitle.begin) or None,
-            "expected_in": time_of(subtitle.begin), "expected_out": time_of(subtitle.end),
-            "actual_in": None if cue.begin is None else time_of(cue.begin),
-            "actual_out": None if cue.end is None else time_of(cue.end),
+            "expected_in": format_frame(subtitle.begin), "expected_out": format_frame(subtitle.end),
+            "actual_in": None if cue.begin is None else format_frame(cue.begin),
+            "actual_out": None if cue.end is None else format_frame(cue.end),
             "delay_in": cue.delay_in, "delay_out": cue.delay_out,
             "expected_text": format_page_text(cue.expected, option),
             "decoded_text": None if cue.decoded is None else format_page_text(cue.decoded, option),
@@ -307,27 +311,27 @@ def make_judged_rows(part: Part, severity: Severity) -> Iterator[Members]:
         for subtitle in decode_subtitles(part.open_subtitle_file().data):
             text = " / ".join(map(decode_text, subtitle.text.split(b"\x8a")))
             yield make_file_row(part, NamedSubtitle(
-                subtitle.index, subtitle.number, time_of(subtitle.begin), time_of(subtitle.end)),
-                RIGHT, None, text)
+                subtitle.index, subtitle.number, format_frame(subtitle.begin),
+                format_frame(subtitle.end)), RIGHT, None, text)
 
 
-def make_refused_rows(part: Part, severity: Severity, beside: ValidSubtitles | None) \
+def make_refused_rows(part: Part, severity: Severity, valid_subtitles: ValidSubtitles | None) \
         -> Iterator[Members]:
     """Yield the JSON values of the subtitles that are not judged because of faults in the file."""
     file = SubtitleFile(part.names.program_stl, part.request.between)
-    for refused in find_refused_subtitles(part, file, beside):
-        if refused.subtitle and (refused.faults or beside):
+    for refused in find_refused_subtitles(part, file, valid_subtitles):
+        if refused.subtitle and (refused.faults or valid_subtitles):
             word = NOT_KNOWN if not refused.faults else \
                 WAIVED if refused.is_waived(severity) else WRONG
-            reason = "; ".join(fault.line for fault in refused.faults) or NEXT_IS_REFUSED
+            reason = "; ".join(fault.line for fault in refused.faults) or NEXT_REFUSED
             yield make_file_row(part, refused.subtitle, word, reason, None)
 
 
 def make_file_row(part: Part, subtitle: NamedSubtitle, verdict: str, reason: str | None,
                   text: str | None) -> Members:
     """Return the JSON value of a subtitle that was not compared with the recording."""
-    unknown = dict.fromkeys(("recording_offset", "actual_in", "actual_out", "delay_in",
-                             "delay_out", "decoded_text", "complete_after"))
+    unknown_values = dict.fromkeys(("recording_offset", "actual_in", "actual_out", "delay_in",
+                                    "delay_out", "decoded_text", "complete_after"))
     return {"part": part.number, "position": subtitle.position, "number": subtitle.number,
             "expected_in": subtitle.begin, "expected_out": subtitle.end, "expected_text": text,
-            "verdict": verdict, "reason": reason, **unknown}
+            "verdict": verdict, "reason": reason, **unknown_values}

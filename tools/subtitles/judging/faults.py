@@ -4,20 +4,21 @@ from __future__ import annotations
 import itertools
 from typing import Iterator, NamedTuple, Sequence
 
-from ..clock.start import find_largest_offset, largest_offset_text
+from ..clock.start import describe_largest_offset, find_largest_offset
 from ..common.command_line import counted, was
 from ..common.shapes import Members
-from ..common.times import frame_at, frame_of, time_of
+from ..common.times import find_frame_of_day, format_frame, parse_frame
 from ..formats.listing import (
-    BEGIN, CHARACTER, CONTENT, CONTROL, DISPLAY, EMPTY_TIME, END, FaultLine, GAP, LETTERS,
-    NamedFault, OFF_FRAME, OUT_OF_ORDER, PARITY, SKIPPED_PACKETS, SILENT, STL_FAULTS, WITH_CAUSE,
-    read_meanings, read_named_meanings, remove_markup)
-from ..formats.stl import NamedSubtitle, NEW_LINE, SubtitleFile, subtitle_name
-from ..formats.teletext import BY_WORD, decode_character, character_bytes, character_table
+    BEGIN, CHARACTER, CONTENT, CONTROL, DISPLAY, EMPTY_TIME, END, FaultLine, GAP, TEXT_FAULTS,
+    NamedFault, OFF_FRAME, OUT_OF_ORDER, PARITY, SKIPPED_PACKETS, SILENT, STL_FAULTS,
+    FAULTS_WITH_CAUSE, read_meanings, read_named_meanings, remove_markup)
+from ..formats.stl import NamedSubtitle, NEW_LINE, SubtitleFile, format_subtitle_name
+from ..formats.teletext import (
+    OPTION_BY_WORD, decode_character, read_character_bytes, make_character_table)
 from ..request.request import Request
 from ..stream.gaps import explain_refusal
-from ..stream.pace import frame_rows
-from ..stream.repeats import cue_frames, longest_gap, repeat_distance
+from ..stream.pace import list_frame_rows
+from ..stream.repeats import find_longest_gap, list_cue_frames, repeat_distance
 from ..stream.packets import HEADER, PacketRun, Packets
 from ..stream.receiver import HIT, OLD, Rows, Timeline
 from .causes import CauseDescriber
@@ -46,22 +47,22 @@ def find_fault_place(fault: FaultLine, packets: Packets, timeline: Timeline | No
     """Return the place of a transmission fault. If a frame has several PES packets and `expected`,
     the expected page, is given, choose the last packet after which the faulty cell is wrong."""
     if fault.pes is not None:
-        return FaultPlace(fault.pes, packets.pts_at(fault.pes), None)
+        return FaultPlace(fault.pes, packets.get_pts(fault.pes), None)
     if fault.frame is None or timeline is None:
         return NO_PLACE
-    members = timeline.runs_in_frame(fault.frame)
+    members = timeline.list_frame_runs(fault.frame)
     if not members:
-        return FaultPlace(None, None, timeline.state_at(fault.frame).rows)
+        return FaultPlace(None, None, timeline.get_state_at(fault.frame).rows)
     # Without --within, fault 73 is reported for the first PES packet in a frame.
     if not timeline.within and fault.number == GAP:
         members = members[:1]
     if expected:
-        members = [next((one for one in reversed(members)
+        members = [next((member for member in reversed(members)
                          if find_fault_code(fault, expected) != find_fault_code(
-            fault, timeline.state_after(one.first).rows)), members[-1])]
+            fault, timeline.get_state_after(member.first).rows)), members[-1])]
     run = members[-1] if fault.packet is None else find_pes_packet(members, fault.packet)
-    return FaultPlace(run.first, run.pts, timeline.state_after(members[-1].first).rows,
-                 find_page_headers(run, timeline.state_after(run.first - 1))
+    return FaultPlace(run.first, run.pts, timeline.get_state_after(members[-1].first).rows,
+                 find_page_headers(run, timeline.get_state_after(run.first - 1))
                       if fault.number == CONTROL else ())
 
 
@@ -122,7 +123,7 @@ def describe_hint(fault: FaultLine, part: Part, verdict: Verdict) -> str:
     if part.pes is None or part.origin is None:
         return ""
     if fault.number == OFF_FRAME:
-        return largest_offset_text(find_largest_offset(part.list_pts(), part.origin))
+        return describe_largest_offset(find_largest_offset(part.list_pts(), part.origin))
     if fault.number == SILENT:
         return describe_silence(fault, part)
     if fault.number == GAP:
@@ -155,7 +156,7 @@ def describe_subtitle_at(frame: int, part: Part) -> str:
     count, is_due = due.count_begun(frame)
     if not is_due:
         return f"the page after {due.subtitles[count - 1].name}" if count else "the page"
-    text = format_page_text(due.pages[count - 1], BY_WORD[part.request.option].bits)
+    text = format_page_text(due.pages[count - 1], OPTION_BY_WORD[part.request.option].bits)
     return f'{due.subtitles[count - 1].name}, "{text}",'
 
 
@@ -164,17 +165,19 @@ def describe_parity_fault(fault: FaultLine, part: Part) -> str:
     rows = find_fault_place(fault, part.packets, part.decoded_pages).rows
     if fault.frame is None or rows is None:
         return ""
-    due = part.expected_pages().page_at(fault.frame)
-    codes = [code for cells, wanted in zip(rows, due) for cell, code in zip(cells, wanted)
+    due = part.expected_pages().get_page_at(fault.frame)
+    codes = [code
+             for cells, expected_row in zip(rows, due) for cell, code in zip(cells, expected_row)
              if cell == HIT]
     code = next((code for code in codes if code > SPACE), codes[0] if codes else None)
     if code is None:
-        what = "a byte"
+        subject = "a byte"
     elif code > SPACE:
-        what = f'the character "{character_table(BY_WORD[part.request.option].bits)[code]}"'
+        subject = 'the character ' \
+            f'"{make_character_table(OPTION_BY_WORD[part.request.option].bits)[code]}"'
     else:
-        what = f"a byte ({describe_code(code)})"
-    return f"{what} of {describe_subtitle_at(fault.frame, part)} has even parity"
+        subject = f"a byte ({describe_code(code)})"
+    return f"{subject} of {describe_subtitle_at(fault.frame, part)} has even parity"
 
 
 def describe_pid_end(part: Part) -> str:
@@ -186,16 +189,19 @@ def describe_pid_end(part: Part) -> str:
 def describe_unrecorded(fault: FaultLine, part: Part) -> str:
     """Describe how many subtitles were not recorded, and which option judges only the others."""
     frame, subtitles = fault.frame, part.expected_pages().subtitles
-    if frame is None or not subtitles or part.causes and fault.number in part.causes.by_end_fault:
+    if frame is None or not subtitles or part.causes \
+            and fault.number in part.causes.frames_by_end_fault:
         return ""
     if fault.number == BEGIN:
-        left = [one for one in subtitles if one.begin < frame]
-        option = [f"--from {time_of(one.begin)}" for one in subtitles if one.begin >= frame][:1]
+        left = [item for item in subtitles if item.begin < frame]
+        option = [f"--from {format_frame(item.begin)}" for item in subtitles
+                  if item.begin >= frame][:1]
     else:
-        left = [one for place, one in enumerate(subtitles)
-                if one.end > frame and not (part.causes and part.causes.ended_early(place))]
-        option = [f"--to {time_of(one.end + 1)}" for one, other in zip(subtitles, subtitles[1:])
-                  if one.end <= frame and one.end < other.begin][-1:]
+        left = [item for place, item in enumerate(subtitles)
+                if item.end > frame and not (part.causes and part.causes.was_replaced_early(place))]
+        option = [f"--to {format_frame(item.end + 1)}"
+                  for item, other in zip(subtitles, subtitles[
+                  1:]) if item.end <= frame and item.end < other.begin][-1:]
     if not left:
         return ""
     words = f"{len(left):,} of {counted(len(subtitles), 'subtitle')} " \
@@ -208,7 +214,7 @@ def describe_block_subtitle(fault: FaultLine, subtitles: SubtitleFile) -> str:
     subtitle = subtitles.find_by_block(fault.block) if fault.block else None
     if subtitle is None or not fault.block:
         return ""
-    name = subtitle_name(subtitle.position, subtitle.number)
+    name = format_subtitle_name(subtitle.position, subtitle.number)
     return f'{name} at {subtitle.begin}, "{format_stored_text(subtitles.text(fault.block))}"'
 
 
@@ -218,10 +224,10 @@ def format_stored_text(text: bytes) -> str:
     for line in text.split(NEW_LINE):
         at, characters = 0, ""
         while at < len(line):
-            letter = character_bytes(line, at)
-            characters += (decode_character(letter) or "") if line[at] > SPACE else " " * (
+            character = read_character_bytes(line, at)
+            characters += (decode_character(character) or "") if line[at] > SPACE else " " * (
                 line[at] == SPACE)
-            at += len(letter)
+            at += len(character)
         lines += [characters.strip()] * bool(characters.strip())
     return " / ".join(lines)
 
@@ -239,10 +245,11 @@ def describe_silence(fault: FaultLine, part: Part) -> str:
             or fault.frame is None:
         return ""
     before = fault.frame - request.pace
-    after = next((frame for row in frame_rows(part.packets, pes, origin, request.within)
+    after = next((frame for row in list_frame_rows(part.packets, pes, origin, request.within)
                   for frame in row if frame > before), None)
     return "" if after is None else \
-        f"no PES packet for {counted(after - before - 1, 'frame')} from {time_of(before + 1)} on"
+        f"no PES packet for {counted(after - before - 1, 'frame')} from " \
+        f"{format_frame(before + 1)} on"
 
 
 def describe_longest_gap(sent: tuple[Sequence[int], Sequence[int]], origin: int, request: Request,
@@ -253,14 +260,15 @@ def describe_longest_gap(sent: tuple[Sequence[int], Sequence[int]], origin: int,
     `sent` has the PTS of the page headers, and a list with the last PTS. `numbers` has the numbers
     of all faults, and `times` the TCI and TCO of each subtitle.
     """
-    headers, last = ([frame for pts in some if (frame := frame_at(pts, origin, request.within))
-                      is not None] for some in sent)
+    headers, last = ([frame for pts in some
+                      if (frame := find_frame_of_day(pts, origin, request.within)) is not None]
+                     for some in sent)
     end = last[0] + 1 if last else 0
-    gap = longest_gap([*headers, end] if headers and end > headers[-1] else headers)
+    gap = find_longest_gap([*headers, end] if headers and end > headers[-1] else headers)
     if gap <= request.every or numbers & SKIPPED_PACKETS:
         return ""
     words = f"the page had no header for up to {counted(gap, 'frame')}"
-    usual = repeat_distance(headers, cue_frames(times))
+    usual = repeat_distance(headers, list_cue_frames(times))
     return f"{words} (usually {usual})" if usual and usual <= request.every else words
 
 
@@ -269,7 +277,7 @@ class PartFaults:
 
     def __init__(self, verdict: Verdict, part: Part) -> None:
         self.verdict, self.part, self.request = verdict, part, verdict.request
-        self.letters: list[str] = character_table(BY_WORD[self.request.option].bits)
+        self.letters: list[str] = make_character_table(OPTION_BY_WORD[self.request.option].bits)
         self.read_meanings = {number: (remove_markup(meaning.meaning),
                                        remove_markup(meaning.remedy))
                          for number, meaning in read_meanings().items()}
@@ -283,22 +291,23 @@ class PartFaults:
     def make_fault(self, fault: FaultLine, end: FaultEnd) -> Members:
         """Return the JSON value of a fault, with details."""
         is_stl = fault.number in STL_FAULTS
-        due = self.part.expected_pages().page_at(fault.frame) if fault.number == CONTENT and \
+        due = self.part.expected_pages().get_page_at(fault.frame) if fault.number == CONTENT and \
             fault.frame is not None else None
         place = NO_PLACE if is_stl else find_fault_place(
             fault, self.part.packets, self.part.decoded_pages, due)
         byte, character = self.subtitles.describe_byte(fault.block, fault.at) \
-            if fault.number in LETTERS and fault.block and fault.at is not None else (None, None)
+            if fault.number in TEXT_FAULTS and fault.block and fault.at is not None else (None,
+                                                                                          None)
         subtitle = self.find_subtitle(fault)
-        means, do = self.read_meanings.get(fault.number, ("", ""))
+        meaning, remedy = self.read_meanings.get(fault.number, ("", ""))
         if fault.number == CHARACTER and fault.block and fault.at is not None:
-            do = self.character_advice.advise(fault.block, fault.at) or do
+            remedy = self.character_advice.advise(fault.block, fault.at) or remedy
         if fault.number == DISPLAY:
-            do = describe_open_option(self.subtitles) or do
+            remedy = describe_open_option(self.subtitles) or remedy
         if fault.number == CONTENT:
-            do = self.part.drawing_differences or do
-        do = advise_on_midnight(fault, self.subtitles) or do
-        means = describe_header_faults(place.headers, self.request) or means
+            remedy = self.part.drawing_differences or remedy
+        remedy = advise_on_midnight(fault, self.subtitles) or remedy
+        meaning = describe_header_faults(place.headers, self.request) or meaning
         return {
             "part": self.part.number, "line": fault.line, "number": fault.number,
             "name": fault.name, "severity": self.verdict.severity.classify(fault.number),
@@ -310,13 +319,13 @@ class PartFaults:
             "frame": fault.frame, "time": fault.time, "row": fault.row, "column": fault.column,
             "expected": self.make_cell(due, fault),
             "decoded": self.make_cell(place.rows, fault) if fault.number == CONTENT else None,
-            "last_time": end.time, "last_pes": end.pes, "meaning": means, "remedy": do,
+            "last_time": end.time, "last_pes": end.pes, "meaning": meaning, "remedy": remedy,
             "cause": self.make_cause(fault),
         }
 
     def make_cause(self, fault: FaultLine) -> Members | None:
         """Return the cause of a fault with number 63, 72 or 74, if it has one, as a JSON value."""
-        if self.wording is None or fault.number not in WITH_CAUSE or fault.frame is None:
+        if self.wording is None or fault.number not in FAULTS_WITH_CAUSE or fault.frame is None:
             return None
         cause = self.wording.causes.find_cause(fault.number, fault.frame)
         return self.wording.make_json(cause) if cause else None
@@ -331,8 +340,8 @@ class PartFaults:
         """Return the time code of a PTS, if a frame starts there."""
         if pts is None or self.part.origin is None:
             return None
-        frame = frame_at(pts, self.part.origin, self.request.within)
-        return None if frame is None else time_of(frame)
+        frame = find_frame_of_day(pts, self.part.origin, self.request.within)
+        return None if frame is None else format_frame(frame)
 
     def make_cell(self, rows: Rows | None, fault: FaultLine) -> Members | None:
         """Return the JSON value of the cell that a fault refers to, if it is known."""
@@ -359,7 +368,7 @@ def make_named_fault(verdict: Verdict, fault: NamedFault) -> Members:
     """Return the JSON value of a fault without a number, with details."""
     part = next((part for part in verdict.parts if part.number == fault.part), None)
     file = part.open_subtitle_file() if part else None
-    frame = frame_of(fault.time) if fault.time else None
+    frame = parse_frame(fault.time) if fault.time else None
     subtitle = None if file is None else file.find_by_block(fault.block) \
         if fault.block is not None else file.find_by_frame(frame) if frame is not None else None
     meaning = read_named_meanings().get(fault.name)

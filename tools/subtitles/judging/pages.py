@@ -6,10 +6,10 @@ import functools
 from typing import Iterator, NamedTuple, Sequence
 
 from ..common.command_line import counted
-from ..common.times import time_of
+from ..common.times import format_frame
 from ..formats.listing import NamedFault, NOT_SHOWN
 from ..formats.stl import Subtitle, SubtitleFile
-from ..formats.teletext import BY_WORD, NationalOption, character_table
+from ..formats.teletext import NationalOption, OPTION_BY_WORD, make_character_table
 from ..recording.notices import Notice
 from ..stream.layout import find_sent_subtitles
 from ..stream.receiver import Rows, Timeline
@@ -39,14 +39,14 @@ class TextRow(NamedTuple):
 @functools.lru_cache(maxsize=1 << 12)
 def find_text_rows(rows: Rows) -> tuple[TextRow, ...]:
     """Return the rows of a page that contain characters."""
-    lettered = []
+    text_rows = []
     for number, row in enumerate(rows, 1):
         words = row.translate(SPACES)
         if words.strip():
             column = len(words) - len(words.lstrip())
             attributes = bytes(code for code in row if code < SPACE)
-            lettered.append(TextRow(number, column, words.strip(), attributes))
-    return tuple(lettered)
+            text_rows.append(TextRow(number, column, words.strip(), attributes))
+    return tuple(text_rows)
 
 
 def join_page_text(rows: Rows) -> str:
@@ -57,7 +57,7 @@ def join_page_text(rows: Rows) -> str:
 def format_page_text(rows: Rows, option: int) -> str:
     """Return the text of a page, with slashes between rows. `option` is the number of the national
     option that selects the characters."""
-    table = character_table(option)
+    table = make_character_table(option)
     return " / ".join("".join(table[code & 0x7F] for code in line.text)
                       for line in find_text_rows(rows))
 
@@ -115,7 +115,7 @@ def describe_row_ends(due: bytes, sent: bytes) -> str:
     (first, end), (begins, ends) = find_extent(due), find_extent(sent)
     words = [] if begins == first else [describe_columns("begins", begins - first)]
     words += [] if ends == end else [describe_columns("ends", ends - end)]
-    return "".join(f", {one}" for one in words)
+    return "".join(f", {word}" for word in words)
 
 
 def find_extent(row: bytes) -> tuple[int, int]:
@@ -123,10 +123,10 @@ def find_extent(row: bytes) -> tuple[int, int]:
     return len(row) - len(row.lstrip(b" ")), len(row.rstrip(b" "))
 
 
-def describe_columns(what: str, columns: int) -> str:
+def describe_columns(subject: str, columns: int) -> str:
     """Return text such as `begins a column early`. A positive number of columns means `late`."""
     count = "a column" if abs(columns) == 1 else counted(abs(columns), "column")
-    return f"{what} {count} {'late' if columns > 0 else 'early'}"
+    return f"{subject} {count} {'late' if columns > 0 else 'early'}"
 
 
 def is_text_moved(due: Rows, sent: Rows) -> bool:
@@ -135,8 +135,8 @@ def is_text_moved(due: Rows, sent: Rows) -> bool:
     rows, other = find_text_rows(due), find_text_rows(sent)
     if [line.row for line in rows] != [line.row for line in other]:
         return True
-    same = [line.attributes for line in rows] == [line.attributes for line in other]
-    return same and [line.column for line in rows] != [line.column for line in other]
+    has_same_attributes = [line.attributes for line in rows] == [line.attributes for line in other]
+    return has_same_attributes and [line.column for line in rows] != [line.column for line in other]
 
 
 def describe_extra_rows(due: Rows, sent: Rows) -> str:
@@ -154,7 +154,7 @@ def describe_extra_rows(due: Rows, sent: Rows) -> str:
 
 def is_partial_page(sent: Rows, due: Rows) -> bool:
     """Return whether a page has only some of the rows of another page."""
-    return all(row == wanted or not row.strip() for row, wanted in zip(sent, due))
+    return all(row == expected_row or not row.strip() for row, expected_row in zip(sent, due))
 
 
 class CodedRow(NamedTuple):
@@ -182,13 +182,14 @@ def describe_drawing_differences(subtitles: Sequence[Subtitle], pages: Sequence[
                                  held: Timeline, option: NationalOption) -> str:
     """Describe how many subtitles have the correct characters in a different layout, and the
     difference in the first of them. `held` has the decoded pages."""
-    differing = [(subtitle, page, sent.rows) for subtitle, page in zip(subtitles, pages)
-                 for sent in find_sent_subtitles([subtitle], held, option) if sent.rows != page]
-    if not differing:
+    differing_subtitles = [(subtitle, page, sent.rows) for subtitle, page in zip(subtitles, pages)
+                           for sent in find_sent_subtitles([subtitle], held, option)
+                           if sent.rows != page]
+    if not differing_subtitles:
         return ""
-    subtitle, page, rows = differing[0]
-    others = f" and {counted(len(differing) - 1, 'more subtitle')} have" \
-        if len(differing) > 1 else " has"
+    subtitle, page, rows = differing_subtitles[0]
+    others = f" and {counted(len(differing_subtitles) - 1, 'more subtitle')} have" \
+        if len(differing_subtitles) > 1 else " has"
     return f"{subtitle.name}{others} the right text in another layout: " \
         f"{describe_row_difference(page, rows)}"
 
@@ -204,9 +205,10 @@ def describe_row_difference(due: Rows, sent: Rows) -> str:
     words = [
         f"row {other.row} instead of {row.row}" if other.row != row.row else f"row {row.row}",
         *([f"column {other.column} instead of {row.column}"] * (other.column != row.column)),
-        *(f"{format_codes(its)} {where} the text instead of {format_codes(own)}"
-          for where, own, its in (("before", row.codes_before, other.codes_before),
-                                  ("after", row.codes_after, other.codes_after)) if own != its),
+        *(f"{format_codes(other_codes)} {position} the text instead of {format_codes(own_codes)}"
+          for position, own_codes, other_codes in (("before", row.codes_before, other.codes_before),
+                                                   ("after", row.codes_after, other.codes_after))
+          if own_codes != other_codes),
         *(["other codes within the text"] * (other.characters != row.characters))]
     return ", ".join(words)
 
@@ -222,7 +224,8 @@ def format_codes(codes: bytes) -> str:
 
 START_BOX, END_BOX, BLACK_BACKGROUND, NEW_BACKGROUND = 0x0B, 0x0A, 0x1C, 0x1D
 WHITE, BLACK = 7, 0
-HIDING = bytes((START_BOX, END_BOX, NEW_BACKGROUND))  # codes that may hide characters of a text
+# codes that may hide characters of a text
+HIDING_CODES = bytes((START_BOX, END_BOX, NEW_BACKGROUND))
 HIDDEN = "hidden"  # kind of the warnings about hidden rows
 
 
@@ -286,20 +289,21 @@ def find_visibility(cells: bytes) -> Visibility:
 
 def describe_hidden_characters(cells: bytes, option: str) -> str:
     """Describe which characters of a row are hidden, by which decoders, and why."""
-    table = character_table(BY_WORD[option].bits)
+    table = make_character_table(OPTION_BY_WORD[option].bits)
 
     def text(several: Sequence[Cell]) -> str:
         return '"' + "".join(table[cell.code] for cell in several) + '"'
 
-    unseen = [cell for cell in decode_cells(cells) if not cell.is_shown]
-    alike = [cell for cell in unseen if cell.is_invisible]
-    outside = [cell for cell in unseen if not cell.is_invisible and not cell.is_after_start_box]
-    behind = [cell for cell in unseen if cell.is_shown_anywhere]
-    words = [f"no receiver shows {text(alike)}, which has the colour of its background"] \
-        if alike else []
+    hidden_cells = [cell for cell in decode_cells(cells) if not cell.is_shown]
+    similar_cells = [cell for cell in hidden_cells if cell.is_invisible]
+    outside = [cell for cell in hidden_cells if not cell.is_invisible
+               and not cell.is_after_start_box]
+    shown_elsewhere = [cell for cell in hidden_cells if cell.is_shown_anywhere]
+    words = [f"no receiver shows {text(similar_cells)}, which has the colour of its background"] \
+        if similar_cells else []
     words += [f"no receiver shows {text(outside)}, which is outside of a box"] if outside else []
-    words += [f"libzvbi does not show {text(behind)}, which follows a single start box (0B); "
-              "ffmpeg does"] if behind else []
+    words += [f"libzvbi does not show {text(shown_elsewhere)}, which follows a single start box "
+              "(0B); ffmpeg does"] if shown_elsewhere else []
     return "; ".join(words)
 
 
@@ -313,23 +317,23 @@ class HiddenRows(NamedTuple):
 def may_hide_rows(subtitles: Sequence[Subtitle], has_layout: bool) -> bool:
     """Return whether a row may be hidden. Only a layout or certain codes in a text can hide one."""
     return has_layout or any(bytes([code]) in subtitle.text
-                             for subtitle in subtitles for code in HIDING)
+                             for subtitle in subtitles for code in HIDING_CODES)
 
 
 def find_hidden_rows(subtitles: Sequence[Subtitle], pages: Sequence[Rows], file: SubtitleFile,
                      option: str) -> HiddenRows:
     """Return the faults of hidden rows in all subtitles, and the warnings about them."""
-    hidden = HiddenRows([], [])
+    hidden_rows = HiddenRows([], [])
     for subtitle, page in zip(subtitles, pages):
         for row, cells in enumerate(page, 1):
             sight = find_visibility(cells)
             if sight == Visibility.ALL:
                 continue
-            words = f"{subtitle.name} at {time_of(subtitle.begin)}, row {row}: " \
+            words = f"{subtitle.name} at {format_frame(subtitle.begin)}, row {row}: " \
                 f"{describe_hidden_characters(cells, option)}"
             if sight == Visibility.NONE:
-                hidden.faults.append(NamedFault(
+                hidden_rows.faults.append(NamedFault(
                     NOT_SHOWN, words, block=file.start_blocks[subtitle.index - 1]))
             else:
-                hidden.warnings.append(Notice(HIDDEN, words, time_of(subtitle.begin)))
-    return hidden
+                hidden_rows.warnings.append(Notice(HIDDEN, words, format_frame(subtitle.begin)))
+    return hidden_rows

@@ -9,11 +9,11 @@ from typing import Iterator, NamedTuple, Sequence
 from ..clock.start import TimedPart
 from ..common.command_line import Stop, counted
 from ..common.files import sum_file
-from ..common.times import ALL_DAY, Between, FRAMES_OF_A_DAY, pts_of, time_of
-from ..formats.layout import PLAIN, parse_layout, find_text_letters
-from ..formats.listing import CONTENT, CONTROL, EMPTY, STL_FAULTS, WITH_CAUSE
+from ..common.times import ALL_DAY, FRAMES_OF_A_DAY, FrameRange, format_frame, pts_of
+from ..formats.layout import PLAIN, parse_layout, encode_text_characters
+from ..formats.listing import CONTENT, CONTROL, EMPTY, FAULTS_WITH_CAUSE, STL_FAULTS
 from ..formats.stl import Subtitle, SubtitleFile, decode_subtitles
-from ..formats.teletext import BY_WORD
+from ..formats.teletext import OPTION_BY_WORD
 from ..recording import notices
 from ..recording.notices import NeverSent, Notice, refuse_dead_source, refuse_other_pid
 from ..recording.recording import Recording, refuse_files
@@ -40,7 +40,7 @@ def explain_part(part: Part, verdict: Verdict, listener: Listener, is_result_wri
     """Return a copy of a part with the causes of its faults, its hints and its delays. With
     --within 0, compute the delays only if a result is written, since results contain them."""
     request, numbers = verdict.request, part.check_output.fault_numbers
-    causes = find_part_causes(part) if numbers & WITH_CAUSE else None
+    causes = find_part_causes(part) if numbers & FAULTS_WITH_CAUSE else None
     if causes:
         report_causes(listener, causes, request.option)
     part = dataclasses.replace(
@@ -62,7 +62,8 @@ def describe_part_drawing(part: Part, causes: Causes, option: str) -> str:
     if CONTENT not in part.check_output.fault_numbers:
         return ""
     due = part.expected_pages()
-    return describe_drawing_differences(due.subtitles, due.pages, causes.timeline, BY_WORD[option])
+    return describe_drawing_differences(due.subtitles, due.pages, causes.timeline,
+                                        OPTION_BY_WORD[option])
 
 
 def measure_delays(part: Part, causes: Causes | None, request: Request, is_result_written: bool) \
@@ -78,16 +79,16 @@ def measure_delays(part: Part, causes: Causes | None, request: Request, is_resul
             for subtitle, page in zip(due.subtitles, due.pages)]
 
 
-def find_hint(lead: WorstFault | None, part: Part, verdict: Verdict) -> str:
-    """Return the hint on `lead`, the fault to report first, or an empty string."""
-    return describe_first_hint(lead.fault, part, verdict) if lead else ""
+def find_hint(worst_fault: WorstFault | None, part: Part, verdict: Verdict) -> str:
+    """Return the hint on `worst_fault`, the fault to report first, or an empty string."""
+    return describe_first_hint(worst_fault.fault, part, verdict) if worst_fault else ""
 
 
 def list_check_options(part: Part) -> list[str]:
     """Return the options for running `check` on a part."""
     recording, alignment = part.judged_recording
     first, last = part.pes or (0, 0)
-    return [*recording.program_options(), "--pes", f"{first}-{last}",
+    return [*recording.list_program_options(), "--pes", f"{first}-{last}",
             *part.request.check_arguments(),
             *(["--origin", str(alignment.origin)] if alignment.origin else [])]
 
@@ -114,10 +115,12 @@ class LocatedRecording(NamedTuple):
 def find_adjoining_end(part: Part) -> int | None:
     """Return the last TCO of a part if the page decoded at this TCO is its only fault."""
     fault, (_, alignment) = part.check_output.first_fault, part.judged_recording
-    is_alone = part.check_output.fault_count == 1 and fault is not None and fault.number == CONTENT
+    is_only_fault = part.check_output.fault_count == 1 and fault is not None \
+        and fault.number == CONTENT
     frame = fault.frame if fault else None
-    is_there = frame is not None and alignment.end <= frame <= alignment.end + part.request.within
-    return alignment.end if is_alone and is_there else None
+    is_adjoining_frame = frame is not None \
+        and alignment.end <= frame <= alignment.end + part.request.within
+    return alignment.end if is_only_fault and is_adjoining_frame else None
 
 
 def find_nearest_pauses(subtitles: Sequence[Subtitle], at: int) -> list[int]:
@@ -156,7 +159,7 @@ class PairJudge:
         if not is_refused:
             self.check_hidden_rows()
         if request.recording is None or is_refused and not self.verdict.valid_subtitles:
-            self.judge_alone(answer, is_refused)
+            self.judge_file_only(answer, is_refused)
         elif is_refused:
             self.judge_valid_subtitles(answer)
         else:
@@ -193,7 +196,7 @@ class PairJudge:
         request, verdict = self.request, self.verdict
         if self.is_result_written:
             verdict.stl = sum_file(request.stl_path, request.stl)
-        answer = self.check_alone()
+        answer = self.check_file_only()
         if has_valid_subtitles(answer.fault_numbers):
             answer = self.find_valid_subtitles(answer)
         file = SubtitleFile(self.names.program_stl)
@@ -211,11 +214,11 @@ class PairJudge:
         due = self.make_expected_pages(request, read_subtitles(
             self.command_paths.program_path, self.names.program_stl, request.between,
             request.is_open))
-        hidden = find_hidden_rows(due.subtitles, due.pages, file, request.option)
-        self.verdict.named_faults += hidden.faults
-        self.verdict.warn(hidden.warnings)
+        hidden_rows = find_hidden_rows(due.subtitles, due.pages, file, request.option)
+        self.verdict.named_faults += hidden_rows.faults
+        self.verdict.warn(hidden_rows.warnings)
 
-    def check_alone(self) -> CheckOutput:
+    def check_file_only(self) -> CheckOutput:
         """Return the faults of the subtitle file, and the fault that there is no PES packet."""
         answer = check_file_alone(self.request, self.command_paths.program_path, self.names)
         if answer.verdict != REFUSED or not answer.fault_numbers <= STL_FAULTS | {EMPTY}:
@@ -230,7 +233,7 @@ class PairJudge:
             file = SubtitleFile(self.names.program_stl, self.request.between)
             faults = (fault for fault, _ in answer.read_faults())
             self.verdict.valid_subtitles = find_valid_subtitles(file, faults, self.request.option)
-        return answer.copy_without(EMPTY, self.names.temporary_path("refused.txt"))
+        return answer.copy_without(EMPTY, self.names.make_temporary_path("refused.txt"))
 
     @property
     def skipped_positions(self) -> frozenset[int]:
@@ -238,7 +241,7 @@ class PairJudge:
         return self.verdict.valid_subtitles.skipped_positions \
             if self.verdict.valid_subtitles else frozenset()
 
-    def judge_alone(self, answer: CheckOutput, is_refused: bool) -> None:
+    def judge_file_only(self, answer: CheckOutput, is_refused: bool) -> None:
         """Decide the verdict from the subtitle file only. `answer` has its faults, if `is_refused`
         is true. Otherwise there is no recording to judge."""
         report_file_check(self.request, self.command_paths, self.listener)
@@ -268,7 +271,8 @@ class PairJudge:
                                    self.request.is_open)
         if not subtitles and between != ALL_DAY:
             raise Unclear(f"{self.request.stl} has no subtitle with a TCI at "
-                          f"{time_of(between.begin)} or later and before {time_of(between.end)}")
+                          f"{format_frame(between.begin)} or later and before "
+                          f"{format_frame(between.end)}")
         return subtitles
 
     @functools.cached_property
@@ -289,9 +293,10 @@ class PairJudge:
         self.verdict.recording = recording.file
         self.refuse_range(recording)
         if request.pes is None:
-            option = BY_WORD[request.option]
+            option = OPTION_BY_WORD[request.option]
             refuse_dead_source(request, recording.survey, recording.packets, [
-                (one.begin, one.end) for one in subtitles if find_text_letters(one.text, option)])
+                (item.begin, item.end) for item in subtitles
+                if encode_text_characters(item.text, option)])
         clocks = find_parts(programme, recording, self.listener)
         first, last = clocks.alignments[0], clocks.alignments[-1]
         refuse_other_pid(request, recording.survey, pts_of(first.begin, first.origin),
@@ -302,20 +307,21 @@ class PairJudge:
     def is_continued(self, first: Subtitle) -> bool:
         """Return whether the first judged subtitle, `first`, follows a subtitle with the same text
         without a pause."""
-        request, option = self.request, BY_WORD[self.request.option]
+        request, option = self.request, OPTION_BY_WORD[self.request.option]
         if not request.between.begin and not self.skipped_positions:
             return False
         return any(one.begin < first.begin <= one.end + request.within
-                   and find_text_letters(one.text, option) == find_text_letters(first.text, option)
+                   and encode_text_characters(one.text,
+                                              option) == encode_text_characters(first.text, option)
                    for one in decode_subtitles(SubtitleFile(self.names.program_stl).data))
 
     def refuse_range(self, recording: Recording) -> None:
         """Raise `Unclear` if there is no PES packet in the range of --pes."""
         count, pes = recording.packets.count, self.request.pes
         if pes and count and pes[0] >= count:
-            has = f"{counted(count, 'PES packet')}, 0-{count - 1}"
-            raise Unclear(f"{recording.name} has {has}: --pes {pes[0]}-{pes[1]} is outside this "
-                          "range",
+            content = f"{counted(count, 'PES packet')}, 0-{count - 1}"
+            raise Unclear(f"{recording.name} has {content}: --pes {pes[0]}-{pes[1]} is outside "
+                          "this range",
                           self.format_call("--pes", f"0-{count - 1}"))
 
     def judge_valid_subtitles(self, answer: CheckOutput) -> None:
@@ -326,15 +332,15 @@ class PairJudge:
                 self.judge_transmission()
             if self.verdict.parts:
                 return
-            why: object = self.verdict.named_faults[0].text
+            explanation: object = self.verdict.named_faults[0].text
         except (Stop, Unclear) as reason:
             if self.current_part:
                 raise
-            why = reason
+            explanation = reason
         self.verdict.valid_subtitles, self.verdict.subtitle_count = None, 0
-        text = "; ".join(str(why).splitlines())
+        text = "; ".join(str(explanation).splitlines())
         self.listener.add_notes(f"the other subtitles were not judged: {text}")
-        self.judge_alone(answer, True)
+        self.judge_file_only(answer, True)
 
     def judge_transmission(self) -> None:
         recording, clocks, subtitles = self.located_recording
@@ -345,7 +351,7 @@ class PairJudge:
             for line in self.verdict.valid_subtitles.format_lines():
                 self.listener.print_line(line)
         self.add_recording_warnings(recording, clocks.alignments[0].origin, programme.full_range)
-        parts = self.parts_in(recording, clocks.alignments, programme, subtitles)
+        parts = self.make_parts(recording, clocks.alignments, programme, subtitles)
         for part in parts:
             if selection := part.judged_recording[1].clock.get_selection(part.number):
                 self.listener.add_selection(selection, is_printed=False)
@@ -353,18 +359,18 @@ class PairJudge:
             self.judge_part(part, programme, subtitles)
         self.verdict.gaps += find_gaps(recording, self.verdict.parts)
 
-    def parts_in(self, recording: Recording, alignments: list[TimedPart], programme: PartSearch,
-                 subtitles: list[Subtitle]) -> list[Part]:
+    def make_parts(self, recording: Recording, alignments: list[TimedPart], programme: PartSearch,
+                   subtitles: list[Subtitle]) -> list[Part]:
         """Return the parts to judge, with their frames and their clocks."""
         request = self.request
         alignments = choose_parts(alignments, programme.full_range)
         if len(alignments) > 1:
             refuse_missing_subtitles(alignments, subtitles, request.stl)
-        is_whole = len(alignments) == 1
+        is_single_part = len(alignments) == 1
         parts = []
         for number, alignment in enumerate(alignments, 1):
-            own = request if is_whole else request.restrict_to(*alignment.between)
-            names = self.names if is_whole else self.names.name_part(number)
+            own = request if is_single_part else request.limit_to_range(*alignment.between)
+            names = self.names if is_single_part else self.names.make_part_paths(number)
             parts.append(Part(number, own, names, CheckOutput(names.list_path), alignment,
                               recording, self.skipped_positions))
         return parts
@@ -372,7 +378,7 @@ class PairJudge:
     def judge_part(self, part: Part, programme: PartSearch, subtitles: list[Subtitle]) -> None:
         """Judge a part: find its PES packets, run `check`, explain the faults, and add warnings."""
         listener, request, (recording, _) = self.listener, part.request, part.judged_recording
-        own = [subtitle for subtitle in subtitles if request.between.has(subtitle.begin)]
+        own = [subtitle for subtitle in subtitles if request.between.includes(subtitle.begin)]
         due = functools.lru_cache(maxsize=None)(lambda: self.make_expected_pages(request, own))
         part = dataclasses.replace(part, expected_pages=due).add_packets(
             find_part_packets(programme, part, listener),
@@ -397,22 +403,24 @@ class PairJudge:
             not self.verdict.valid_subtitles else None
         if at is None or part.decoded_pages is None:
             return
-        request, given = self.request, self.names.program_stl
+        request, stl_path = self.request, self.names.program_stl
         program = self.command_paths.program_path
-        between = Between(at, at + 1)
-        due = schedule_pages(program, given,
-                             read_subtitles(program, given, between, request.is_open),
-                             request.page, request.option, between, request.schedule_arguments())
+        between = FrameRange(at, at + 1)
+        due = schedule_pages(program, stl_path,
+                             read_subtitles(program, stl_path, between, request.is_open),
+                             request.page, request.option, between,
+                             request.list_schedule_arguments())
         fault = part.check_output.first_fault
         if not due.pages or not fault or \
-                part.decoded_pages.page_at(fault.frame or at) != due.pages[0]:
+                part.decoded_pages.get_page_at(fault.frame or at) != due.pages[0]:
             return
         # Use a range other than the default, for which `read_subtitles` skips refused subtitles.
         # With the default it would raise `Unclear` with another message.
-        subtitles = read_subtitles(program, given, Between(0, FRAMES_OF_A_DAY + 1), request.is_open)
-        raise Unclear(f"--to ends the range at {time_of(at)}, where the next subtitle follows "
+        subtitles = read_subtitles(program, stl_path, FrameRange(0, FRAMES_OF_A_DAY + 1),
+                                   request.is_open)
+        raise Unclear(f"--to ends the range at {format_frame(at)}, where the next subtitle follows "
                       "directly: the page is not erased there",
-                      *(self.format_call("--to", time_of(end + 1))
+                      *(self.format_call("--to", format_frame(end + 1))
                         for end in find_nearest_pauses(subtitles, at)))
 
     def check_pictures(self, part: Part) -> None:
@@ -431,7 +439,7 @@ class PairJudge:
             return draw_valid_pages(subtitles, request.page, request.option, layout)
         return schedule_pages(self.command_paths.program_path, self.names.program_stl, subtitles,
                               request.page,
-                              request.option, request.between, request.schedule_arguments())
+                              request.option, request.between, request.list_schedule_arguments())
 
     def add_recording_warnings(self, recording: Recording, origin: int, part: TimedPart) -> None:
         """Add warnings about the recording and the PID."""

@@ -11,16 +11,17 @@ from ..clock.start import Clock, TimedPart
 from ..common.command_line import counted
 from ..common.files import SummedFile
 from ..common.times import (
-    Between, FRAMES_OF_A_DAY, Span, Spans, TICKS, frame_in, pts_of, ticks_within, time_of)
+    FRAMES_OF_A_DAY, FrameRange, Span, Spans, TICKS, compute_frame, format_frame, pts_of,
+    subtract_pts_within)
 from ..formats.listing import EMPTY, FaultLine, SKIPPED_PACKETS, STL_FAULTS, UNDECIDED
 from ..formats.stl import Subtitle, SubtitleFile
-from ..formats.teletext import BY_BITS, RESERVED
+from ..formats.teletext import OPTION_BY_BITS, RESERVED
 from ..recording.recording import Recording
 from ..request.commands import Listener, MAX_LIST_LINES, OutputNames
 from ..request.request import Request, Unclear
 from ..stream.gaps import LossPlace
 from ..stream.packets import NO_RANGE, PES, PTSPair, Packets, Range, parse_headers
-from ..stream.receiver import Timeline, decode_near, national_option
+from ..stream.receiver import Timeline, decode_pages_around, read_national_option
 from .causes import CauseDescriber, Causes
 from .check import CheckOutput
 from .sentence import WorstFault, find_worst_fault
@@ -28,7 +29,7 @@ from .status import CheckSummary, REFUSED, Severity
 from .transmissions import ExpectedPages, KeepingHeaders
 
 
-def no_expected_pages() -> ExpectedPages:
+def make_empty_pages() -> ExpectedPages:
     """Return an object without pages, since a refused subtitle file has no expected pages."""
     return ExpectedPages([], [])
 
@@ -49,7 +50,7 @@ class Part:
     judged_file: SummedFile | None = None  # the judged PES packets of a piped recording
     # PTS before and after each announced jump of the continuity counter that may hide lost packets
     jumps: Sequence[PTSPair] = ()
-    expected_pages: Callable[[], ExpectedPages] = no_expected_pages
+    expected_pages: Callable[[], ExpectedPages] = make_empty_pages
     timeline: Callable[[], Timeline | None] = lambda: None
     severity: Severity | None = None
     causes: Causes | None = None
@@ -173,7 +174,7 @@ class Part:
     @functools.cached_property
     def trusted_frames(self) -> Spans:
         """Return the frames that `check` trusts, except frames with lost packets."""
-        return self.check_output.trusted_frames.without(self.unmarked_losses)
+        return self.check_output.trusted_frames.exclude(self.unmarked_losses)
 
     def list_pts(self, flags: str = "") -> array.array[int]:
         """Return the PTS of the PES packets in the part that have all `flags`."""
@@ -181,14 +182,15 @@ class Part:
 
     def find_options(self) -> set[str]:
         """Return the national options in the page headers."""
-        bits = {national_option(header) for run in self.packets.runs_between(*self.pes or NO_RANGE)
+        bits = {read_national_option(header)
+                for run in self.packets.list_runs_between(*self.pes or NO_RANGE)
                 for header in parse_headers(run.control)}
-        return {BY_BITS[one].word for one in bits if one != RESERVED}
+        return {OPTION_BY_BITS[bit].word for bit in bits if bit != RESERVED}
 
     def count_headers(self) -> collections.Counter[bytes]:
         """Count how often each page header occurs in the PES packets that `check` reads."""
         counts: collections.Counter[bytes] = collections.Counter()
-        for run in self.packets.runs_between(*self.pes or NO_RANGE):
+        for run in self.packets.list_runs_between(*self.pes or NO_RANGE):
             if run.pts is not None and not run.fault:
                 for header in parse_headers(run.control):
                     counts[header] += run.length
@@ -199,10 +201,11 @@ class Part:
         """Return the range of the part's PES packets as the value of --pes."""
         return self.pes and f"{self.pes[0]}-{self.pes[1]}"
 
-    def time_codes(self) -> tuple[str, str] | tuple[None, None]:
+    def format_time_codes(self) -> tuple[str, str] | tuple[None, None]:
         """Return the first and the last frame of a part as time codes."""
         alignment = self.alignment
-        return (time_of(alignment.begin), time_of(alignment.end)) if alignment else (None, None)
+        return (format_frame(alignment.begin),
+                format_frame(alignment.end)) if alignment else (None, None)
 
 
 def belongs_to_part(place: LossPlace, part: Part) -> bool:
@@ -214,24 +217,26 @@ def belongs_to_part(place: LossPlace, part: Part) -> bool:
         return part.pes[0] <= place.gap_marker <= part.pes[1]
     begin, end = part.alignment[:2]
     first, length = pts_of(begin, part.alignment.origin), TICKS * (end - begin)
-    is_before = place.after is not None and ticks_within(first, length, place.after) <= 0
-    is_after = place.before is not None and ticks_within(first, length, place.before) >= length
+    is_before = place.after is not None and subtract_pts_within(first, length, place.after) <= 0
+    is_after = place.before is not None and subtract_pts_within(first, length,
+                                                                place.before) >= length
     return not is_before and not is_after
 
 
-def choose_parts(alignments: Sequence[TimedPart], whole: TimedPart) -> list[TimedPart]:
+def choose_parts(alignments: Sequence[TimedPart], full_part: TimedPart) -> list[TimedPart]:
     """Return the parts to judge. A single part has all subtitles of the file. Each of several parts
     has the subtitles that begin in its frames."""
     if len(alignments) == 1:
-        return [whole._replace(clock=alignments[0].clock, packets=alignments[0].packets)]
-    return [alignment._replace(between=Between(alignment.begin, alignment.end))
+        return [full_part._replace(clock=alignments[0].clock, packets=alignments[0].packets)]
+    return [alignment._replace(between=FrameRange(alignment.begin, alignment.end))
             for alignment in alignments]
 
 
 def refuse_missing_subtitles(parts: Sequence[TimedPart], subtitles: Sequence[Subtitle],
                              stl: str) -> None:
     """Raise `Unclear` unless the parts together have all subtitles of the file, in order."""
-    own = [subtitle for part in parts for subtitle in subtitles if part.between.has(subtitle.begin)]
+    own = [subtitle for part in parts for subtitle in subtitles
+           if part.between.includes(subtitle.begin)]
     left = len(subtitles) - len(own)
     if left > 0:
         raise Unclear(f"{counted(left, 'subtitle')} of {stl} would be in no part, so nothing would "
@@ -244,14 +249,15 @@ def find_part_causes(part: Part) -> Causes | None:
     """Return the causes of the faults in a judged part, if any fault has a cause."""
     request, (recording, alignment) = part.request, part.judged_recording
     lost = part.find_loss_places() if recording.is_stream else []
-    held = decode_near(part.packets, request.page, alignment.origin, request.within,
-                       Span(alignment.begin, alignment.end), request.every, alignment.packets,
-                       find_lost_spans(lost, alignment.origin, request.within))
+    held = decode_pages_around(part.packets, request.page, alignment.origin, request.within,
+                               Span(alignment.begin, alignment.end), request.every,
+                               alignment.packets,
+                               find_lost_spans(lost, alignment.origin, request.within))
     causes = Causes(part.expected_pages(), held,
                     find_recorded_span(None if recording.packets.refusal
-                                       else recording.recorded_range(), alignment))
-    causes.classify_all(part.check_output)
-    return causes if causes.by_index else None
+                                       else recording.find_recorded_pts(), alignment))
+    causes.classify_faults(part.check_output)
+    return causes if causes.cause_by_index else None
 
 
 def find_recorded_span(pts: tuple[int, int] | None, alignment: TimedPart) -> Span | None:
@@ -259,8 +265,9 @@ def find_recorded_span(pts: tuple[int, int] | None, alignment: TimedPart) -> Spa
     were recorded, if known. Return `None` if the PTS go back somewhere in the recording."""
     if pts is None or alignment.packets:
         return None
-    first, last = (ticks_within(pts_of(alignment.begin, alignment.origin),
-                                TICKS * (alignment.end - alignment.begin), one) for one in pts)
+    first, last = (subtract_pts_within(pts_of(alignment.begin, alignment.origin),
+                                       TICKS * (alignment.end - alignment.begin), item)
+                   for item in pts)
     return Span(alignment.begin - -first // TICKS, alignment.begin + last // TICKS)
 
 
@@ -270,7 +277,7 @@ def find_lost_spans(places: Sequence[LossPlace], origin: int, within: int,
     """Yield the frames that may lack packets because of losses. If `is_with_next` is true, include
     the frame of the next PES packet after each loss."""
     for place in places:
-        first, last = (None if pts is None else frame_in(pts, origin, within)
+        first, last = (None if pts is None else compute_frame(pts, origin, within)
                        for pts in (place.before, place.after))
         yield Span(0 if first is None or first >= FRAMES_OF_A_DAY else first,
                    FRAMES_OF_A_DAY if last is None else last - (not is_with_next))

@@ -5,15 +5,15 @@ import collections
 import enum
 from typing import Collection, Iterable, NamedTuple, Sequence
 
-from ..clock.start import clock_advice
+from ..clock.start import advise_on_clock
 from ..common.command_line import counted, format_frame_range, was
-from ..common.times import time_of
+from ..common.times import format_frame
 from ..formats.listing import (
     BEGIN, CONTENT, CONTROL, END, ENDS_READING, FaultLine, GAP, INCOMPLETE, LOSSES, LOST_PACKETS,
     NamedFault, NEVER_SENT, NOT_SHOWN, OFF_FRAME, PARITY, PICTURES_LEFT, STL_FAULTS, UNDECIDED,
-    WITH_CAUSE)
+    FAULTS_WITH_CAUSE)
 from ..formats.stl import Subtitle
-from ..formats.teletext import BY_WORD
+from ..formats.teletext import OPTION_BY_WORD
 from .causes import (
     Cause, CAUSE_NAMES, Causes, EARLY, ERASED, INCOMPLETE_REPEAT, LATE, NEVER, NOT_ERASED,
     NOT_RECEIVED, OTHER_TEXT, TEXT_IN_PAUSE, UNKNOWN_CAUSE, WRONG_ATTRIBUTE, WRONG_PLACE,
@@ -57,10 +57,11 @@ NUMBER_RANKS = {
 NAME_RANKS = {NEVER_SENT: Rank.NEVER, NOT_SHOWN: Rank.WRONG, PICTURES_LEFT: Rank.MOVED}
 
 
-def find_worst_named_fault(faults: Sequence[NamedFault], than: Rank | None) -> NamedFault | None:
-    """Return the first fault of the worst rank, or `None` if the rank `than` is worse."""
+def find_worst_named_fault(faults: Sequence[NamedFault],
+                           worse_than: Rank | None) -> NamedFault | None:
+    """Return the first fault of the worst rank, or `None` if the rank `worse_than` is worse."""
     worst = min(faults, key=lambda fault: NAME_RANKS[fault.name]) if faults else None
-    return worst if worst and (than is None or NAME_RANKS[worst.name] <= than) else None
+    return worst if worst and (worse_than is None or NAME_RANKS[worst.name] <= worse_than) else None
 
 
 def rank_number(number: int) -> Rank:
@@ -86,33 +87,33 @@ class WorstFault(NamedTuple):
     rank: Rank
     place: int
     fault: FaultLine
-    is_caused: bool = False  # whether a cause explains the fault
+    has_cause: bool = False  # whether a cause explains the fault
 
 
 def find_worst_fault(answer: CheckOutput, causes: Causes | None,
                      left_out: Collection[int] = ()) -> WorstFault | None:
     """Return the first fault of the worst rank in a part, if there is a fault. Ignore the fault
     numbers in `left_out`."""
-    is_caused = bool(causes and causes.by_index)
-    leads = [WorstFault(rank_number(number), at, told)
-             for at, (number, told) in enumerate(answer.first_faults.items())
-             if number not in left_out and not (number == CONTENT and is_caused)]
+    is_caused = bool(causes and causes.cause_by_index)
+    worst_faults = [WorstFault(rank_number(number), at, told)
+                    for at, (number, told) in enumerate(answer.first_faults.items())
+                    if number not in left_out and not (number == CONTENT and is_caused)]
     cause = find_worst_cause(causes.list_causes()) if causes else None
     fault = find_fault_line(answer, causes, cause) if causes and cause else None
     if cause and fault and fault.number not in left_out:
-        leads.append(WorstFault(rank_cause(cause), -1, fault, True))
-    return min(leads, default=None)
+        worst_faults.append(WorstFault(rank_cause(cause), -1, fault, True))
+    return min(worst_faults, default=None)
 
 
 def find_fault_line(answer: CheckOutput, causes: Causes, cause: Cause) -> FaultLine | None:
     """Return the line of the fault that a cause explains. This is the last fault at or before the
     first frame with a wrong page. If there is none, it is the first fault of the same kind."""
-    edge = next((number for number in (BEGIN, END)
-                 if causes.by_end_fault.get(number) == cause.subtitle_index
-                 and number in answer.first_faults), None)
+    cue_fault = next((number for number in (BEGIN, END)
+                      if causes.frames_by_end_fault.get(number) == cause.subtitle_index
+                      and number in answer.first_faults), None)
     first = causes.first_wrong_frames.get(cause.subtitle_index)
-    if edge is not None or first is None:
-        return answer.first_faults.get(edge or CONTENT)
+    if cue_fault is not None or first is None:
+        return answer.first_faults.get(cue_fault or CONTENT)
     last = answer.first_faults.get(CONTENT)
     for fault, _ in answer.read_faults():
         if fault.number == CONTENT and fault.frame is not None:
@@ -220,7 +221,7 @@ class Facts(NamedTuple):
     word: str  # the verdict
     subtitles: int
     first: FaultLine | None = None  # the fault to report first
-    is_caused: bool = False
+    has_cause: bool = False
     faults: int = 0
     counts: Sequence[FaultCount] = ()  # number of faults for each fault number
     hint: str = ""  # explains the first fault
@@ -240,138 +241,144 @@ class Facts(NamedTuple):
     has_picture: bool = False  # whether the operator may use --start
 
 
-def write_sentence(seen: Facts) -> str:
+def write_sentence(facts: Facts) -> str:
     """Return the sentence about a verdict."""
-    if seen.word == NOT_JUDGED:
-        return f"Not judged: {(seen.reason or NOT_ANSWERED).splitlines()[0]}."
-    if seen.word == REFUSED:
-        waived = f"; waived: {describe_counts(seen.waived)}" if seen.waived else ""
-        return f"Refused: {describe_faults(seen)}{waived}."
-    if seen.word == RELATIVE:
-        return f"{describe_relative_match(seen)} was not checked: {clock_advice(seen.has_picture)}."
-    if seen.word == WAIVED:
-        return f"{describe_waived_faults(seen)}."
-    good = "all faults that were found are declared as warnings" if seen.faults or seen.refused \
-        else "everything that was received is right"
-    if seen.word == LOST:
-        more = f", and in {counted(len(seen.lost) - 1, 'more place')}" if len(seen.lost) > 1 else ""
-        lost = seen.lost[0] if seen.lost else "TS packets are lost"
-        return f"Not accepted: {lost}{more}; {good}."
-    if seen.word == WARNED:
-        kinds = ", ".join(dict.fromkeys(seen.warnings))
-        return f"Not accepted: --strict treats warnings as faults ({kinds}); {good}."
-    assert seen.word == ACCEPTED
-    return f"Accepted: {describe_success(seen)}."
+    if facts.word == NOT_JUDGED:
+        return f"Not judged: {(facts.reason or NOT_ANSWERED).splitlines()[0]}."
+    if facts.word == REFUSED:
+        waived = f"; waived: {describe_counts(facts.waived)}" if facts.waived else ""
+        return f"Refused: {describe_faults(facts)}{waived}."
+    if facts.word == RELATIVE:
+        return f"{describe_relative_match(facts)} was not checked: " \
+            f"{advise_on_clock(facts.has_picture)}."
+    if facts.word == WAIVED:
+        return f"{describe_waived_faults(facts)}."
+    acceptance = "all faults that were found are declared as warnings" if facts.faults \
+        or facts.refused else "everything that was received is right"
+    if facts.word == LOST:
+        more = f", and in {counted(len(facts.lost) - 1, 'more place')}" if len(facts.lost) > 1 \
+            else ""
+        lost = facts.lost[0] if facts.lost else "TS packets are lost"
+        return f"Not accepted: {lost}{more}; {acceptance}."
+    if facts.word == WARNED:
+        kinds = ", ".join(dict.fromkeys(facts.warnings))
+        return f"Not accepted: --strict treats warnings as faults ({kinds}); {acceptance}."
+    assert facts.word == ACCEPTED
+    return f"Accepted: {describe_success(facts)}."
 
 
-def describe_waived_faults(seen: Facts) -> str:
+def describe_waived_faults(facts: Facts) -> str:
     """Describe the faults that the severity file turns into warnings."""
-    return f"Waived, since these faults are declared as warnings: {describe_faults(seen)}"
+    return f"Waived, since these faults are declared as warnings: {describe_faults(facts)}"
 
 
-def describe_relative_match(seen: Facts) -> str:
+def describe_relative_match(facts: Facts) -> str:
     """Return a clause for the verdict `relative`. It says what matches if the clock is estimated,
     and which delay was not checked."""
-    within = f" within {counted(seen.within, 'frame')}" if seen.within else ""
-    if seen.faults or seen.refused:
-        found, delay = describe_waived_faults(seen), "a delay that all subtitles share"
-    elif seen.subtitles == 1:
+    within = f" within {counted(facts.within, 'frame')}" if facts.within else ""
+    if facts.faults or facts.refused:
+        found, delay = describe_waived_faults(facts), "a delay that all subtitles share"
+    elif facts.subtitles == 1:
         found, delay = f"The subtitle has the right text and duration{within}", "its delay"
-    elif seen.parts == 1:
-        found = f"All {seen.subtitles} subtitles match relative to each other{within}"
+    elif facts.parts == 1:
+        found = f"All {facts.subtitles} subtitles match relative to each other{within}"
         delay = "a delay that they all share"
     else:
-        found = f"All {seen.subtitles} subtitles match relative to the others in their part{within}"
+        found = f"All {facts.subtitles} subtitles match relative to the others in their " \
+            f"part{within}"
         delay = "a delay that all subtitles in a part share"
     return f"{found}. No clock was given, so {delay}"
 
 
-def describe_success(seen: Facts) -> str:
+def describe_success(facts: Facts) -> str:
     """Return the clause that says that the subtitles have no fault."""
-    subtitles = counted(seen.subtitles, "subtitle")
-    if seen.is_file:
+    subtitles = counted(facts.subtitles, "subtitle")
+    if facts.is_file:
         return f"{subtitles} without a fault"
-    if seen.subtitles > 1:
-        return f"all {subtitles} have the right text {describe_text_period(seen)}"
-    return f"{subtitles} has the right text {describe_text_period(seen)}"
+    if facts.subtitles > 1:
+        return f"all {subtitles} have the right text {describe_text_period(facts)}"
+    return f"{subtitles} has the right text {describe_text_period(facts)}"
 
 
-def describe_valid_subtitles(seen: Facts) -> str:
+def describe_valid_subtitles(facts: Facts) -> str:
     """Describe the refused subtitles, and the result of judging the other subtitles."""
-    others = f"{counted(seen.subtitles, 'other subtitle')} " \
-        f"{was(seen.subtitles)} judged"
-    sent = seen._replace(refused="")
-    if seen.first is None:
-        is_one = seen.subtitles == 1
-        how = f"{'it has' if is_one else 'all have'} the right text {describe_text_period(seen)}"
+    others = f"{counted(facts.subtitles, 'other subtitle')} " \
+        f"{was(facts.subtitles)} judged"
+    sent = facts._replace(refused="")
+    if facts.first is None:
+        is_single = facts.subtitles == 1
+        how = f"{'it has' if is_single else 'all have'} the right text " \
+            f"{describe_text_period(facts)}"
     else:
         how = describe_faults(sent)
-    return f"{seen.refused}; {others}: {how}"
+    return f"{facts.refused}; {others}: {how}"
 
 
-def describe_text_period(seen: Facts) -> str:
+def describe_text_period(facts: Facts) -> str:
     """Return the clause that says how soon each subtitle must have the right text."""
-    return f"within {counted(seen.within, 'frame')}" if seen.within else \
+    return f"within {counted(facts.within, 'frame')}" if facts.within else \
         "from the first frame to the last"
 
 
-def describe_faults(seen: Facts) -> str:
+def describe_faults(facts: Facts) -> str:
     """Describe the worst fault, its first place, and the number of other faults."""
-    if seen.refused:
-        return describe_valid_subtitles(seen)
-    words = describe_first_fault(seen)
-    if seen.delay and seen.first and seen.first.number in WITH_CAUSE:
-        return describe_delay(seen.subtitles, seen.delay) + describe_other_faults(seen)
-    if seen.is_caused and seen.causes:
-        words = describe_causes(seen.causes, seen.option) + describe_other_faults(seen)
+    if facts.refused:
+        return describe_valid_subtitles(facts)
+    words = describe_first_fault(facts)
+    if facts.delay and facts.first and facts.first.number in FAULTS_WITH_CAUSE:
+        return describe_delay(facts.subtitles, facts.delay) + describe_other_faults(facts)
+    if facts.has_cause and facts.causes:
+        words = describe_causes(facts.causes, facts.option) + describe_other_faults(facts)
     return words
 
 
 def describe_delay(subtitles: int, delay: int) -> str:
     """Return a clause with the delay that all subtitles share, in frames."""
-    which = f"all {subtitles:,} subtitles" if subtitles > 1 else "the subtitle"
-    return f"{which} appeared {counted(abs(delay), 'frame')} {LATE if delay > 0 else EARLY}"
+    subject = f"all {subtitles:,} subtitles" if subtitles > 1 else "the subtitle"
+    return f"{subject} appeared {counted(abs(delay), 'frame')} {LATE if delay > 0 else EARLY}"
 
 
-def describe_first_fault(seen: Facts) -> str:
+def describe_first_fault(facts: Facts) -> str:
     """Describe the first fault, its place, and the number of faults with each fault number."""
-    fault = seen.first
-    if fault is None and seen.named:
-        return seen.named + f"; {seen.faults:,} faults in all" * (seen.faults > 1)
+    fault = facts.first
+    if fault is None and facts.named:
+        return facts.named + f"; {facts.faults:,} faults in all" * (facts.faults > 1)
     if fault is None:
-        return f"{counted(seen.faults, 'fault')}"
-    if fault.number == LOST_PACKETS and seen.lost:
-        more = f", and in {counted(len(seen.lost) - 1, 'more place')}" if len(seen.lost) > 1 else ""
-        return f"{seen.lost[0]}{more}{describe_other_faults(seen)}; record that part again"
+        return f"{counted(facts.faults, 'fault')}"
+    if fault.number == LOST_PACKETS and facts.lost:
+        more = f", and in {counted(len(facts.lost) - 1, 'more place')}" if len(facts.lost) > 1 \
+            else ""
+        return f"{facts.lost[0]}{more}{describe_other_faults(facts)}; record that part again"
     words = FAULT_CLAUSES.get(fault.number, fault.name)
-    block = f"{seen.of_block} (block {fault.block})," if seen.of_block else f"block {fault.block}"
+    block = f"{facts.of_block} (block {fault.block})," if facts.of_block else f"block {fault.block}"
     place = fault.time or (f"PES packet {fault.pes}" if fault.pes is not None else
                            block if fault.block is not None else "")
-    if seen.hint and fault.number in HINTS_ON_ALL:
-        words, place = f"from {place} on, {seen.hint}", ""
-    elif seen.hint:
-        words = seen.hint if fault.number in HINTS_FOR_CLAUSE else f"{words}: {seen.hint}"
+    if facts.hint and fault.number in HINTS_ON_ALL:
+        words, place = f"from {place} on, {facts.hint}", ""
+    elif facts.hint:
+        words = facts.hint if fault.number in HINTS_FOR_CLAUSE else f"{words}: {facts.hint}"
     place = place and f"{'at' if fault.time else 'in'} {place.removesuffix(',')}, "
-    more = f"; {seen.faults:,} faults in all" if seen.faults > 1 else ""
-    several = f": {describe_counts(seen.counts)}" if len(seen.counts) > 1 else ""
+    more = f"; {facts.faults:,} faults in all" if facts.faults > 1 else ""
+    several = f": {describe_counts(facts.counts)}" if len(facts.counts) > 1 else ""
     return f"{place}{words}{more}{several}"
 
 
-def describe_other_faults(seen: Facts) -> str:
+def describe_other_faults(facts: Facts) -> str:
     """Describe the faults whose number differs from that of the first fault. Leave out the fault
-    numbers that can have a cause (`WITH_CAUSE`)."""
-    first = seen.first.number if seen.first else None
-    others = [count for count in seen.counts
-              if count.number not in WITH_CAUSE and count.number != first]
+    numbers that can have a cause (`FAULTS_WITH_CAUSE`)."""
+    first = facts.first.number if facts.first else None
+    others = [count for count in facts.counts
+              if count.number not in FAULTS_WITH_CAUSE and count.number != first]
     return f"; also {describe_counts(others)}" if others else ""
 
 
 def describe_counts(several: Sequence[FaultCount]) -> str:
     """Describe how many faults have each fault number, worst first. After `MAX_NUMBERS` fault
     numbers, describe only how many fault numbers are left."""
-    rising = sorted(several, key=lambda count: (rank_number(count.number), count.number))
+    sorted_counts = sorted(several, key=lambda count: (rank_number(count.number), count.number))
     words = [f"{count.number} {count.name}" +
-             (f" ({count.fault_count:,})" if count.fault_count > 1 else "") for count in rising]
+             (f" ({count.fault_count:,})" if count.fault_count > 1 else "")
+             for count in sorted_counts]
     if len(words) > MAX_NUMBERS:
         words[MAX_NUMBERS:] = [counted(len(words) - MAX_NUMBERS, "more number")]
     return " and ".join(filter(None, (", ".join(words[:-1]), words[-1])))
@@ -380,13 +387,13 @@ def describe_counts(several: Sequence[FaultCount]) -> str:
 def describe_causes(causes: Causes, option: str) -> str:
     """Describe the worst cause, its first subtitle, and the number of other causes."""
     every = causes.list_causes()
-    worst = find_worst_cause(every)
-    assert worst
-    alike = [cause for cause in every if cause.name == worst.name]
+    worst_cause = find_worst_cause(every)
+    assert worst_cause
+    same_causes = [cause for cause in every if cause.name == worst_cause.name]
     subtitles = causes.expected.subtitles
-    words = describe_single_cause(worst, causes, option) if len(alike) == 1 else \
-        describe_shared_cause(alike, subtitles)
-    others = collections.Counter(cause.name for cause in every if cause.name != worst.name)
+    words = describe_single_cause(worst_cause, causes, option) if len(same_causes) == 1 else \
+        describe_shared_cause(same_causes, subtitles)
+    others = collections.Counter(cause.name for cause in every if cause.name != worst_cause.name)
     if not others:
         return words
     known = sorted(others, key=lambda name: (CAUSE_RANKS[name], CAUSE_NAMES.index(name)))
@@ -399,19 +406,21 @@ def describe_single_cause(cause: Cause, causes: Causes, option: str) -> str:
     """Describe a cause that only one subtitle has."""
     subtitle = causes.expected.subtitles[cause.subtitle_index]
     if cause.name == TEXT_IN_PAUSE:
-        sent = format_page_text(cause.sent_page, BY_WORD[option].bits) if cause.sent_page else ""
+        sent = format_page_text(cause.sent_page,
+                                OPTION_BY_WORD[option].bits) if cause.sent_page else ""
         return f"another text was sent in a pause, {cause.details}" + f': "{sent}"' * bool(
             cause.sent_page)
-    text = format_page_text(causes.expected.pages[cause.subtitle_index], BY_WORD[option].bits)
-    said = f"appeared {counted(cause.frames or 0, 'frame')} {cause.name}" \
+    text = format_page_text(causes.expected.pages[cause.subtitle_index],
+                            OPTION_BY_WORD[option].bits)
+    description = f"appeared {counted(cause.frames or 0, 'frame')} {cause.name}" \
         if cause.name in (LATE, EARLY) else CAUSE_PREDICATES[cause.name][0]
     more = f" ({cause.details})" if cause.details else ""
     sent = format_page_text(cause.sent_page,
-                            BY_WORD[option].bits) if cause.sent_page and cause.name in (
+                            OPTION_BY_WORD[option].bits) if cause.sent_page and cause.name in (
         WRONG_TEXT, OTHER_TEXT) else ""
-    name = f"{subtitle.name} at {time_of(subtitle.begin)}"
-    return f'{name} {said}{more}: expected "{text}", received "{sent}"' \
-        if sent and sent != text else f'{name}, "{text}", {said}{more}'
+    name = f"{subtitle.name} at {format_frame(subtitle.begin)}"
+    return f'{name} {description}{more}: expected "{text}", received "{sent}"' \
+        if sent and sent != text else f'{name}, "{text}", {description}{more}'
 
 
 def describe_shared_cause(causes: Sequence[Cause], subtitles: Sequence[Subtitle]) -> str:
@@ -422,13 +431,15 @@ def describe_shared_cause(causes: Sequence[Cause], subtitles: Sequence[Subtitle]
         return f"another text was sent in {counted(len(causes), 'pause')}, the first " \
             f"{causes[0].details}"
     is_none = len(causes) == len(subtitles) and name in NONE_PREDICATES
-    which = f"none of the {len(subtitles):,} subtitles" if is_none else \
+    subject = f"none of the {len(subtitles):,} subtitles" if is_none else \
         f"all {len(subtitles):,} subtitles" if len(causes) == len(subtitles) else \
         f"{len(causes):,} of {len(subtitles):,} subtitles"
-    when = f"the first at {time_of(first.begin)}, the last at {time_of(last.begin)}"
+    period_text = f"the first at {format_frame(first.begin)}, the last at " \
+        f"{format_frame(last.begin)}"
     frames = sorted(cause.frames or 0 for cause in causes)
-    said = f"appeared {format_frame_range(frames[0], frames[-1])} {name}" if name in (LATE, EARLY) \
+    description = f"appeared {format_frame_range(frames[0], frames[-1])} {name}" \
+        if name in (LATE, EARLY) \
         else NONE_PREDICATES[name] if is_none else CAUSE_PREDICATES[name][1]
     words = {cause.details for cause in causes}
     more = f" ({words.pop()})" if len(words) == 1 and words != {""} else ""
-    return f"{which} {said}{more} ({when})"
+    return f"{subject} {description}{more} ({period_text})"

@@ -27,7 +27,7 @@ class Severity:
     """
 
     def __init__(self, path: str | None, is_loss_allowed: bool = False) -> None:
-        self.by_fault: dict[int | str, str] = {}
+        self.severity_by_fault: dict[int | str, str] = {}
         self.default = ERROR
         self.is_loss_allowed = is_loss_allowed
         if path is not None:
@@ -47,9 +47,9 @@ class Severity:
         if name == OTHERS:
             self.default = severity
         elif name in FAULT_NAMES:
-            self.by_fault[name] = severity
+            self.severity_by_fault[name] = severity
         elif name.lstrip("0") in map(str, FAULT_NUMBERS):
-            self.by_fault[int(name)] = severity
+            self.severity_by_fault[int(name)] = severity
         else:
             raise Stop(f"{path}, line {line_number}: no refusal has the number {name}")
 
@@ -58,9 +58,9 @@ class Severity:
         if number in ENDS_READING | ENDS_FILE:
             return ERROR
         if number == LOST_PACKETS:
-            return WARNING if self.is_loss_allowed else self.by_fault.get(number, ERROR)
+            return WARNING if self.is_loss_allowed else self.severity_by_fault.get(number, ERROR)
         is_loss = number == SILENT and not self.is_error(LOST_PACKETS)
-        return self.by_fault.get(number, WARNING if is_loss else self.default)
+        return self.severity_by_fault.get(number, WARNING if is_loss else self.default)
 
     def is_error(self, number: int | str) -> bool:
         """Return whether the faults with this number or name are errors."""
@@ -75,7 +75,7 @@ WARNED = "warned"  # no errors, but --strict does not accept warnings
 NOT_JUDGED = "not judged"
 STATUSES = {ACCEPTED: 0, WAIVED: 0, REFUSED: 1, LOST: 1, WARNED: 1, NOT_JUDGED: 2, RELATIVE: 3}
 POSSIBLE_RESULTS = [*STATUSES.items(), (RELATIVE, 0)]  # the last entry is for --relative
-WORST_FIRST = (2, 1, 3, 0)
+STATUS_ORDER = (2, 1, 3, 0)
 
 NOT_ANSWERED = "check gave no verdict"
 NOTHING_READ = "none of the recording was read, and --severity makes all faults warnings"
@@ -175,6 +175,6 @@ def combine_statuses(statuses: Iterable[int], is_stopped: bool = False) -> int:
     """Return the exit status for several verdicts, which is the worst of their statuses. Return 2
     if there is no verdict, or if `is_stopped` is true because pairs are missing."""
     found = {*statuses}
-    if is_stopped or not found or not found <= {*WORST_FIRST}:
+    if is_stopped or not found or not found <= {*STATUS_ORDER}:
         return 2
-    return min(found, key=WORST_FIRST.index)
+    return min(found, key=STATUS_ORDER.index)

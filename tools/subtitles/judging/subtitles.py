@@ -5,15 +5,16 @@ import functools
 from typing import Iterable, Iterator, NamedTuple, Sequence
 
 from ..common.command_line import counted
-from ..common.times import FRAMES_A_SECOND, FRAMES_OF_A_DAY, TICKS, frame_of_code, time_of
+from ..common.times import FRAMES_A_SECOND, FRAMES_OF_A_DAY, TICKS, decode_frame, format_frame
 from ..formats.layout import Layout, PLAIN, TextFault, draw_text, make_page_rows
 from ..formats.listing import (
-    CHARACTER, EMPTY, EMPTY_TIME, FaultLine, LETTERS, Meaning, OUT_OF_ORDER, STL_FAULTS,
+    CHARACTER, EMPTY, EMPTY_TIME, FaultLine, Meaning, OUT_OF_ORDER, STL_FAULTS, TEXT_FAULTS,
     read_meanings, remove_markup)
-from ..formats.stl import NamedSubtitle, Subtitle, SubtitleFile, subtitle_name, decode_subtitles
+from ..formats.stl import (
+    NamedSubtitle, Subtitle, SubtitleFile, format_subtitle_name, decode_subtitles)
 from ..formats.teletext import (
-    BY_WORD, NationalOption, OPTIONS, Page, decode_character, has_characters, character_bytes,
-    find_options)
+    OPTION_BY_WORD, NationalOption, OPTIONS, Page, decode_character, has_characters,
+    read_character_bytes, find_options)
 from ..request.commands import MAX_LIST_LINES
 from ..stream.packets import PES, PacketRun, Packets
 from ..stream.receiver import BLANK_PAGE, Rows, Timeline
@@ -32,12 +33,12 @@ def advise_on_midnight(fault: FaultLine, subtitles: SubtitleFile) -> str:
         return ""
     if fault.number == EMPTY_TIME:
         block = subtitles.block(fault.block)
-        is_night = falls_at_midnight(block[TCI], block[TCO])
+        is_at_midnight = falls_at_midnight(block[TCI], block[TCO])
     else:
-        before = subtitles.find_previous_first(fault.block)
-        is_night = before is not None and falls_at_midnight(
+        before = subtitles.find_previous_block(fault.block)
+        is_at_midnight = before is not None and falls_at_midnight(
             subtitles.block(before)[TCI], subtitles.block(fault.block)[TCI])
-    return AT_MIDNIGHT if is_night else ""
+    return AT_MIDNIGHT if is_at_midnight else ""
 
 
 def advise_on_title(subtitles: SubtitleFile) -> str:
@@ -46,13 +47,14 @@ def advise_on_title(subtitles: SubtitleFile) -> str:
     rest = min((frame for frame in subtitles.begins if frame), default=0)
     if not rest >= HOUR or subtitles.begins[0]:
         return ""
-    return (f"the first subtitle is at 00:00:00:00, all others are from {time_of(rest)} on: if "
-            f"that is a title, which is not sent, give --from {time_of(rest)}")
+    return (f"the first subtitle is at 00:00:00:00, all others are from {format_frame(rest)} on: "
+            f"if that is a title, which is not sent, give --from {format_frame(rest)}")
 
 
-def falls_at_midnight(earlier: bytes, later: bytes) -> bool:
-    """Return whether `earlier` is in the last hour of a day, and `later` in the first hour."""
-    first, second = frame_of_code(earlier), frame_of_code(later)
+def falls_at_midnight(earlier_code: bytes, later_code: bytes) -> bool:
+    """Return whether `earlier_code` is in the last hour of a day, and `later_code` in the first
+    hour."""
+    first, second = decode_frame(earlier_code), decode_frame(later_code)
     return first is not None and second is not None and \
         first >= FRAMES_OF_A_DAY - HOUR and second < HOUR
 
@@ -74,7 +76,7 @@ class OptionAdvice:
         """Return advice on the byte at `offset` in the text that ends in the TTI block `block`."""
         text = self.subtitles.text(block)
         return "" if offset >= len(text) else advise_on_character(
-            character_bytes(text, offset), self.complete_options)
+            read_character_bytes(text, offset), self.complete_options)
 
 
 def advise_on_character(letter: bytes, complete_options: list[NationalOption]) -> str:
@@ -104,7 +106,8 @@ def join_words(words: list[str], conjunction: str) -> str:
 # A subtitle with one of these faults is not compared with other subtitles.
 NOT_COMPARED = {16, *range(18, 22)}
 ORDER_FAULTS = {56, 57}  # faults found by comparing a subtitle with the previous one
-MAX_NAMED = 3  # maximum number of refused subtitles to name in the sentence about the verdict
+# maximum number of refused subtitles to name in the sentence about the verdict
+MAX_NAMED_SUBTITLES = 3
 PAGE_FLAGS, ERASE_FLAGS = "heo", "heb"  # flags of a PES packet with a page, or with a blank page
 
 
@@ -132,7 +135,7 @@ class RefusedSubtitle(NamedTuple):
     def describe_subtitle(self) -> str:
         """Return the name of the subtitle and its time."""
         subtitle = self.subtitle
-        return f"{subtitle_name(subtitle.position, subtitle.number)} at {subtitle.begin}"
+        return f"{format_subtitle_name(subtitle.position, subtitle.number)} at {subtitle.begin}"
 
     def describe_reason(self) -> str:
         """Describe the fault with the refused character or the meaning of the fault. Add advice."""
@@ -165,12 +168,13 @@ class ValidSubtitles(NamedTuple):
         """Describe the first refused subtitles, and the number of the others."""
         if len(self.refused) == 1:
             return f"{self.refused[0].describe_subtitle()} {self.refused[0].describe_reason()}"
-        named = [f"{refused.describe_subtitle()} {refused.describe_reason()}"
-                 for refused in self.refused[:MAX_NAMED]]
-        more, total = len(self.refused) - len(named), len(self.judged) + len(self.skipped_positions)
-        last = f"{more:,} more" if more else named.pop()
+        subtitle_texts = [f"{refused.describe_subtitle()} {refused.describe_reason()}"
+                          for refused in self.refused[:MAX_NAMED_SUBTITLES]]
+        more, total = len(self.refused) - len(subtitle_texts), len(self.judged) \
+            + len(self.skipped_positions)
+        last = f"{more:,} more" if more else subtitle_texts.pop()
         return f"{len(self.refused):,} of {total:,} subtitles have faults: " \
-            f"{'; '.join(named)}; and {last}"
+            f"{'; '.join(subtitle_texts)}; and {last}"
 
 
 def has_valid_subtitles(numbers: set[int]) -> bool:
@@ -183,29 +187,30 @@ def has_valid_subtitles(numbers: set[int]) -> bool:
 def find_valid_subtitles(file: SubtitleFile, faults: Iterable[FaultLine],
                          option: str) -> ValidSubtitles:
     """Return the subtitles that can be judged, and those that can't because of the faults."""
-    by_position: dict[int, list[FaultLine]] = {}
+    faults_by_position: dict[int, list[FaultLine]] = {}
     for fault in faults:
         subtitle = file.find_by_block(fault.block) if fault.block is not None else None
         if subtitle and fault.number in STL_FAULTS:
-            by_position.setdefault(subtitle.position, []).append(fault)
-    asked_for = [*list_positions(file)]
-    records = [place for place in asked_for
-               if not {one.number for one in by_position.get(place, ())} & NOT_COMPARED]
-    judged = {place for place, after in zip(records, [*records[1:], None])
-              if place not in by_position and not (after is not None and {
-                  one.number for one in by_position.get(after, ())} & ORDER_FAULTS)}
+            faults_by_position.setdefault(subtitle.position, []).append(fault)
+    requested_positions = [*list_positions(file)]
+    records = [place for place in requested_positions
+               if not {item.number for item in faults_by_position.get(place, ())} & NOT_COMPARED]
+    judged_places = {place for place, after in zip(records, [*records[1:], None])
+                     if place not in faults_by_position and not (after is not None and {
+                  item.number for item in faults_by_position.get(after, ())} & ORDER_FAULTS)}
     advice, known = OptionAdvice(file, option), read_meanings()
-    refused = [make_refused_subtitle(file, by_position[place][0], advice, known)
-               for place in sorted(by_position)]
-    return ValidSubtitles([one for one in decode_subtitles(file.data) if one.index in judged],
-                          refused, frozenset(asked_for) - judged)
+    refused = [make_refused_subtitle(file, faults_by_position[place][0], advice, known)
+               for place in sorted(faults_by_position)]
+    return ValidSubtitles([item for item in decode_subtitles(file.data)
+                           if item.index in judged_places],
+                          refused, frozenset(requested_positions) - judged_places)
 
 
 def list_positions(file: SubtitleFile) -> Iterator[int]:
     """Yield the positions of the subtitles that begin between --from and --to."""
     for place, block in enumerate(file.start_blocks, 1):
-        begin = frame_of_code(file.block(block)[5:9])
-        if begin is None or file.between.has(begin):
+        begin = decode_frame(file.block(block)[5:9])
+        if begin is None or file.between.includes(begin):
             yield place
 
 
@@ -216,11 +221,11 @@ def make_refused_subtitle(file: SubtitleFile, fault: FaultLine, advice: OptionAd
     subtitle = file.find_by_block(fault.block)
     assert subtitle
     byte, character = file.describe_byte(fault.block, fault.at) \
-        if fault.number in LETTERS and fault.at is not None else (None, None)
-    of_letter = advice.advise(fault.block, fault.at) \
+        if fault.number in TEXT_FAULTS and fault.at is not None else (None, None)
+    advice_text = advice.advise(fault.block, fault.at) \
         if fault.number == CHARACTER and fault.at is not None else ""
-    of_manual = remove_markup(known[fault.number].remedy) if fault.number in known else ""
-    do = of_letter or advise_on_midnight(fault, file) or of_manual
+    manual_text = remove_markup(known[fault.number].remedy) if fault.number in known else ""
+    do = advice_text or advise_on_midnight(fault, file) or manual_text
     return RefusedSubtitle(subtitle, fault, character or (f"byte {byte}" if byte else ""), do)
 
 
@@ -229,7 +234,7 @@ def draw_valid_pages(subtitles: Sequence[Subtitle], page: Page, option: str,
         -> ExpectedPages:
     """Return the expected pages of the judged subtitles. They are drawn in Python, because `subttx
     schedule` refuses a file with refused subtitles."""
-    pages = [draw_page(one, option, layout) for one in subtitles]
+    pages = [draw_page(item, option, layout) for item in subtitles]
     packets = Packets(PES)
     for place, (subtitle, rows) in enumerate(zip(subtitles, pages)):
         add_transmission(packets, subtitle.begin, rows, page, option)
@@ -241,7 +246,7 @@ def draw_valid_pages(subtitles: Sequence[Subtitle], page: Page, option: str,
 
 def draw_page(subtitle: Subtitle, option: str, layout: Layout) -> Rows:
     """Return the page with a subtitle, whose text must have no fault."""
-    lines = draw_text(subtitle.text, subtitle.row, subtitle.justify, layout, BY_WORD[option])
+    lines = draw_text(subtitle.text, subtitle.row, subtitle.justify, layout, OPTION_BY_WORD[option])
     assert not isinstance(lines, TextFault)
     return make_page_rows(lines)
 
@@ -249,9 +254,9 @@ def draw_page(subtitle: Subtitle, option: str, layout: Layout) -> Rows:
 def add_transmission(packets: Packets, frame: int, rows: Rows, page: Page, option: str) -> None:
     """Add a PES packet that sends a page in a frame."""
     number = packets.count
-    header = (page[1] & 15, page[1] >> 4, 0, 8, 0, 8, 1, BY_WORD[option].bits << 1)
+    header = (page[1] & 15, page[1] >> 4, 0, 8, 0, 8, 1, OPTION_BY_WORD[option].bits << 1)
     packets.runs.append(PacketRun(number, 1, TICKS * frame, 0,
                                   ERASE_FLAGS if rows == BLANK_PAGE else PAGE_FLAGS,
-                                  "".join(f"{one:X}" for one in header)))
+                                  "".join(f"{item:X}" for item in header)))
     packets.decoded_rows.append((number, tuple((row, cells) for row, cells in enumerate(rows, 1)
                                                if cells != BLANK_PAGE[0])))

@@ -8,11 +8,11 @@ from typing import Iterable, Iterator, NamedTuple, Sequence
 from ..clock.origin import OriginEstimate, OriginSearch, PartOrigin, estimate_origin
 from ..clock.start import (
     Clock, GIVEN, NoFirstPicture, RECORDING, START, TCP, TimedPart, compute_start_clock,
-    read_start_frame, refuse_outside)
+    read_start_frame, refuse_outside_recording)
 from ..common.command_line import Stop, counted, format_error, format_pid
 from ..common.times import (
-    FRAMES_A_SECOND, FRAMES_OF_A_DAY, TICKS, duration_text, pts_of, ticks_after, ticks_between,
-    ticks_within, time_of, wrap_pts)
+    FRAMES_A_SECOND, FRAMES_OF_A_DAY, TICKS, describe_duration, format_frame, pts_of,
+    subtract_origin, subtract_pts, subtract_pts_within, wrap_pts)
 from ..formats.listing import NamedFault, PICTURES_LEFT
 from ..recording.recording import Recording
 from ..request.commands import Listener
@@ -20,7 +20,7 @@ from ..request.request import (
     NONE, ORIGIN_CHOICE, PACE_CHOICE, PES_CHOICE, Request, Selection, Unclear)
 from ..stream.pace import (
     BY_EVERY, IRREGULAR, PAUSED, Pace, REGULAR, TOO_FEW, compute_pace, count_ts_packets,
-    find_hidden_loss, find_pauses, frame_rows)
+    find_hidden_loss, find_pauses, list_frame_rows)
 from ..stream.packets import NO_RANGE, PTSPair, Range, find_announced_jumps
 from ..stream.ranges import PacketRange, find_range
 from ..stream.pictures import Departure, locate_departures
@@ -56,16 +56,16 @@ class PartClocks(NamedTuple):
 def find_parts(search: PartSearch, recording: Recording, listener: Listener) -> PartClocks:
     """Find the parts of a recording and their clocks. The first part has the clock from --origin or
     --start, if given."""
-    request, whole = search.request, search.full_range
-    given = get_given_clock(request) or find_start_clock(search, recording, listener)
-    origin = report_estimated_origin(search, recording, given, listener)
+    request, full_part = search.request, search.full_range
+    given_clock = get_given_clock(request) or find_start_clock(search, recording, listener)
+    origin = report_estimated_origin(search, recording, given_clock, listener)
     listener.add_notes(*origin.shift_texts)
-    alignments = list_timed_parts(origin, whole)
-    if not alignments and (given is None or request.breaks or origin.airings):
+    alignments = list_timed_parts(origin, full_part)
+    if not alignments and (given_clock is None or request.breaks or origin.airings):
         raise make_unclear_origin(origin, suggest_options(recording, origin))
-    alignments, delay = alignments or [whole], list[str]()
-    if given:
-        clock, delay = add_delay(given, origin)
+    alignments, delay = alignments or [full_part], list[str]()
+    if given_clock:
+        clock, delay = add_delay(given_clock, origin)
         alignments[0] = alignments[0]._replace(clock=clock)
         refuse_wrong_clock(search, recording, alignments[0])
     return PartClocks(search, alignments, delay)
@@ -78,7 +78,7 @@ def get_given_clock(request: Request) -> Clock | None:
 
 def find_start_clock(search: PartSearch, recording: Recording, listener: Listener) -> Clock | None:
     """Return the clock from --start and the first picture, if --start was given."""
-    request, whole = search.request, search.full_range
+    request, full_part = search.request, search.full_range
     if request.start is None:
         return None
     try:
@@ -86,11 +86,12 @@ def find_start_clock(search: PartSearch, recording: Recording, listener: Listene
             raise NoFirstPicture("a file of Teletext PES packets has no pictures")
         begin = compute_start_clock(request, recording.survey, recording.packets)
     except NoFirstPicture as reason:
-        raise recording.no_picture_error(reason) from None
+        raise recording.make_picture_error(reason) from None
     for line in begin.lines:
         listener.print_line(line)
     if begin.clock.source == TCP:
-        refuse_outside(request, begin, whole.begin, whole.end, recording.find_last_time())
+        refuse_outside_recording(request, begin, full_part.begin, full_part.end,
+                                 recording.find_last_time())
     return begin.clock
 
 
@@ -140,11 +141,11 @@ def add_delay(clock: Clock, origin: OriginEstimate) -> tuple[Clock, list[str]]:
         return clock, []
     words = " and ".join([counted(frames, "frame")] * (frames > 0)
                          + [counted(ticks, "tick")] * (ticks > 0))
-    which = "all" if origin.has_all_cues else "most"
-    where = f"up to {time_of(origin.first_shift)}," if origin.first_shift is not None else \
-        which if len(origin.printed) == 1 else f"up to the first break, {which}"
-    line = f"{where} subtitles are {words} {'early' if sign < 0 else 'late'}"
-    question = clock.question() if which == "all" and not ticks else ""
+    scope_text = "all" if origin.has_all_cues else "most"
+    period_text = f"up to {format_frame(origin.first_shift)}," if origin.first_shift is not None \
+        else scope_text if len(origin.printed) == 1 else f"up to the first break, {scope_text}"
+    line = f"{period_text} subtitles are {words} {'early' if sign < 0 else 'late'}"
+    question = clock.question() if scope_text == "all" and not ticks else ""
     return clock, [line, *filter(None, [question])]
 
 
@@ -162,25 +163,25 @@ def describe_wrong_clock(request: Request, clock: Clock, delay: int) -> str:
     """Describe the error of a given clock, with which the subtitles are `delay` frames late."""
     if clock.source == GIVEN:
         return f"with --origin {clock.origin}, all subtitles would be " \
-            f"{duration_text(abs(delay))} {'late' if delay > 0 else 'early'}, so the recording " \
-            "contains no subtitle at its expected time"
-    given = read_start_frame(request)
-    estimated = wrap_pts(clock.origin + TICKS * delay)
-    begins = round(ticks_after(estimated, pts_of(given, clock.origin)) / TICKS)
+            f"{describe_duration(abs(delay))} {'late' if delay > 0 else 'early'}, so the " \
+            "recording contains no subtitle at its expected time"
+    given_frame = read_start_frame(request)
+    estimated_origin = wrap_pts(clock.origin + TICKS * delay)
+    begins = round(subtract_origin(estimated_origin, pts_of(given_frame, clock.origin)) / TICKS)
     name = "the TCP" if clock.source == TCP else "--start"
-    which = "earlier" if given < begins else "later"
-    return f"{name} {time_of(given)} is {duration_text(abs(given - begins))} {which} than the " \
-        "beginning of the recording by its subtitles, " \
-        f"{time_of(begins % FRAMES_OF_A_DAY)}. TIME is on the subtitle file's own clock, not the " \
-        "time of day"
+    direction = "earlier" if given_frame < begins else "later"
+    return f"{name} {format_frame(given_frame)} is " \
+        f"{describe_duration(abs(given_frame - begins))} {direction} than the beginning of the " \
+        f"recording by its subtitles, {format_frame(begins % FRAMES_OF_A_DAY)}. TIME is on the " \
+        "subtitle file's own clock, not the time of day"
 
 
-def make_unclear_origin(origin: OriginEstimate, again: Iterable[str]) -> Unclear:
+def make_unclear_origin(origin: OriginEstimate, commands: Iterable[str]) -> Unclear:
     """Return the exception that explains why the origin is ambiguous, and suggests commands."""
     is_printed = origin.airings or origin.breaks is not None
     reason = "\n".join(origin.lines) if is_printed else \
         f"the clock cannot be estimated: {'; '.join(origin.lines)}"
-    return Unclear(reason, *again)
+    return Unclear(reason, *commands)
 
 
 def suggest_options(recording: Recording, origin: OriginEstimate) -> Iterator[str]:
@@ -189,7 +190,7 @@ def suggest_options(recording: Recording, origin: OriginEstimate) -> Iterator[st
         yield recording.suggest_call("--pes", "I-J")
     elif origin.breaks is None:
         yield recording.suggest_call("--origin", "T")
-        yield from recording.other_pages([recording.packets])
+        yield from recording.suggest_other_pages([recording.packets])
 
 
 def cut_packets(search: PartSearch, recording: Recording, alignment: TimedPart,
@@ -203,23 +204,23 @@ def cut_packets(search: PartSearch, recording: Recording, alignment: TimedPart,
 def find_part_packets(search: PartSearch, part: Part, listener: Listener) -> Range:
     """Find the range of PES packets in a part, and report it."""
     recording, alignment = part.judged_recording
-    cut = cut_packets(search, recording, alignment, search.request.within)
-    damage, line = recording.packets.damage, f"range: {cut.describe()}"
-    if cut.range is None:
+    part_packets = cut_packets(search, recording, alignment, search.request.within)
+    damage, line = recording.packets.damage, f"range: {part_packets.describe()}"
+    if part_packets.range is None:
         listener.print_line(line)
     else:
-        first, last = cut.range
+        first, last = part_packets.range
         listener.add_selection(Selection(PES_CHOICE, f"{first}-{last}", line, last - first + 1,
-                                         cut.read,
+                                         part_packets.read,
                                   part.number))
-    if damage and not cut.is_over:
+    if damage and not part_packets.is_over:
         listener.print_line(f"range: {recording.display_name}: {damage}; the recording was read "
                             "up to this point")
-    if cut.range is None:
+    if part_packets.range is None:
         raise Unclear("the recording does not contain the page at the time of the subtitles",
                       recording.suggest_call("--origin", "T"),
-                      *recording.other_pages([recording.packets]))
-    return cut.range
+                      *recording.suggest_other_pages([recording.packets]))
+    return part_packets.range
 
 
 NEXT_FRAME = 1  # interval between PES packets, in frames, if each frame has one
@@ -231,13 +232,13 @@ def measure_part_pace(part: Part, times: Sequence[tuple[int, int]], listener: Li
     packets, unless --pace is given or the intervals are irregular. Add notes about losses that
     can't be detected. `times` has the TCI and TCO of each subtitle."""
     number, request, (recording, _) = part.number, part.request, part.judged_recording
-    pace, unseen = measure_pace(part, times)
+    pace, unseen_frames = measure_pace(part, times)
     jumps, count = find_late_jumps(part, pace)
     notes = [describe_jumps(count, recording)]
     if request.pace_word is not None:
         notes.append(describe_missing_pcr(recording) if request.pace_word == NONE else "")
     else:
-        notes.append(note := describe_unchecked_losses(pace, unseen, recording))
+        notes.append(note := describe_unchecked_losses(pace, unseen_frames, recording))
         if pace.frames:
             listener.add_selection(make_pace_selection(pace, recording.is_stream, number))
             request = dataclasses.replace(request, pace_word=str(pace.frames))
@@ -253,10 +254,11 @@ def measure_pace(part: Part, times: Sequence[tuple[int, int]]) -> tuple[Pace, in
     of the shortest loss that the continuity counter may not show."""
     request, (recording, alignment), pes = part.request, part.judged_recording, part.pes or NO_RANGE
     size = None if recording.is_stream else os.path.getsize(recording.path)
-    rows = frame_rows(recording.packets, pes, alignment.origin, request.within)
-    each = count_ts_packets(recording.packets, pes, size)
-    return compute_pace(rows, each, request.every, find_pauses(times), recording.is_stream), \
-        find_hidden_loss(rows, each)
+    rows = list_frame_rows(recording.packets, pes, alignment.origin, request.within)
+    packets_per_pes = count_ts_packets(recording.packets, pes, size)
+    return compute_pace(rows, packets_per_pes, request.every, find_pauses(times),
+                        recording.is_stream), \
+        find_hidden_loss(rows, packets_per_pes)
 
 
 def find_late_jumps(part: Part, pace: Pace) -> tuple[list[PTSPair], int]:
@@ -266,7 +268,7 @@ def find_late_jumps(part: Part, pace: Pace) -> tuple[list[PTSPair], int]:
     if not recording.is_stream:
         return [], 0
     jumps = find_announced_jumps(recording.packets, inside, min(pace.interval, NEXT_FRAME))
-    late = [pair for pair in jumps if ticks_between(*pair) > pace.interval * TICKS]
+    late = [pair for pair in jumps if subtract_pts(*pair) > pace.interval * TICKS]
     return late, len(jumps) - len(late)
 
 
@@ -292,32 +294,32 @@ def describe_pace(pace: Pace, is_stream: bool) -> str:
         f"--pace {pace.frames}"
 
 
-def describe_unchecked_losses(pace: Pace, unseen: int | None, recording: Recording) -> str:
+def describe_unchecked_losses(pace: Pace, unseen_frames: int | None, recording: Recording) -> str:
     """Describe the losses that can't be detected. Return an empty string if --every or --pace shows
     all losses."""
     if pace.kind == BY_EVERY or pace.kind == REGULAR and not pace.hidden_places:
         return ""
-    if without := describe_missing_pcr(recording):
-        return without
+    if missing_pcr_text := describe_missing_pcr(recording):
+        return missing_pcr_text
     if pace.kind == REGULAR:
         seconds = (pace.loss_interval - 1) / FRAMES_A_SECOND
-        what = f"losses of up to {seconds:.2f} s on this PID alone" \
+        loss_text = f"losses of up to {seconds:.2f} s on this PID alone" \
             if recording.is_stream else "a missing PES packet"
-        return f"{UNCHECKED} {what}, at {counted(pace.hidden_places, 'place')} where PES packets " \
-            "are too close together"
-    why = {IRREGULAR: "the PES packets come at irregular intervals",
-           PAUSED: f"there is no PES packet for up to {counted(pace.interval, 'frame')}",
-           TOO_FEW: "there are too few PES packets to measure their interval"}[pace.kind]
+        return f"{UNCHECKED} {loss_text}, at {counted(pace.hidden_places, 'place')} where PES " \
+            "packets are too close together"
+    reason = {IRREGULAR: "the PES packets come at irregular intervals",
+              PAUSED: f"there is no PES packet for up to {counted(pace.interval, 'frame')}",
+              TOO_FEW: "there are too few PES packets to measure their interval"}[pace.kind]
     if not recording.is_stream:
-        return f"{UNCHECKED} missing PES packets, since {why}"
-    tenths = 10 * (unseen or 0) // FRAMES_A_SECOND
-    what = f"losses of {tenths / 10} s or more" if tenths else "losses"
-    return f"{UNCHECKED} {what} on this PID alone, since {why}"
+        return f"{UNCHECKED} missing PES packets, since {reason}"
+    tenths_of_second = 10 * (unseen_frames or 0) // FRAMES_A_SECOND
+    loss_text = f"losses of {tenths_of_second / 10} s or more" if tenths_of_second else "losses"
+    return f"{UNCHECKED} {loss_text} on this PID alone, since {reason}"
 
 
 def describe_missing_pcr(recording: Recording) -> str:
     """Return the note that there is no PCR to show losses, or "" if there is one."""
-    if not recording.is_stream or recording.survey.clock_of(recording.packets.pid) is not None:
+    if not recording.is_stream or recording.survey.get_pcr_range(recording.packets.pid) is not None:
         return ""
     return f"the programme of {format_pid(recording.packets.pid)} has no PCR, so a loss that the " \
         "counter does not show, such as 16 TS packets, is not detected"
@@ -339,16 +341,16 @@ class DesyncFindings(NamedTuple):
 def find_desync(survey: Survey, pid: int, alignment: TimedPart, within: int, number: int
                 ) -> DesyncFindings:
     """Find where pictures drift from the subtitles on the Teletext PID `pid`, in part `number`."""
-    kinds = {pid for programme in survey.programmes_of(pid) for pid in programme.kinds}
+    kinds = {pid for programme in survey.find_programmes(pid) for pid in programme.kinds}
     faults, notes = list[NamedFault](), list[str]()
     for (own, video), leads in survey.leads.items():
         if own == pid and video in kinds:
-            departures = locate_departures(leads)
-            inside = find_departures(departures or [], alignment)
-            away = [departure for departure in inside if departure.ticks]
-            faults += make_desync_faults(away, alignment, within, number)
-            notes += make_delay_notes(away, alignment, within)
-            notes += make_unclear_notes(departures is not None, len(inside) - len(away))
+            departure_places = locate_departures(leads)
+            inside = find_departures(departure_places or [], alignment)
+            departed = [departure for departure in inside if departure.ticks]
+            faults += make_desync_faults(departed, alignment, within, number)
+            notes += make_delay_notes(departed, alignment, within)
+            notes += make_unclear_notes(departure_places is not None, len(inside) - len(departed))
     return DesyncFindings(faults, notes)
 
 
@@ -360,10 +362,10 @@ def find_departures(several: Sequence[Departure], alignment: TimedPart) -> list[
     is_of_picture = alignment.clock.source in (START, TCP)
     found = []
     for departure in several:
-        at, since = (ticks_within(first, length, pts)
-                     for pts in (departure.pts, departure.earlier_pts))
-        if since < length and (at >= 0 or is_of_picture):
-            is_inside = at < length and (since >= 0 or is_of_picture)
+        at, begin_ticks = (subtract_pts_within(first, length, pts)
+                           for pts in (departure.pts, departure.earlier_pts))
+        if begin_ticks < length and (at >= 0 or is_of_picture):
+            is_inside = at < length and (begin_ticks >= 0 or is_of_picture)
             found.append(departure if is_inside else departure._replace(ticks=None))
     return found
 
@@ -380,7 +382,7 @@ class Desync(NamedTuple):
         """Return a clause that describes the fault."""
         count = counted(abs(self.ticks) // TICKS, "frame") if self.ticks % TICKS == 0 else \
             f"{abs(self.ticks) / TICKS:.1f} frames"
-        return f"from {time_of(self.first)} on, subtitles are {count} " \
+        return f"from {format_frame(self.first)} on, subtitles are {count} " \
             f"{'early' if self.ticks > 0 else 'late'} for viewers: the video's timestamps jump"
 
 
@@ -388,8 +390,9 @@ def find_desync_spans(several: Sequence[Departure], alignment: TimedPart) -> Ite
     """Yield the frames in which the sum of all drifts makes subtitles early or late."""
     first = pts_of(alignment.begin, alignment.origin)
     length, total = alignment.end - alignment.begin, 0
-    frames = [alignment.begin + max(ticks_within(first, TICKS * length, one.pts), 0) // TICKS
-              for one in several]
+    frames = [alignment.begin + max(subtract_pts_within(first, TICKS * length, item.pts),
+                                    0) // TICKS
+              for item in several]
     for departure, frame, end in zip(several, frames, [*frames[1:], alignment.end]):
         total += departure.ticks or 0
         if abs(total) * 2 >= TICKS and frame < end:
@@ -406,17 +409,17 @@ def make_desync_faults(several: Sequence[Departure], alignment: TimedPart, withi
                        number: int) \
         -> list[NamedFault]:
     """Return faults for subtitles that are early, or later than allowed."""
-    return [NamedFault(PICTURES_LEFT, away.describe(), time_of(away.first), time_of(away.end - 1),
-                       part=number)
-            for away in find_desync_spans(several, alignment)
-            if not is_allowed_delay(away.ticks, within)]
+    return [NamedFault(PICTURES_LEFT, desync_span.describe(), format_frame(desync_span.first),
+                       format_frame(desync_span.end - 1), part=number)
+            for desync_span in find_desync_spans(several, alignment)
+            if not is_allowed_delay(desync_span.ticks, within)]
 
 
 def make_delay_notes(several: Sequence[Departure], alignment: TimedPart, within: int) -> list[str]:
     """Return notes about subtitles whose delay is within the limit of --within."""
-    return [f"{away.describe()}, as --within {within} allows"
-            for away in find_desync_spans(several, alignment)
-            if is_allowed_delay(away.ticks, within)]
+    return [f"{desync_span.describe()}, as --within {within} allows"
+            for desync_span in find_desync_spans(several, alignment)
+            if is_allowed_delay(desync_span.ticks, within)]
 
 
 def make_unclear_notes(is_steady: bool, count: int) -> list[str]:

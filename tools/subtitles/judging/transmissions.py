@@ -9,15 +9,16 @@ from typing import Mapping, NamedTuple, Sequence
 
 from ..common.command_line import counted
 from ..common.files import make_temporary_folder
-from ..common.times import ALL_DAY, Between, Span
+from ..common.times import ALL_DAY, FrameRange, Span
 from ..formats.listing import CHANGED
 from ..formats.stl import Subtitle, SubtitleList, read_stl, decode_subtitles, parse_subtitles
 from ..formats.teletext import (
-    BY_BITS, BY_WORD, ERASE, INHIBIT, NEWSFLASH, Page, RESERVED, SUBTITLE, SUPPRESS, has_bit,
-    page_name)
+    ERASE, INHIBIT, NEWSFLASH, OPTION_BY_BITS, OPTION_BY_WORD, Page, RESERVED, SUBTITLE, SUPPRESS,
+    has_bit, page_name)
 from ..request.request import Request, Unclear, IncompleteAnswer
-from ..stream.packets import CLOSED, HEADER, PES, PacketRun, Packets, parse_headers, subcode_of
-from ..stream.receiver import BLANK_PAGE, LEAST, ReceiverState, Rows, Timeline, national_option
+from ..stream.packets import CLOSED, HEADER, PES, PacketRun, Packets, parse_headers, read_subcode
+from ..stream.receiver import (
+    BLANK_PAGE, MIN_FRAMES, ReceiverState, Rows, Timeline, read_national_option)
 from ..stream.survey import survey_runs
 from .check import CheckOutput
 from .pages import is_partial_page, join_page_text
@@ -41,7 +42,7 @@ RECEIVER_EFFECTS = (
     (SUPPRESS, True, "shows a header line"),
     (NEWSFLASH, False, "appears as a newsflash"),
 )
-OTHER_LETTERS = "is shown with wrong characters"
+OTHER_CHARACTERS = "is shown with wrong characters"
 
 
 class PageHeader(NamedTuple):
@@ -55,17 +56,17 @@ class PageHeader(NamedTuple):
 def find_page_headers(run: PacketRun, state: ReceiverState) -> list[PageHeader]:
     """Return the headers of the page in a PES packet. `state` is the state of the decoder before
     this packet."""
-    heard: list[PageHeader] = []
+    page_headers: list[PageHeader] = []
     before, is_open = state.header, state.is_open
     headers = iter(parse_headers(run.control))
-    for letter in run.flags:
-        if letter == HEADER:
+    for flag in run.flags:
+        if flag == HEADER:
             header = PageHeader(next(headers), before, is_open)
-            heard.append(header)
+            page_headers.append(header)
             before, is_open = header.header, True
-        elif letter == CLOSED:
+        elif flag == CLOSED:
             is_open = False
-    return heard
+    return page_headers
 
 
 def keeps_page(header: bytes) -> bool:
@@ -80,7 +81,7 @@ def describe_missing_erase(page_header: PageHeader, request: Request) -> str:
         return ""
     if not request.may_keep:
         return REPEAT_WITHOUT_ERASE
-    codes = [subcode_of(header)
+    codes = [read_subcode(header)
              for header in (page_header.header, page_header.previous or page_header.header)]
     if codes[0] != codes[1]:
         return f"{ERASE_CLEAR}, though the sub-code changes from {codes[1]} to {codes[0]}"
@@ -93,11 +94,11 @@ def describe_control_bits(header: bytes, option: str, erase_fault: str = "") -> 
     """Return messages about a header's control bits, first `erase_fault`, the one about C4."""
     faults = [erase_fault] if erase_fault else []
     faults += [words for bit, is_set, words in CONTROL_BIT_FAULTS if has_bit(header, bit) != is_set]
-    bits = national_option(header)
+    bits = read_national_option(header)
     if bits == RESERVED:
         faults.append("C12, C13 and C14 are set, which is reserved")
-    elif bits != BY_WORD[option].bits:
-        faults.append(f"the header is {BY_BITS[bits].name}, but --option is {option}")
+    elif bits != OPTION_BY_WORD[option].bits:
+        faults.append(f"the header is {OPTION_BY_BITS[bits].name}, but --option is {option}")
     return faults
 
 
@@ -105,18 +106,18 @@ def describe_effect(headers: Sequence[PageHeader], request: Request) -> str:
     """Describe how the first faulty header affects some receivers."""
     numbers = next((header.header for header in headers if describe_control_bits(
         header.header, request.option, describe_missing_erase(header, request))), b"")
-    wrong = (words for bit, is_set,
-             words in RECEIVER_EFFECTS if numbers and has_bit(numbers, bit) != is_set
-             and not (bit == ERASE and request.may_keep))
-    return next(wrong, OTHER_LETTERS)
+    wrong_texts = (words for bit, is_set,
+                   words in RECEIVER_EFFECTS if numbers and has_bit(numbers, bit) != is_set
+                   and not (bit == ERASE and request.may_keep))
+    return next(wrong_texts, OTHER_CHARACTERS)
 
 
 def describe_header_faults(headers: Sequence[PageHeader], request: Request) -> str:
     """Describe the faults in the first faulty header."""
-    wrong = (describe_control_bits(header.header, request.option,
-                                   describe_missing_erase(header, request))
-             for header in headers)
-    return "; ".join(next(filter(None, wrong), []))
+    wrong_texts = (describe_control_bits(header.header, request.option,
+                                         describe_missing_erase(header, request))
+                   for header in headers)
+    return "; ".join(next(filter(None, wrong_texts), []))
 
 
 class KeepingHeaders(NamedTuple):
@@ -135,8 +136,8 @@ class KeepingHeaders(NamedTuple):
 def count_keeping_headers(headers: Mapping[bytes, int], option: str) -> KeepingHeaders | None:
     """Count the headers that do not erase the page. Return `None` if there are none, or if any
     header has another fault."""
-    keeping = sum(count for one, count in headers.items() if keeps_page(one))
-    if not keeping or any(describe_control_bits(one, option) for one in headers):
+    keeping = sum(count for item, count in headers.items() if keeps_page(item))
+    if not keeping or any(describe_control_bits(item, option) for item in headers):
         return None
     return KeepingHeaders(sum(headers.values()), keeping)
 
@@ -146,22 +147,23 @@ def find_omitted_rows(timeline: Timeline, expected: Rows, frame: int,
     """Describe which rows are missing after the last header before a frame. Return an empty string
     if this header erases the page, if the decoded page is not the expected page, or if a row has
     changed since the page was last erased."""
-    header = timeline.state_at(frame).header
+    header = timeline.get_state_at(frame).header
     at = bisect.bisect_right(timeline.header_frames, frame) - 1
-    if header is None or not keeps_page(header) or at < 0 or timeline.page_at(frame) != expected:
+    if header is None or not keeps_page(header) or at < 0 \
+            or timeline.get_page_at(frame) != expected:
         return ""
-    erased = timeline.erasure_frames[bisect.bisect_right(timeline.erasure_frames, frame) - 1] \
+    erased_at = timeline.erasure_frames[bisect.bisect_right(timeline.erasure_frames, frame) - 1] \
         if timeline.erasure_frames and timeline.erasure_frames[0] <= frame else 0
     changed = output.fault_spans.get(CHANGED) if output else None
-    if changed and any(changed.between(erased, frame + 1)):
+    if changed and any(changed.between(erased_at, frame + 1)):
         return ""
     sent = timeline.header_frames[at]
-    runs = [run for one in range(sent, min(frame, sent + timeline.within) + 1)
-            for run in timeline.runs_in_frame(one)]
-    came = sum(run.units - run.flags.count(HEADER) - run.flags.count(CLOSED) for run in runs)
+    runs = [run for item in range(sent, min(frame, sent + timeline.within) + 1)
+            for run in timeline.list_frame_runs(item)]
+    sent_frame = sum(run.units - run.flags.count(HEADER) - run.flags.count(CLOSED) for run in runs)
     return describe_omitted_rows([number for number,
                                   cells in enumerate(expected, 1) if cells.strip(b" ")],
-                                 output.find_fault_row(frame) if output else None, came)
+                                 output.find_fault_row(frame) if output else None, sent_frame)
 
 
 def describe_omitted_rows(rows: Sequence[int], row: int | None, received: int) -> str:
@@ -191,7 +193,7 @@ class ExpectedPages(SubtitleList):
         self.pages, self.timeline = pages, timeline
 
     @functools.cached_property
-    def by_page(self) -> dict[Rows, list[int]]:
+    def positions_by_page(self) -> dict[Rows, list[int]]:
         """Return the indices of the subtitles with each page."""
         by_page: dict[Rows, list[int]] = {}
         for place, page in enumerate(self.pages):
@@ -199,20 +201,20 @@ class ExpectedPages(SubtitleList):
         return by_page
 
     @functools.cached_property
-    def by_text(self) -> dict[str, list[int]]:
+    def positions_by_letters(self) -> dict[str, list[int]]:
         """Return the indices of the subtitles with each text."""
-        by_words: dict[str, list[int]] = {}
+        positions_by_text: dict[str, list[int]] = {}
         for place, page in enumerate(self.pages):
-            by_words.setdefault(join_page_text(page), []).append(place)
-        return by_words
+            positions_by_text.setdefault(join_page_text(page), []).append(place)
+        return positions_by_text
 
     def find_subtitle(self, page: Rows, frame: int) -> int | None:
         """Return the index of the subtitle with this page that begins nearest to a frame. Return
         `None` for a blank page, or if no subtitle has the page."""
-        places = self.by_page.get(page)
+        places = self.positions_by_page.get(page)
         return self.find_nearest(places, frame) if places and page != BLANK_PAGE else None
 
-    def page_at(self, frame: int) -> Rows:
+    def get_page_at(self, frame: int) -> Rows:
         """Return the page that is expected in a frame."""
         count, is_due = self.count_begun(frame)
         blank: Rows = BLANK_PAGE
@@ -221,15 +223,15 @@ class ExpectedPages(SubtitleList):
 
 def run_program(program: str, *arguments: str) -> list[str]:
     """Run the program and return its output lines; raise `IncompleteAnswer` if it fails."""
-    done = subprocess.run([program, *arguments], stdin=subprocess.DEVNULL, check=False,
-                          stdout=subprocess.PIPE, encoding="utf-8", errors="replace")
-    lines = done.stdout.splitlines()
-    if done.returncode and f"refused {NO_SUBTITLE_FAULT} " not in "".join(lines[-1:]):
+    process = subprocess.run([program, *arguments], stdin=subprocess.DEVNULL, check=False,
+                             stdout=subprocess.PIPE, encoding="utf-8", errors="replace")
+    lines = process.stdout.splitlines()
+    if process.returncode and f"refused {NO_SUBTITLE_FAULT} " not in "".join(lines[-1:]):
         raise IncompleteAnswer(f"{arguments[0]} gave no result: {''.join(lines[-1:])}")
     return lines
 
 
-def read_subtitles(program: str, stl: str, between: Between = ALL_DAY,
+def read_subtitles(program: str, stl: str, between: FrameRange = ALL_DAY,
                    is_open: bool = False) -> list[Subtitle]:
     """Return the subtitles of a file that begin in the range `between`, from the output of `subttx
     show`. Parse the file in Python if it has refused or open subtitles."""
@@ -240,11 +242,11 @@ def read_subtitles(program: str, stl: str, between: Between = ALL_DAY,
         if between == ALL_DAY:
             raise
         subtitles = decode_subtitles(read_stl(stl))
-    return [subtitle for subtitle in subtitles if between.has(subtitle.begin)]
+    return [subtitle for subtitle in subtitles if between.includes(subtitle.begin)]
 
 
 def schedule_pages(program: str, stl: str, subtitles: list[Subtitle], page: Page, option: str,
-                   between: Between = ALL_DAY,
+                   between: FrameRange = ALL_DAY,
                    layout_arguments: Sequence[str] = ()) -> ExpectedPages:
     """Return the expected pages of a file's subtitles, decoded from the output of `subttx
     schedule`. `layout_arguments` has the options for drawing pages."""
@@ -258,8 +260,8 @@ def schedule_pages(program: str, stl: str, subtitles: list[Subtitle], page: Page
         timeline = Timeline(Packets(PES), page, 0)
         for run, texts in survey_runs(program, path, page):
             timeline.receive_run(run, texts)
-    return ExpectedPages(subtitles, [timeline.page_at(subtitle.begin) for subtitle in subtitles],
-                         timeline)
+    return ExpectedPages(subtitles,
+                         [timeline.get_page_at(subtitle.begin) for subtitle in subtitles], timeline)
 
 
 class PageTransmissions:
@@ -277,23 +279,24 @@ class PageTransmissions:
 
     def is_expected_page(self, frame: int) -> bool:
         """Return whether the page decoded in a frame is the expected page."""
-        return self.timeline.page_at(frame) == self.expected.page_at(frame)
+        return self.timeline.get_page_at(frame) == self.expected.get_page_at(frame)
 
     def split_frames(self, first: int, last: int) -> list[Span]:
         """Split the frames of a fault into spans with the same expected and decoded page."""
         begins = {first, *self.expected.list_cues(first, last)}
         begins.update(self.timeline.frames[number]
-                      for number in self.timeline.page_numbers(first, last + 1)
+                      for number in self.timeline.list_page_numbers(first, last + 1)
                       if self.timeline.frames[number] > first)
-        rising = sorted(begins)
-        return [Span(begin, end - 1) for begin, end in zip(rising, [*rising[1:], last + 1])]
+        sorted_begins = sorted(begins)
+        return [Span(begin, end - 1) for begin, end in zip(sorted_begins, [*sorted_begins[1:],
+                last + 1])]
 
     def find_owner(self, frame: int) -> int:
         """Return the index of the subtitle that a wrong page in a frame belongs to. This is the
         last subtitle that begins at or before this frame, or the subtitle whose page was sent at
         the wrong time."""
         place = self.expected.find_place(frame)
-        number = self.timeline.number_at(frame)
+        number = self.timeline.find_page_number_at(frame)
         if place < 0 or number < 0:
             return max(place, 0)
         if place and self.is_delayed_page(number, place, frame):
@@ -313,10 +316,10 @@ class PageTransmissions:
     def was_sent_by_cue(self, place: int) -> bool:
         """Return whether the page of a subtitle was sent before or at its TCI, or at most the
         allowed delay later."""
-        came = self.find_transmission(place)
+        sent_frame = self.find_transmission(place)
         begin = self.subtitles[place].begin
-        return came is not None and came <= begin + self.timeline.within or \
-            self.timeline.page_at(begin) == self.pages[place]
+        return sent_frame is not None and sent_frame <= begin + self.timeline.within or \
+            self.timeline.get_page_at(begin) == self.pages[place]
 
     def is_delayed_page(self, number: int, place: int, frame: int) -> bool:
         """Return whether page `number` was wrong before the TCI of a subtitle, and only remains
@@ -333,17 +336,17 @@ class PageTransmissions:
         the next one."""
         if place + 1 >= len(self.subtitles) or not self.is_unknown_page(number, place):
             return False
-        one, following = self.subtitles[place], self.subtitles[place + 1]
-        return one.begin < self.timeline.frames[number] < one.end and \
+        item, following = self.subtitles[place], self.subtitles[place + 1]
+        return item.begin < self.timeline.frames[number] < item.end and \
             self.was_sent_by_cue(place) and \
             self.count_frames(number, following.begin, following.end) > \
-            self.count_frames(number, one.begin, one.end)
+            self.count_frames(number, item.begin, item.end)
 
     def search_window(self, place: int) -> Span:
         """Return the frames in which to search for the page transmission of a subtitle."""
         begin = self.subtitles[place].begin
-        return Span(min(self.expected.before(place), begin - LEAST),
-                    max(self.expected.after(place), begin + LEAST))
+        return Span(min(self.expected.before(place), begin - MIN_FRAMES),
+                    max(self.expected.after(place), begin + MIN_FRAMES))
 
     def find_transmission(self, place: int) -> int | None:
         """Return the frame nearest to the TCI in which the page of a subtitle was sent, if it was.
@@ -377,18 +380,19 @@ class PageTransmissions:
         The two delays may differ by the allowed delay."""
         other = self.expected.find_place(frame)
         begin = self.subtitles[other].begin
-        came = find_nearest(self.find_transmissions(other), begin)
-        moved = frame - self.subtitles[place].begin
-        return came is not None and abs(came - begin - moved) <= self.timeline.within
+        sent_frame = find_nearest(self.find_transmissions(other), begin)
+        shift = frame - self.subtitles[place].begin
+        return sent_frame is not None and abs(sent_frame - begin - shift) <= self.timeline.within
 
-    def find_unknown_page(self, place: int, came: int | None) -> int | None:
+    def find_unknown_page(self, place: int, sent_frame: int | None) -> int | None:
         """Return the number of the unknown page that was sent for a subtitle, if any. If there are
         several, return the one that lasts longest during the subtitle. Ignore pages after frame
-        `came`, in which the subtitle's own page was sent."""
+        `sent_frame`, in which the subtitle's own page was sent."""
         subtitle = self.subtitles[place]
-        end = subtitle.end if came is None or came <= subtitle.begin else min(came, subtitle.end)
-        least = subtitle.begin if place == 0 and came is not None else 0
-        numbers = [number for number in self.timeline.page_numbers(subtitle.begin, end)
+        end = subtitle.end if sent_frame is None or sent_frame <= subtitle.begin \
+            else min(sent_frame, subtitle.end)
+        least = subtitle.begin if place == 0 and sent_frame is not None else 0
+        numbers = [number for number in self.timeline.list_page_numbers(subtitle.begin, end)
                    if self.belongs_to_subtitle(number, place)
                    and self.is_unknown_page(number, place)
                    and self.timeline.frames[number] >= least]
@@ -406,20 +410,20 @@ class PageTransmissions:
         """Return whether a page belongs to no subtitle, and is neither blank nor an incomplete page
         of the subtitle at `place`."""
         page = self.timeline.pages[number]
-        return page != BLANK_PAGE and page not in self.expected.by_page and \
+        return page != BLANK_PAGE and page not in self.expected.positions_by_page and \
             not is_partial_page(page, self.pages[place])
 
     def count_frames(self, number: int, begin: int, end: int) -> int:
         """Return the number of frames in `range(begin, end)` in which page `number` is decoded."""
-        stretch = self.timeline.page_span(number)
+        stretch = self.timeline.get_page_span(number)
         return min(stretch.last + 1, end) - max(stretch.first, begin)
 
-    def find_other_at_cue(self, place: int) -> int | None:
+    def find_other_text_at_cue(self, place: int) -> int | None:
         """Return another subtitle whose page was sent at the TCI of the subtitle at `place`, or
         within the allowed delay. Ignore it if both are early or late by the same time."""
         subtitle = self.subtitles[place]
         limit = min(subtitle.begin + self.timeline.within + 1, subtitle.end)
-        for number in self.timeline.page_numbers(subtitle.begin, limit):
+        for number in self.timeline.list_page_numbers(subtitle.begin, limit):
             frame = self.timeline.frames[number]
             other = self.expected.find_subtitle(self.timeline.pages[number], frame)
             if frame >= subtitle.begin and other is not None and other != place and \
@@ -427,11 +431,11 @@ class PageTransmissions:
                 return other
         return None
 
-    def find_other_during(self, place: int) -> int | None:
+    def find_other_text_during(self, place: int) -> int | None:
         """Return another subtitle whose page was sent during the subtitle at `place`. Ignore a
         transmission that is the other subtitle's own (`find_transmission`)."""
         subtitle = self.subtitles[place]
-        for number in self.timeline.page_numbers(subtitle.begin, subtitle.end):
+        for number in self.timeline.list_page_numbers(subtitle.begin, subtitle.end):
             frame = self.timeline.frames[number]
             other = self.expected.find_subtitle(self.timeline.pages[number], frame)
             if frame >= subtitle.begin and other not in (None, place) and \
@@ -440,6 +444,6 @@ class PageTransmissions:
         return None
 
 
-def find_nearest(frames: list[int], wanted: int) -> int | None:
-    """Return the frame nearest to `wanted`, if there are any frames."""
-    return min(frames, key=lambda frame: abs(frame - wanted)) if frames else None
+def find_nearest(frames: list[int], wanted_frame: int) -> int | None:
+    """Return the frame nearest to `wanted_frame`, if there are any frames."""
+    return min(frames, key=lambda frame: abs(frame - wanted_frame)) if frames else None

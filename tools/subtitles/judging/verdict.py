@@ -5,10 +5,10 @@ import collections
 import dataclasses
 from typing import Callable, Collection, Iterable, NamedTuple, Sequence
 
-from ..clock.start import ESTIMATED_LATER_NOTE, ESTIMATED_NOTE, clock_advice
+from ..clock.start import ESTIMATED_LATER_NOTE, ESTIMATED_NOTE, advise_on_clock
 from ..common.command_line import format_frame_range, was
 from ..common.files import SummedFile
-from ..common.times import time_in
+from ..common.times import compute_time
 from ..formats.listing import FaultLine, NamedFault, STL_FAULTS, UNDECIDED
 from ..formats.stl import Subtitle
 from ..recording.recording import Recording
@@ -40,20 +40,20 @@ class DelaySpread(NamedTuple):
     def describe(self) -> str:
         """Return a clause that describes the delays."""
         middle = "" if self.minimum == self.maximum else f" (median {self.median})"
-        never = f", except {self.never_complete} that {was(self.never_complete)} never complete" \
-            if self.never_complete else ""
+        never_text = f", except {self.never_complete} that {was(self.never_complete)} never " \
+            "complete" if self.never_complete else ""
         delay = f"{format_frame_range(self.minimum, self.maximum)} after" if self.maximum else "at"
-        return f"subtitles were complete {delay} their TCI{middle}{never}"
+        return f"subtitles were complete {delay} their TCI{middle}{never_text}"
 
 
 def summarize_delays(several: Iterable[int | None]) -> DelaySpread | None:
     """Return the minimum, the median and the maximum of several delays. A delay is `None` if the
     subtitle was never complete. Return `None` if all delays are."""
-    all_of = list(several)
-    known = sorted(frames for frames in all_of if frames is not None)
+    spreads = list(several)
+    known = sorted(frames for frames in spreads if frames is not None)
     if not known:
         return None
-    return DelaySpread(known[0], known[len(known) // 2], known[-1], len(all_of) - len(known))
+    return DelaySpread(known[0], known[len(known) // 2], known[-1], len(spreads) - len(known))
 
 
 def measure_delay(subtitle: Subtitle, page: Rows, timeline: Timeline,
@@ -63,10 +63,10 @@ def measure_delay(subtitle: Subtitle, page: Rows, timeline: Timeline,
     before the TCI."""
     if timeline.first > subtitle.begin:
         return None
-    for number in timeline.page_numbers(subtitle.begin, subtitle.end):
+    for number in timeline.list_page_numbers(subtitle.begin, subtitle.end):
         if timeline.pages[number] != page:
             continue
-        stretch = timeline.page_span(number)
+        stretch = timeline.get_page_span(number)
         first = max(stretch.first, subtitle.begin)
         frame = timeline.find_closed_frame(first) if is_complete else first
         if frame is not None and frame <= min(stretch.last, subtitle.end - 1):
@@ -86,7 +86,7 @@ def find_worst_part(parts: Sequence[Part],
 
 def add_worst_fault(facts: Facts, worst: WorstFault | None) -> Facts:
     """Return a copy of `facts` with `worst`, the fault to report first, if there is one."""
-    return facts._replace(first=worst.fault, is_caused=worst.is_caused) if worst else facts
+    return facts._replace(first=worst.fault, has_cause=worst.has_cause) if worst else facts
 
 
 def count_fault_numbers(parts: Sequence[Part], left_out: Collection[int] = ()) -> list[FaultCount]:
@@ -189,7 +189,7 @@ class Verdict:
         if not any(part.clock and part.clock.is_estimated for part in self.parts):
             return None
         return ESTIMATED_LATER_NOTE if self.has_clock else \
-            f"{ESTIMATED_NOTE}: {clock_advice(self.has_picture)}"
+            f"{ESTIMATED_NOTE}: {advise_on_clock(self.has_picture)}"
 
     @property
     def has_picture(self) -> bool:
@@ -206,7 +206,7 @@ class Verdict:
     def collect_grounds(self) -> Grounds:
         """Return all values that decide the verdict."""
         is_later = bool(self.estimated_clock_note) and self.has_clock
-        kinds = [*(warned.kind for warned in self.warnings), *[ESTIMATED] * is_later]
+        kinds = [*(warning.kind for warning in self.warnings), *[ESTIMATED] * is_later]
         return Grounds([part.summarize_check() for part in self.parts], self.severity,
                        [gap.is_judged and gap.place.gap_marker is None for gap in self.gaps], kinds,
                        self.request.is_strict, [self.unjudged.reason] if self.unjudged else [],
@@ -249,11 +249,11 @@ class Verdict:
     def sentence(self) -> str:
         """Return the verdict as one sentence."""
         refused, waived = self.worst_part, self.waived_numbers
-        said = Facts(
+        facts = Facts(
             self.word, self.subtitle_count, option=self.request.option,
             faults=self.fault_count -
-            sum(part.check_output.counts_by_number[one] for part in self.parts
-                                          for one in waived),
+            sum(part.check_output.counts_by_number[item] for part in self.parts
+                                          for item in waived),
             counts=count_fault_numbers(self.parts, waived), waived=[
                 count for count in count_fault_numbers(self.parts) if count.number in waived],
             lost=[gap.format_line() for gap in self.gaps if gap.is_judged],
@@ -263,11 +263,12 @@ class Verdict:
             is_file=self.request.recording is None, within=self.request.within,
             parts=len(self.parts), delay=self.delay_of_all, has_picture=self.has_picture)
         if refused and self.valid_subtitles:
-            said = self.add_transmission_facts(said, self.valid_subtitles)
+            facts = self.add_transmission_facts(facts, self.valid_subtitles)
         elif refused and not self.worst_named_fault:
-            said = add_worst_fault(said._replace(hint=refused.hint, of_block=refused.block_subtitle,
-                                                 causes=refused.causes), refused.worst_fault)
-        return write_sentence(said)
+            facts = add_worst_fault(facts._replace(hint=refused.hint,
+                                                   of_block=refused.block_subtitle,
+                                                   causes=refused.causes), refused.worst_fault)
+        return write_sentence(facts)
 
     @property
     def delay_of_all(self) -> int:
@@ -277,17 +278,20 @@ class Verdict:
         is_measured = clock and clock.is_delay_of_all and not self.request.within
         return clock.delay_frames or 0 if clock and is_measured else 0
 
-    def add_transmission_facts(self, said: Facts, beside: ValidSubtitles) -> Facts:
-        """Return a copy of `said` with facts about the transmission added, for a file with refused
-        subtitles. `beside` has the subtitles that are judged although others are refused."""
-        answers = [part.check_output for part in self.parts]
+    def add_transmission_facts(self, facts: Facts, valid_subtitles: ValidSubtitles) -> Facts:
+        """Return a copy of `facts` with facts about the transmission added, for a file with refused
+        subtitles. `valid_subtitles` has the subtitles that are judged although others are
+        refused."""
+        outputs = [part.check_output for part in self.parts]
         parts = [part for part in self.parts if part.worst_transmission_fault]
-        part = find_worst_part(parts, lambda one: one.worst_transmission_fault)
-        said = said._replace(refused=beside.describe(), subtitles=len(beside.judged), is_file=False,
-                             faults=sum(answer.transmission_fault_count for answer in answers),
-                             counts=count_fault_numbers(self.parts, STL_FAULTS | {UNDECIDED}))
-        return add_worst_fault(said._replace(hint=part.transmission_hint, causes=part.causes),
-                               part.worst_transmission_fault) if part else said
+        part = find_worst_part(parts, lambda item: item.worst_transmission_fault)
+        facts = facts._replace(refused=valid_subtitles.describe(),
+                               subtitles=len(valid_subtitles.judged), is_file=False,
+                               faults=sum(answer.transmission_fault_count
+                                          for answer in outputs), counts=
+                               count_fault_numbers(self.parts, STL_FAULTS | {UNDECIDED}))
+        return add_worst_fault(facts._replace(hint=part.transmission_hint, causes=part.causes),
+                               part.worst_transmission_fault) if part else facts
 
     @property
     def subtitle_counts(self) -> SubtitleCounts | None:
@@ -327,23 +331,23 @@ class Verdict:
         faults += self.named_faults
         errors = [fault for fault in faults if self.severity.is_error(
             fault.name if isinstance(fault, NamedFault) else fault.number)]
-        return self.prefix_verdict(next((fault.line for fault in errors or faults), None))
+        return self.format_check_line(next((fault.line for fault in errors or faults), None))
 
     @property
     def worst_line(self) -> str | None:
         """Return the first line in reports and batch tables. It is like `line`, but about the worst
         fault, not the first."""
         if self.worst_named_fault:
-            return self.prefix_verdict(self.worst_named_fault.line)
-        return self.prefix_verdict(self.worst_part.first_text if self.worst_part else None)
+            return self.format_check_line(self.worst_named_fault.line)
+        return self.format_check_line(self.worst_part.first_text if self.worst_part else None)
 
     @property
     def worst_named_fault(self) -> NamedFault | None:
         """Return the worst fault without a number, unless a numbered fault is worse."""
         worst = self.worst_part.worst_fault if self.worst_part else None
         errors = [fault for fault in self.named_faults if self.severity.is_error(fault.name)]
-        named = errors if errors or self.word == REFUSED else self.named_faults
-        return find_worst_named_fault(named, worst.rank if worst else None)
+        candidates = errors if errors or self.word == REFUSED else self.named_faults
+        return find_worst_named_fault(candidates, worst.rank if worst else None)
 
     @property
     def worst_part(self) -> Part | None:
@@ -362,7 +366,7 @@ class Verdict:
         return {number for number in numbers - left_out if not self.severity.is_error(number)} \
             if self.word == REFUSED else set()
 
-    def prefix_verdict(self, refused: str | None) -> str | None:
+    def format_check_line(self, refused: str | None) -> str | None:
         """Return a line of `check`, preceded by the verdict, or `None` if the pair is not judged.
         Use the line `refused` about a fault or, if it is `None`, the `accepted` line."""
         word = self.word
@@ -385,16 +389,16 @@ class Verdict:
     def format_good_line(self) -> str:
         """Return the last line of output for a pair without faults. If there are several parts, the
         line has the sum of their frames. It begins with `relative` if no clock was given."""
-        answers = [part.check_output for part in self.parts]
-        line = answers[0].line if len(answers) == 1 else (
-            f"{ACCEPTED} {sum(answer.frames or 0 for answer in answers)} frames "
-            f"{sum(answer.transmissions or 0 for answer in answers)} transmissions in "
-            f"{len(answers)} parts")
+        outputs = [part.check_output for part in self.parts]
+        line = outputs[0].line if len(outputs) == 1 else (
+            f"{ACCEPTED} {sum(answer.frames or 0 for answer in outputs)} frames "
+            f"{sum(answer.transmissions or 0 for answer in outputs)} transmissions in "
+            f"{len(outputs)} parts")
         return line if self.has_clock else f"{RELATIVE}{line.removeprefix(ACCEPTED)}"
 
     def format_part_lines(self) -> list[str]:
         """Return a line with the times and the result of each part, if there are several."""
-        return [f"part {part.number}, from {' to '.join(map(str, part.time_codes()))}: "
+        return [f"part {part.number}, from {' to '.join(map(str, part.format_time_codes()))}: "
                 f"{part.check_output.line}" for part in self.parts] if len(self.parts) > 1 else []
 
 
@@ -410,7 +414,7 @@ def make_gaps(places: Sequence[LossPlace], parts: Sequence[Part]) -> list[Gap]:
     for place in places:
         own = [part for part in parts if belongs_to_part(place, part)]
         origin = (own or parts)[0].origin or 0
-        after, before = (None if pts is None else time_in(pts, origin)
+        after, before = (None if pts is None else compute_time(pts, origin)
                          for pts in (place.before, place.after))
         gaps.append(Gap(after, before, describe_loss(place), place, bool(own)))
     return gaps

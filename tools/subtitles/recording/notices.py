@@ -11,20 +11,20 @@ from ..clock.start import NoFirstPicture, find_first_picture, read_start_frame
 from ..common.command_line import counted, format_pid, escape_hidden
 from ..common.files import read_first_bytes
 from ..common.times import (
-    FRAMES_OF_A_DAY, NO_FRAME, TICKS, frame_in, frames_at, pts_of, ticks_after, ticks_between,
-    ticks_within, time_in, time_of, wrap_pts)
+    FRAMES_OF_A_DAY, NO_FRAME, TICKS, compute_frame, compute_time, find_frames_of_day, format_frame,
+    pts_of, subtract_origin, subtract_pts, subtract_pts_within, wrap_pts)
 from ..formats.listing import NEVER_SENT, NamedFault
 from ..formats.stl import SubtitleFile
 from ..formats.teletext import (
-    BY_WORD, OTHER_REGIONS, Page, option_for_track, page_name, reverse_option_bits)
+    OPTION_BY_WORD, OTHER_REGIONS, Page, choose_track_option, page_name, reverse_option_bits)
 from ..request.request import LC, Request, Unclear
 from ..stream.gaps import (
     ANOMALY_TEXTS, SECOND, explain_refusal, find_clock_jumps, find_pts_anomalies)
-from ..stream.repeats import cue_frames, repeat_distance
+from ..stream.repeats import list_cue_frames, repeat_distance
 from ..stream.packets import HEADER, PES, Packets
-from ..stream.receiver import FEW, PAUSE
+from ..stream.receiver import PACKETS_PER_PAUSE, PAUSE
 from ..stream.survey import (
-    ANY, Announced, KINDS, ProgramMap, SUBTITLE_KINDS, Survey, language_names)
+    ANY_LANGUAGE_CODES, Announced, KINDS, ProgramMap, SUBTITLE_KINDS, Survey, list_language_codes)
 
 TNB, TNS = slice(238, 243), slice(243, 248)  # the bytes of these fields in a GSI block
 
@@ -36,31 +36,32 @@ class Notice(NamedTuple):
     line: str
     time: str | None = None
 
-    def warning_text(self) -> str:
+    def format_warning(self) -> str:
         """Return the message with the prefix `warning: `."""
         return f"warning: {self.line}"
 
 
 def find_timing_notices(packets: Packets, origin: int) -> Iterator[Notice]:
     """Yield warnings about PTS that do not match the PCR."""
-    for strange in find_pts_anomalies(packets):
-        time = time_in(strange.pts, origin)
-        where = f"from {time} on" if time else f"from PTS {strange.pts} on"
-        yield Notice(f"pts_{strange.kind}",
-                     f"{where}, the Teletext PTS {ANOMALY_TEXTS[strange.kind]} (by up "
-                     f"to {abs(strange.worst) / SECOND:.2f} s, in {strange.number} of "
-                     f"{strange.total} samples)", time)
+    for anomaly in find_pts_anomalies(packets):
+        time = compute_time(anomaly.pts, origin)
+        period_text = f"from {time} on" if time else f"from PTS {anomaly.pts} on"
+        yield Notice(f"pts_{anomaly.kind}",
+                     f"{period_text}, the Teletext PTS {ANOMALY_TEXTS[anomaly.kind]} (by up "
+                     f"to {abs(anomaly.worst) / SECOND:.2f} s, in {anomaly.number} of "
+                     f"{anomaly.total} samples)", time)
 
 
 def find_jump_notices(packets: Packets, origin: int, first: int, last: int) -> Iterator[Notice]:
     """Yield warnings about clock jumps from frame `first` to `last` where no packet is missing."""
     for jump in find_clock_jumps(packets):
-        frame = FRAMES_OF_A_DAY if jump.before is None else frame_in(jump.before, origin)
+        frame = FRAMES_OF_A_DAY if jump.before is None else compute_frame(jump.before, origin)
         if first <= frame <= last:
-            way = "by" if jump.ticks > 0 else "back by"
-            yield Notice("clock_jump", f"the clock jumps {way} {format_duration(abs(jump.ticks))} "
-                         f"at {time_of(frame)}, but no packet is missing: was an encoder "
-                         "restarted?", time_of(frame))
+            direction = "by" if jump.ticks > 0 else "back by"
+            yield Notice("clock_jump",
+                         f"the clock jumps {direction} {format_duration(abs(jump.ticks))} at "
+                         f"{format_frame(frame)}, but no packet is missing: was an encoder "
+                         "restarted?", format_frame(frame))
 
 
 def format_duration(ticks: int) -> str:
@@ -73,11 +74,11 @@ def format_duration(ticks: int) -> str:
 
 def find_pmt_notices(survey: Survey, pid: int, request: Request) -> Iterator[Notice]:
     """Yield warnings if the PMT does not announce the requested page, or announces it wrongly."""
-    programmes = survey.programmes_of(pid)
+    programmes = survey.find_programmes(pid)
     if not programmes:
         return
     announced = [page for program_map in programmes for page in program_map.pages.get(pid, [])]
-    page_announcements = [one for one in announced if one.page == request.page]
+    page_announcements = [item for item in announced if item.page == request.page]
     name = request.page_name
     if not announced:
         yield Notice("page", f"the PMT announces no page on {format_pid(pid)}, so receivers do not "
@@ -96,22 +97,22 @@ def find_page_notices(page_announcements: list[Announced], request: Request) -> 
                                            for announced in page_announcements))
         yield Notice("type", f'the PMT announces page {name} as "{kinds}", not as subtitles')
     code = read_language_code(request.stl_path)
-    wanted = {*language_names(code)}
+    expected_languages = {*list_language_codes(code)}
     languages = dict.fromkeys(announced.language.lower() for announced in page_announcements)
-    if wanted and not (wanted | ANY) & languages.keys():
+    if expected_languages and not (expected_languages | ANY_LANGUAGE_CODES) & languages.keys():
         yield Notice("language", f"the PMT announces page {name} in "
                      f"{' and '.join(map(escape_hidden, languages))}, but the language of the "
-                     f"subtitle file is {' or '.join(language_names(code))} (LC {code})")
+                     f"subtitle file is {' or '.join(list_language_codes(code))} (LC {code})")
     yield from find_option_notices([*languages], request)
 
 
 def find_option_notices(languages: list[str], request: Request) -> Iterator[Notice]:
     """Yield a warning if none of the announced languages uses the national option. Receivers may
     choose the character set by the language in the PMT."""
-    options = [option_for_track(one) for one in languages]
-    is_other = [bool(option and option.word != request.option) or language in OTHER_REGIONS
-                for language, option in zip(languages, options)]
-    if not languages or not all(is_other):
+    options = [choose_track_option(item) for item in languages]
+    is_other_option = [bool(option and option.word != request.option) or language in OTHER_REGIONS
+                       for language, option in zip(languages, options)]
+    if not languages or not all(is_other_option):
         return
     words = list(dict.fromkeys(f"--option {option.word}" if option else "another region"
                                for option in options))
@@ -124,18 +125,18 @@ def find_character_set_notices(packets: Packets, request: Request) -> Iterator[N
     """Yield warnings about packets whose character set is not that of the national option."""
     for number, designation, region, option in packets.character_sets:
         if region is None or option is None:
-            named = "an unreadable character set"
-        elif region or option != reverse_option_bits(BY_WORD[request.option]):
-            named = f"character set {option:03b} of region {region:04b}"
+            set_name = "an unreadable character set"
+        elif region or option != reverse_option_bits(OPTION_BY_WORD[request.option]):
+            set_name = f"character set {option:03b} of region {region:04b}"
         else:
             continue
         yield Notice("character_set", f"packet {request.page_name[0]}/{number}/{designation} "
-                     f"names {named}: receivers above level 1 may show other characters")
+                     f"names {set_name}: receivers above level 1 may show other characters")
 
 
 def format_pages(announced: list[Announced]) -> str:
     """Return a list of announced pages as text."""
-    return ", ".join(dict.fromkeys(one.line() for one in announced))
+    return ", ".join(dict.fromkeys(item.line() for item in announced))
 
 
 def read_language_code(stl: str) -> str:
@@ -148,10 +149,10 @@ def find_count_notices(subtitles: SubtitleFile) -> Iterator[Notice]:
     the file may be cut off. The number of subtitles (TNS) may include comments. Ignore a field that
     is not a number."""
     expected = read_count(subtitles.data[TNB])
-    there = subtitles.count()
-    if expected is not None and expected != there:
+    subtitle_count = subtitles.count()
+    if expected is not None and expected != subtitle_count:
         yield Notice("blocks", f"the GSI block counts {counted(expected, 'TTI block')} (TNB), but "
-                     f"{format_presence(there)}: is the subtitle file complete?")
+                     f"{format_presence(subtitle_count)}: is the subtitle file complete?")
     expected, known = read_count(subtitles.data[TNS]), subtitles.count_ended()
     if expected is not None and expected not in known:
         yield Notice("subtitles", f"the GSI block counts {counted(expected, 'subtitle')} (TNS), "
@@ -170,22 +171,22 @@ def format_presence(count: int) -> str:
 
 def find_pause_notices(pts: Sequence[int], request: Request, origin: int) -> Iterator[Notice]:
     """Yield warnings about long intervals without a PES packet, if there are only a few."""
-    frames = array.array("i", (frame for frame in frames_at(pts, origin, request.within)
+    frames = array.array("i", (frame for frame in find_frames_of_day(pts, origin, request.within)
                                if frame != NO_FRAME))
     pauses = [(first + 1, second) for first, second in zip(
         frames, itertools.islice(frames, 1, None)) if second - first - 1 > PAUSE]
-    if len(pauses) * FEW <= len(frames):
+    if len(pauses) * PACKETS_PER_PAUSE <= len(frames):
         for first, second in pauses:
             yield Notice("pause", f"no PES packet for {counted(second - first, 'frame')} from "
-                         f"{time_of(first)} on", time_of(first))
+                         f"{format_frame(first)} on", format_frame(first))
 
 
 def find_repeat_notices(headers: Sequence[int], request: Request, origin: int,
                         times: list[tuple[int, int]]) -> Iterator[Notice]:
     """Yield a warning if the page is repeated so often that --every does not show a missing repeat.
     """
-    every = repeat_distance((frame_in(pts, origin, request.within) for pts in headers),
-                            cue_frames(times))
+    every = repeat_distance((compute_frame(pts, origin, request.within) for pts in headers),
+                            list_cue_frames(times))
     if every is not None and every * 2 < request.every:
         yield Notice("repeat", f"the page is repeated every "
                      f"{'frame' if every == 1 else counted(every, 'frame')}: give --every {every} "
@@ -194,7 +195,7 @@ def find_repeat_notices(headers: Sequence[int], request: Request, origin: int,
 
 # Uncertainty of the time of a PMT, in ticks. Its time is the PCR before it, which is listed once a
 # second.
-NEAR = 2 * SECOND
+PMT_TOLERANCE = 2 * SECOND
 
 
 class NeverSent(Exception):
@@ -214,10 +215,10 @@ class Announcement(NamedTuple):
     begin: int | None
     end: int | None
 
-    def is_in(self, begin: int, end: int) -> bool:
+    def is_valid_between(self, begin: int, end: int) -> bool:
         """Return whether the announcement certainly applies at some time between two PTS."""
-        return (self.begin is None or ticks_between(self.begin, end) > NEAR) and (
-            self.end is None or ticks_between(begin, self.end) > NEAR)
+        return (self.begin is None or subtract_pts(self.begin, end) > PMT_TOLERANCE) and (
+            self.end is None or subtract_pts(begin, self.end) > PMT_TOLERANCE)
 
 
 def find_announcing_pids(program_map: ProgramMap, page: Page) -> set[int]:
@@ -247,7 +248,7 @@ def find_unsent(announced: Sequence[Announcement], carriers: Collection[int], be
                            {*carriers}}
     return next((announcement for announcement in announced
                  if carriers and not announcement.pids & {*carriers}
-                 and announcement.is_in(begin, end)
+                 and announcement.is_valid_between(begin, end)
                  and (not carrying_programmes or announcement.number in carrying_programmes)), None)
 
 
@@ -279,7 +280,8 @@ def has_unreadable(survey: Survey, pids: Collection[int]) -> bool:
     """Return whether any of these PIDs has TS packets but no readable PES packet, for example
     because it is scrambled."""
     packets = [survey.by_pid[pid] for pid in pids if pid in survey.by_pid]
-    return any(not one.count and one.packets and explain_refusal(one) for one in packets)
+    return any(not packet.count and packet.packets and explain_refusal(packet)
+               for packet in packets)
 
 
 def explain_never_sent(survey: Survey, page: Page, pids: Collection[int],
@@ -287,26 +289,26 @@ def explain_never_sent(survey: Survey, page: Page, pids: Collection[int],
     """Return a message with the PIDs that announce the page and the PIDs that send it."""
     names = " and ".join(map(format_pid, sorted(pids)))
     words = f"page {page_name(*page)} is announced on {names}, but was never sent"
-    none = [pid for pid in sorted(pids)
-            if pid not in survey.by_pid or not survey.by_pid[pid].packets]
-    if none:
-        words += f" ({' and '.join(map(format_pid, none))} " \
-            f"{'has' if len(none) == 1 else 'have'} no TS packet)"
+    unused_pids = [pid for pid in sorted(pids)
+                   if pid not in survey.by_pid or not survey.by_pid[pid].packets]
+    if unused_pids:
+        words += f" ({' and '.join(map(format_pid, unused_pids))} " \
+            f"{'has' if len(unused_pids) == 1 else 'have'} no TS packet)"
     if carriers:
         words += f"; {' and '.join(map(format_pid, sorted(carriers)))} has it"
     return words
 
 
-def refuse_unsent(request: Request, survey: Survey, times: Sequence[tuple[int, int]]) -> None:
+def refuse_unsent_page(request: Request, survey: Survey, times: Sequence[tuple[int, int]]) -> None:
     """Raise `NeverSent` if the page is announced but never sent, and a subtitle is expected in the
     recording. If --pid is given, consider only that PID."""
     announced = find_announcements(survey.programmes, request.page)
-    named = {pid for announcement in announced for pid in announcement.pids
-             if request.pid in (None, pid)}
-    if named and not has_unreadable(survey, named) and any(
-            is_page_expected(survey.clock_of(pid), times, find_origin(request, survey, pid))
-            for pid in named):
-        raise NeverSent(explain_never_sent(survey, request.page, named))
+    named_pids = {pid for announcement in announced for pid in announcement.pids
+                  if request.pid in (None, pid)}
+    if named_pids and not has_unreadable(survey, named_pids) and any(
+            is_page_expected(survey.get_pcr_range(pid), times, find_origin(request, survey, pid))
+            for pid in named_pids):
+        raise NeverSent(explain_never_sent(survey, request.page, named_pids))
 
 
 def find_origin(request: Request, survey: Survey, pid: int) -> int | None:
@@ -333,20 +335,21 @@ def refuse_dead_source(request: Request, survey: Survey, packets: Packets,
     begin, end = times[0][0], times[-1][1]
 
     def is_before_end(pts: int | None) -> bool:
-        return pts is not None and (origin is None or ticks_within(
+        return pts is not None and (origin is None or subtract_pts_within(
             pts_of(begin, origin), TICKS * (end - begin), pts) < TICKS * (end - begin))
 
-    rows = [packets.pts_at(number) for number, texts in [*packets.decoded_rows, *packets.stray_rows]
-            if texts]
+    rows = [packets.get_pts(number) for number, texts in [*packets.decoded_rows,
+            *packets.stray_rows] if texts]
     if any(map(is_before_end, rows)):
         return
     headers = sum(map(is_before_end, packets.pts(flags=HEADER)))
-    what = f"{headers:,} header{'s' * (headers != 1)}, no row" if headers else \
+    content = f"{headers:,} header{'s' * (headers != 1)}, no row" if headers else \
         f"{sum(map(is_before_end, packets.pts())):,} PES packets, no header"
     if origin is not None and rows and rows[0] is not None:
-        late = round(ticks_after(pts_of(begin, origin), rows[0]) / TICKS)
-        what += f"; the first row comes {counted(late, 'frame')} after the first TCI"
-    raise NeverSent(f"page {request.page_name} is never sent while subtitles are expected: {what}")
+        late = round(subtract_origin(pts_of(begin, origin), rows[0]) / TICKS)
+        content += f"; the first row comes {counted(late, 'frame')} after the first TCI"
+    raise NeverSent(f"page {request.page_name} is never sent while subtitles are expected: "
+                    f"{content}")
 
 
 def is_all_read(packets: Packets) -> bool:
@@ -357,8 +360,8 @@ def is_all_read(packets: Packets) -> bool:
 
 def find_recorded_time(survey: Survey, packets: Packets) -> tuple[int, int] | None:
     """Return the first and the last PCR, or the first and the last PTS if there is no PCR."""
-    clock = survey.clock_of(packets.pid) if packets.pid != PES else None
-    if clock or not packets.runs or len(packets.time_bases()) > 1:
+    clock = survey.get_pcr_range(packets.pid) if packets.pid != PES else None
+    if clock or not packets.runs or len(packets.split_time_bases()) > 1:
         return clock
     first, last = packets.runs[0].pts, packets.runs[-1].last
     return None if first is None or last is None else (first, last)

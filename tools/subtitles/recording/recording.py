@@ -11,23 +11,24 @@ from typing import Collection, Iterable, Iterator, Sequence
 
 from ..clock.start import NoFirstPicture, has_first_picture
 from ..common.command_line import (
-    PACKET_SIZES, Stop, counted, escape_hidden, format_pid, stream_options, was)
+    PACKET_SIZES, Stop, counted, escape_hidden, format_pid, make_stream_options, was)
 from ..common.files import (
-    BackgroundSum, STANDARD, SummedFile, read_first_bytes, name_errors, read_chunks)
-from ..common.times import ticks_between
+    BackgroundChecksum, STANDARD, SummedFile, read_first_bytes, add_name_to_errors, read_chunks)
+from ..common.times import subtract_pts
 from ..formats.teletext import START
 from ..request.commands import (
     CommandPaths, KEPT_PES, KEPT_TS, Listener, OutputNames, Printer, make_qc_command)
 from ..request.request import PID_CHOICE, Request, Selection, Unclear
 from ..stream.gaps import (
-    LossPlace, explain_refusal, find_loss_places, find_recorded_range, gap_marker_lines)
+    LossPlace, describe_gap_markers, explain_refusal, find_loss_places, find_recorded_range)
 from ..stream.packets import HEADER, PES, PTSPair, Packets
 from ..stream.survey import Survey, survey
-from .notices import Notice, find_announcements, refuse_unsent, find_silent_pids
+from .notices import Notice, find_announcements, refuse_unsent_page, find_silent_pids
 
 
 MAX_PAGES = 3  # maximum number of other pages to suggest
-MAX_PIPED = 32_000_000_000  # maximum number of bytes to copy from a pipe: two hours at 35 Mbit/s
+# maximum number of bytes to copy from a pipe: two hours at 35 Mbit/s
+MAX_PIPED_BYTES = 32_000_000_000
 
 
 def copy_piped(name: str, path: str, printer: Printer) -> SummedFile:
@@ -37,11 +38,11 @@ def copy_piped(name: str, path: str, printer: Printer) -> SummedFile:
     with open(path, "wb") as file:
         for data in read_chunks(name, may_be_pipe=True):
             count += len(data)
-            if count > MAX_PIPED:
-                raise Stop(f"{source} has not ended after {MAX_PIPED:,} bytes: judge an endless "
-                           "feed with tools/air")
+            if count > MAX_PIPED_BYTES:
+                raise Stop(f"{source} has not ended after {MAX_PIPED_BYTES:,} bytes: judge an "
+                           "endless feed with tools/air")
             digest.update(data)
-            with name_errors(path):
+            with add_name_to_errors(path):
                 file.write(data)
                 file.flush()
             printer.show_progress(lambda: f"{source}: {count / 1e6:,.1f} MB")
@@ -49,29 +50,32 @@ def copy_piped(name: str, path: str, printer: Printer) -> SummedFile:
 
 
 OUTPUT = "/dev/stdout"  # file name with which the program writes to standard output
-# In Teletext, a PES header has 45 bytes (EN 300 472): the `FIXED` bytes up to and including
-# PES_header_data_length, which is at index `LENGTH_AT`, and the `TELETEXT` bytes that it counts.
-LENGTH_AT, FIXED, TELETEXT = 8, 9, 0x24
+# In Teletext, a PES header has 45 bytes (EN 300 472): the `FIXED_HEADER_BYTES` bytes up to and
+# including PES_header_data_length, which is at index `HEADER_LENGTH_OFFSET`, and the `TELETEXT`
+# bytes that it counts.
+HEADER_LENGTH_OFFSET, FIXED_HEADER_BYTES, TELETEXT = 8, 9, 0x24
 
 
 def read_pes_header(program: str, path: str, pid: int, size: int) -> bytes:
     """Return the first nine bytes of a PID's first PES packet, as `subttx extract` writes it."""
-    arguments = [program, "extract", *stream_options(pid, size), "--", path, OUTPUT]
+    arguments = [program, "extract", *make_stream_options(pid, size), "--", path, OUTPUT]
     with subprocess.Popen(arguments, stdin=subprocess.DEVNULL, stdout=subprocess.PIPE,
                           stderr=subprocess.DEVNULL) as call:
         assert call.stdout
-        header = call.stdout.read(FIXED)
+        header = call.stdout.read(FIXED_HEADER_BYTES)
         call.kill()
     return header
 
 
 def check_pes_header(header: bytes, pid: int) -> str:
     """Return a message if a PES header has the wrong length for Teletext, else an empty string."""
-    if not header.startswith(START[:3]) or header[LENGTH_AT:FIXED] in (b"", bytes([TELETEXT])):
+    if not header.startswith(START[:3]) \
+            or header[HEADER_LENGTH_OFFSET:FIXED_HEADER_BYTES] in (b"", bytes([TELETEXT])):
         return ""
-    length, whose = header[LENGTH_AT], f" of {format_pid(pid)}" if pid != PES else ""
-    return (f"the PES header{whose} has {FIXED + length} bytes (PES_header_data_length "
-            f"{length:02X}), but EN 300 472 requires {FIXED + TELETEXT} ({TELETEXT:02X})")
+    length, pid_text = header[HEADER_LENGTH_OFFSET], f" of {format_pid(pid)}" if pid != PES else ""
+    return (f"the PES header{pid_text} has {FIXED_HEADER_BYTES + length} bytes "
+            f"(PES_header_data_length {length:02X}), but EN 300 472 requires "
+            f"{FIXED_HEADER_BYTES + TELETEXT} ({TELETEXT:02X})")
 
 
 def is_recording(path: str) -> bool:
@@ -134,10 +138,10 @@ class Recording:
         """Read the whole recording with `survey`. If `is_summed` is true, compute its SHA-256."""
         if self.is_piped:
             self.file = copy_piped(self.name, self.path, self.listener.printer)
-        summed = BackgroundSum(self.name) if is_summed and not self.is_piped else None
+        background_sum = BackgroundChecksum(self.name) if is_summed and not self.is_piped else None
         self.survey = survey(self.command_paths.program_path, self.path, self.request.page,
                              self.request.pid, look=self.show_progress)
-        self.file = summed.result() if summed else self.file
+        self.file = background_sum.result() if background_sum else self.file
         refuse_stream(self.survey, self.name)
         self.packets = self.find_packets()
         self.print_losses()
@@ -154,46 +158,50 @@ class Recording:
         if self.request.pid is not None:
             packets = by_pid.setdefault(self.request.pid, Packets(self.request.pid))
             if not packets.has_page:
-                refuse_unsent(self.request, self.survey, self.times)
+                refuse_unsent_page(self.request, self.survey, self.times)
             if packets.count:
                 return packets
-            why = "; ".join([f"{self.name}: {explain_refusal(packets)}", *filter(None, [
+            explanation = "; ".join([f"{self.name}: {explain_refusal(packets)}", *filter(None, [
                 self.header_problem(packets)])])
-            raise Unclear(self.with_contents(why), *self.other_pids())
+            raise Unclear(self.append_contents(explanation), *self.suggest_other_pids())
         pids = [by_pid[pid] for pid in sorted(by_pid) if by_pid[pid].has_page]
-        self.refuse_silent({one.pid for one in pids})
+        self.refuse_silent_programmes({item.pid for item in pids})
         if len(pids) == 1:
             self.print_choice(pids[0], "no other PID sends the page")
             return pids[0]
         if not pids:
-            refuse_unsent(self.request, self.survey, self.times)
-            why = "; ".join([f"{self.name} has no header of page {page}",
-                             *self.unreadable_reasons()])
-            raise Unclear(self.with_contents(why), *self.other_pages(by_pid.values()))
-        raise Unclear(self.with_contents(f"page {page} is sent on {len(pids)} PIDs of {self.name}"),
-                      *(self.suggest_call("--pid", f"0x{one.pid:X}") for one in pids))
+            refuse_unsent_page(self.request, self.survey, self.times)
+            explanation = "; ".join([f"{self.name} has no header of page {page}",
+                                     *self.list_unreadable_reasons()])
+            raise Unclear(self.append_contents(explanation),
+                          *self.suggest_other_pages(by_pid.values()))
+        raise Unclear(self.append_contents(f"page {page} is sent on {len(pids)} PIDs of "
+                                           f"{self.name}"),
+                      *(self.suggest_call("--pid", f"0x{item.pid:X}") for item in pids))
 
-    def refuse_silent(self, carriers: Collection[int]) -> None:
+    def refuse_silent_programmes(self, carriers: Collection[int]) -> None:
         """Raise `Unclear` if several programmes announce the page but some never send it. Only the
         operator knows which programme to judge."""
         announced = [*find_announcements(self.survey.programmes, self.request.page)]
-        silent = find_silent_pids(announced, carriers)
-        if silent and self.request.pes is None:
-            raise Unclear(self.with_contents(
+        silent_pids = find_silent_pids(announced, carriers)
+        if silent_pids and self.request.pes is None:
+            raise Unclear(self.append_contents(
                 f"page {self.request.page_name} is announced by several programmes of {self.name}, "
                 f"but sent only on {' and '.join(map(format_pid, sorted(carriers)))}, not on "
-                f"{' and '.join(map(format_pid, sorted(silent)))}"),
-                *(self.suggest_call("--pid", f"0x{pid:X}") for pid in sorted({*carriers} | silent)))
+                f"{' and '.join(map(format_pid, sorted(silent_pids)))}"),
+                *(self.suggest_call("--pid", f"0x{pid:X}")
+                  for pid in sorted({*carriers} | silent_pids)))
 
-    def print_choice(self, packets: Packets, why: str) -> None:
+    def print_choice(self, packets: Packets, explanation: str) -> None:
         """Report the chosen PID, and the reason for the choice."""
-        header = sum(run.length for run in packets.runs_with_pts() if HEADER in run.flags)
+        header = sum(run.length for run in packets.list_runs_with_pts() if HEADER in run.flags)
         line = f"{format_pid(packets.pid)}: {header} of {counted(packets.count, 'PES packet')} " \
-            f"{'has' if header == 1 else 'have'} a header of page {self.request.page_name}; {why}"
+            f"{'has' if header == 1 else 'have'} a header of page {self.request.page_name}; " \
+            f"{explanation}"
         self.listener.add_selection(Selection(PID_CHOICE, f"0x{packets.pid:X}", line, header,
                                               packets.count))
 
-    def unreadable_reasons(self) -> list[str]:
+    def list_unreadable_reasons(self) -> list[str]:
         """Return why PIDs can't be read as Teletext, for example that they are scrambled."""
         return [words for packets in find_unreadable_packets(self.survey)
                 for words in (explain_refusal(packets), self.header_problem(packets)) if words]
@@ -214,13 +222,13 @@ class Recording:
                                      "this point")
         if not self.is_stream:
             return
-        why = explain_refusal(packets)
-        if why:
-            self.listener.print_line(why)
+        explanation = explain_refusal(packets)
+        if explanation:
+            self.listener.print_line(explanation)
         if self.survey.skipped:
             self.listener.print_line(f"{counted(self.survey.skipped, 'byte')} outside TS packets "
                                      f"{was(self.survey.skipped)} skipped")
-        for line in gap_marker_lines(packets):
+        for line in describe_gap_markers(packets):
             self.listener.print_line(line)
 
     @property
@@ -232,17 +240,17 @@ class Recording:
         """Return the PID and the TS packet size in bytes, or `None` for a file of PES packets."""
         return (self.packets.pid, self.survey.size or 0) if self.is_stream else None
 
-    def program_options(self) -> list[str]:
+    def list_program_options(self) -> list[str]:
         """Return the options with which the program reads the recording."""
         stream = self.stream()
-        return stream_options(*stream) if stream else []
+        return make_stream_options(*stream) if stream else []
 
     @property
     def display_name(self) -> str:
         """Return the name of the recording as given, or of its copy if it came from a pipe."""
         if not self.is_piped:
             return self.name
-        return self.names.display_path(KEPT_TS if self.is_stream else KEPT_PES)
+        return self.names.make_display_path(KEPT_TS if self.is_stream else KEPT_PES)
 
     @property
     def kept_ending(self) -> str | None:
@@ -258,13 +266,13 @@ class Recording:
         if self.is_piped:
             yield from read_chunks(self.path)
             return
-        pes_path = self.names.temporary_path("kept.pes")
-        done = subprocess.run([self.command_paths.program_path, "extract", *self.program_options(),
-                               "--",
-                               self.path, pes_path], stdin=subprocess.DEVNULL,
-                              stdout=subprocess.DEVNULL, check=False)
-        if done.returncode != 1:  # status 1: keep the PES packets before a refused one
-            done.check_returncode()
+        pes_path = self.names.make_temporary_path("kept.pes")
+        process = subprocess.run([self.command_paths.program_path, "extract",
+                                  *self.list_program_options(), "--",
+                                  self.path, pes_path], stdin=subprocess.DEVNULL,
+                                 stdout=subprocess.DEVNULL, check=False)
+        if process.returncode != 1:  # status 1: keep the PES packets before a refused one
+            process.check_returncode()
         yield from read_chunks(pes_path)
 
     def list_losses(self, jumps: Iterable[PTSPair] = ()) -> list[LossPlace]:
@@ -272,16 +280,16 @@ class Recording:
         continuity counter, `jumps`, which may hide a loss."""
         return find_loss_places(self.packets, jumps)
 
-    def recorded_range(self) -> tuple[int, int] | None:
+    def find_recorded_pts(self) -> tuple[int, int] | None:
         """Return the first and last PTS of the range in which, according to the PCR, all packets of
         the PID were recorded. Return `None` if there is no PCR."""
         return find_recorded_range(self.survey, self.packets)
 
     def find_last_time(self) -> int | None:
         """Return the last PTS or the last PCR, whichever is later."""
-        clock, pts = self.survey.clock_of(self.packets.pid), self.packets.last_pts
-        known = [one for one in (pts, clock and clock[1]) if one is not None]
-        return max(known, default=None, key=functools.partial(ticks_between, known[0])) \
+        clock, pts = self.survey.get_pcr_range(self.packets.pid), self.packets.last_pts
+        known = [item for item in (pts, clock and clock[1]) if item is not None]
+        return max(known, default=None, key=functools.partial(subtract_pts, known[0])) \
             if known else None
 
     def find_notices(self) -> list[Notice]:
@@ -296,7 +304,7 @@ class Recording:
                                   "the recording was read up to this point"))
         return notices
 
-    def other_pids(self) -> list[str]:
+    def suggest_other_pids(self) -> list[str]:
         """Return the suggested commands with other PIDs."""
         known = [f"0x{pid:X}" for pid, packets in sorted(self.survey.by_pid.items())
                  if self.request.page_name in packets.header_counts]
@@ -307,23 +315,23 @@ class Recording:
         """Return whether the recording has a first picture, which `--start` needs."""
         return self.is_stream and has_first_picture(self.survey, self.packets.pid)
 
-    def no_picture_error(self, reason: NoFirstPicture) -> Unclear:
+    def make_picture_error(self, reason: NoFirstPicture) -> Unclear:
         return Unclear(f"--start cannot be used with {self.name}: {reason}",
                        self.suggest_call("--origin", "T"))
 
     def suggest_call(self, *more: str) -> str:
         return make_qc_command(self.request, self.command_paths, *more)
 
-    def other_pages(self, several: Iterable[Packets]) -> Iterator[str]:
+    def suggest_other_pages(self, several: Iterable[Packets]) -> Iterator[str]:
         """Return suggested commands for the other pages on these PIDs. The page with the most
         headers comes first."""
         counts = collections.Counter[str]()
-        for one in several:
-            counts.update(one.header_counts)
+        for item in several:
+            counts.update(item.header_counts)
         del counts[self.request.page_name]
         return (self.suggest_call("--page", name) for name, _ in counts.most_common(MAX_PAGES))
 
-    def with_contents(self, reason: str) -> str:
+    def append_contents(self, reason: str) -> str:
         """Return a reason, followed by a list of the Teletext pages in the recording."""
         if self.request.pid is not None:
             self.survey = survey(self.command_paths.program_path, self.path, self.request.page)

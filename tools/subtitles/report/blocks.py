@@ -4,7 +4,7 @@ from __future__ import annotations
 from typing import Sequence
 
 from ..common.markup import BREAK, Markup, Value, join_markup, markup
-from ..common.times import frame_of
+from ..common.times import parse_frame
 from ..formats.listing import FaultLine, make_number_link
 from ..formats.stl import GSI, NamedSubtitle, SubtitleFile
 
@@ -34,7 +34,7 @@ def mark(text: Value) -> Markup:
 def mark_times(subtitle: NamedSubtitle, faults: Sequence[FaultLine]) -> tuple[Value, Value]:
     """Return the TCI and TCO of a subtitle, marked if they have a fault."""
     numbers = {fault.number for fault in faults}
-    is_begin, is_end = (20 in numbers and frame_of(time) is None or 21 in numbers
+    is_begin, is_end = (20 in numbers and parse_frame(time) is None or 21 in numbers
                         for time in (subtitle.begin, subtitle.end))
     return (mark(subtitle.begin) if is_begin or numbers & ORDER_FAULTS else subtitle.begin,
             mark(subtitle.end) if is_end else subtitle.end)
@@ -48,14 +48,14 @@ def make_fault_lines(file: SubtitleFile, faults: Sequence[FaultLine]) -> Markup:
 
 def mark_text(text: bytes, faults: Sequence[FaultLine]) -> Markup:
     """Return the lines of a text, with the faulty bytes and lines marked."""
-    marked = {(fault.number in BYTE_FAULTS, fault.at) for fault in faults if fault.number in
-              ROW_FAULTS}
+    marked_places = {(fault.number in BYTE_FAULTS, fault.at) for fault in faults if fault.number in
+                     ROW_FAULTS}
     lines, begin = [], 0
     for number, line in enumerate(text.split(b"\x8a")):
         characters = [" " if byte == 0x20 else show_byte(byte) for byte in line]
-        words = join_markup(mark(fault) if (True, at) in marked else fault
+        words = join_markup(mark(fault) if (True, at) in marked_places else fault
                             for at, fault in enumerate(characters, begin))
-        lines.append(mark(words) if (False, number) in marked else words)
+        lines.append(mark(words) if (False, number) in marked_places else words)
         begin += len(line) + 1
     return join_markup(lines, BREAK)
 

@@ -8,13 +8,13 @@ from typing import Collection, Iterable, Iterator, NamedTuple, Sequence
 
 from ..common.command_line import counted
 from ..common.markup import BREAK, Markup, NO_MARKUP, Value, join_markup, markup
-from ..common.times import frame_of, time_of
-from ..formats.listing import FaultLine, WITH_CAUSE
+from ..common.times import format_frame, parse_frame
+from ..formats.listing import FAULTS_WITH_CAUSE, FaultLine
 from ..formats.stl import NamedSubtitle, Subtitle, SubtitleFile, decode_subtitles
-from ..formats.teletext import BY_WORD, decode_text
+from ..formats.teletext import OPTION_BY_WORD, decode_text
 from ..judging.causes import Cause, CAUSE_NAMES, LATE, TEXT_IN_PAUSE
 from ..judging.cues import (
-    Cue, CueJudge, CueVerdict, NEXT_IS_REFUSED, NOT_KNOWN, RIGHT, WAIVED, WRONG, find_cues,
+    Cue, CueJudge, CueVerdict, NEXT_REFUSED, NOT_KNOWN, RIGHT, WAIVED, WRONG, find_cues,
     find_recording_start, find_refused_subtitles, format_recording_offset, read_block_text)
 from ..judging.pages import format_page_text
 from ..judging.part import Part
@@ -26,7 +26,7 @@ from .blocks import make_fault_lines, mark_text, mark_times
 
 COLUMNS = ("No.", "Into recording", "Expected in", "Expected out", "Actual in", "Actual out",
            "Frames late (in / out)", "Text", "Verdict")
-MAX_PRINTED = 200  # maximum number of rows to print on paper
+MAX_PRINTED_ROWS = 200  # maximum number of rows to print on paper
 MAX_BARS = 12  # maximum number of delays in the histogram
 ROW_CLASSES = {RIGHT: "ok", WAIVED: "waived", WRONG: "bad", NOT_KNOWN: "unseen"}  # CSS classes
 
@@ -55,7 +55,7 @@ class CueList:
     def __init__(self, part: Part, severity: Severity, valid_subtitles: ValidSubtitles |
                  None) -> None:
         self.part, self.severity, self.valid_subtitles = part, severity, valid_subtitles
-        self.option = BY_WORD[part.request.option].bits
+        self.option = OPTION_BY_WORD[part.request.option].bits
         self.start, self.causes = find_recording_start(part), part.causes
         self.judge, self.cues = CueJudge(part, severity), [*find_cues(part)]
         self.rows = sorted([*self.make_judged_rows(), *self.make_refused_rows()],
@@ -74,7 +74,7 @@ class CueList:
         last: object = None
         for cue in self.cues:
             verdict = self.judge.judge(cue)
-            kinds = [*([cause_key(cue.cause)] if cue.cause else []),
+            kinds = [*([make_cause_key(cue.cause)] if cue.cause else []),
                      *(f"n{number}" for number in verdict.fault_numbers)]
             repeat_key = cue.cause and (cue.cause.name, cue.cause.frames, tuple(kinds))
             yield CueRow(cue.subtitle.index, ROW_CLASSES[verdict.word], kinds,
@@ -84,21 +84,23 @@ class CueList:
             for subtitle in decode_subtitles(self.file.data):
                 text = join_markup(map(decode_text, subtitle.text.split(b"\x8a")), BREAK)
                 yield CueRow(subtitle.index, ROW_CLASSES[RIGHT], (), [
-                    make_number_cell(subtitle.index, subtitle.number), "", time_of(subtitle.begin),
-                    time_of(subtitle.end), "", "", "", text, RIGHT])
+                    make_number_cell(subtitle.index, subtitle.number), "",
+                    format_frame(subtitle.begin), format_frame(subtitle.end), "", "", "",
+                    text, RIGHT])
 
     def cells(self, cue: Cue, verdict: CueVerdict) -> list[Value]:
         subtitle, late = cue.subtitle, [format_signed(cue.delay_in), format_signed(cue.delay_out)]
         return [make_number_cell(subtitle.index, subtitle.number),
-                self.format_offset(subtitle.begin), time_of(subtitle.begin), time_of(subtitle.end),
-                mark_late_time(cue.begin, cue.delay_in), mark_late_time(cue.end, cue.delay_out),
-                late[0] if late[0] == late[1] else " / ".join(frames or "-" for frames in late),
-                self.make_text_cell(cue), self.make_verdict_cell(verdict)]
+                self.format_offset(subtitle.begin), format_frame(subtitle.begin),
+                format_frame(subtitle.end), mark_late_time(cue.begin, cue.delay_in),
+                mark_late_time(cue.end, cue.delay_out), late[0] if late[0] == late[1]
+                else " / ".join(frames or "-" for frames in late), self.make_text_cell(cue),
+                self.make_verdict_cell(verdict)]
 
     def make_verdict_cell(self, verdict: CueVerdict) -> Value:
         """Return the cell with a verdict and its reason. Fault numbers are links."""
-        firsts = self.part.check_output.first_faults
-        links = [markup('<a href="#n{}">{} {}</a>', number, number, firsts[number].name)
+        faults_by_number = self.part.check_output.first_faults
+        links = [markup('<a href="#n{}">{} {}</a>', number, number, faults_by_number[number].name)
                  for number in verdict.fault_numbers]
         words = join_markup(filter(None, [verdict.cause, *links, verdict.doubt]), "; ")
         return RIGHT if verdict.word == RIGHT else \
@@ -125,13 +127,13 @@ class CueList:
                                     make_fault_lines(self.file, faults), row_class, kinds)
             elif subtitle and not faults:
                 yield self.make_file_row(subtitle, (subtitle.begin, subtitle.end), "",
-                                         NEXT_IS_REFUSED,
+                                         NEXT_REFUSED,
                                     ROW_CLASSES[NOT_KNOWN], [])
 
     def make_file_row(self, subtitle: NamedSubtitle, times: tuple[Value, Value], text: Value,
                  verdict: Value, row_class: str, kinds: Sequence[str]) -> CueRow:
         """Return the row of a subtitle for which only the subtitle file is checked."""
-        begin = frame_of(subtitle.begin)
+        begin = parse_frame(subtitle.begin)
         return CueRow(subtitle.position, row_class, kinds, [
             make_number_cell(subtitle.position, subtitle.number),
             "" if begin is None else self.format_offset(begin), *times, "", "", "", text, verdict])
@@ -140,7 +142,7 @@ class CueList:
         """Return the time of a frame from the beginning of the recording."""
         return format_recording_offset(self.part, self.start, frame)
 
-    def fault_name(self, number: int) -> str:
+    def get_fault_name(self, number: int) -> str:
         return self.part.check_output.first_faults[number].name
 
     @functools.cached_property
@@ -148,23 +150,26 @@ class CueList:
         """Return the kinds of fault in the part, worst first."""
         is_waived = self.judge.is_cause_waived
         names = {cause.name for cause in self.causes.list_causes()} if self.causes else set[str]()
-        ranked = [(CAUSE_RANKS[name], Kind(cause_class(name), name, is_waived)) for name in names]
-        ranked += [(rank_number(number), Kind(f"n{number}", f"{number} {self.fault_name(number)}",
-                                              not self.severity.is_error(number)))
+        ranked = [(CAUSE_RANKS[name], Kind(make_cause_class(name), name, is_waived))
+                  for name in names]
+        ranked += [(rank_number(number),
+                    Kind(f"n{number}", f"{number} {self.get_fault_name(number)}",
+                         not self.severity.is_error(number)))
                    for number in self.part.check_output.counts_by_number
-                   if not (names and number in WITH_CAUSE)]
+                   if not (names and number in FAULTS_WITH_CAUSE)]
         return [kind for _, kind in sorted(ranked)]
 
     def make_cause_table(self) -> Markup:
         """Return a table with a row for each cause."""
         if not self.causes:
             return NO_MARKUP
-        by_name: dict[str, list[Cause]] = {}
+        causes_by_name: dict[str, list[Cause]] = {}
         for cause in self.causes.list_causes():
-            by_name.setdefault(cause.name, []).append(cause)
+            causes_by_name.setdefault(cause.name, []).append(cause)
         rows = []
-        for name in sorted(by_name, key=lambda name: (CAUSE_RANKS[name], CAUSE_NAMES.index(name))):
-            causes = by_name[name]
+        for name in sorted(causes_by_name, key=
+                           lambda name: (CAUSE_RANKS[name], CAUSE_NAMES.index(name))):
+            causes = causes_by_name[name]
             words = describe_single_cause(causes[0], self.causes, self.part.request.option) \
                 if len(causes) == 1 else \
                 describe_shared_cause(causes, self.causes.expected.subtitles)
@@ -176,28 +181,29 @@ class CueList:
             '<table class="groups"><caption>What is wrong with {}</caption><thead><tr><th '
             'scope="col">Cause</th><th scope="col">Subtitles</th><th scope="col">First, into the '
             "recording</th></tr></thead><tbody>{}</tbody></table>",
-            counted(len(self.causes.by_index), "subtitle"), join_markup(rows))
+            counted(len(self.causes.cause_by_index), "subtitle"), join_markup(rows))
 
     def make_histogram(self) -> Markup:
         """Return a histogram of the delays, or empty markup if no cue is late or early."""
-        in_delays = collections.Counter(cue.delay_in for cue in self.cues
-                                        if cue.delay_in is not None)
-        out_delays = collections.Counter(cue.delay_out for cue in self.cues
-                                         if cue.delay_out is not None)
-        all_delays = in_delays + out_delays
+        in_cue_delays = collections.Counter(cue.delay_in for cue in self.cues
+                                            if cue.delay_in is not None)
+        out_cue_delays = collections.Counter(cue.delay_out for cue in self.cues
+                                             if cue.delay_out is not None)
+        all_delays = in_cue_delays + out_cue_delays
         if set(all_delays) <= {0}:
             return NO_MARKUP
         most = max(all_delays.values())
         common = sorted(value for value, _ in all_delays.most_common(MAX_BARS))
         rows = [markup('<tr><th scope="row">{}</th><td>{}</td><td>{}</td><td class="bars"><i '
                        'style="width:{:.1f}%"></i></td></tr>', format_signed(value),
-                       in_delays[value],
-                       out_delays[value], 100 * all_delays[value] / most) for value in common]
-        omitted = len(all_delays) - len(common)
+                       in_cue_delays[value],
+                       out_cue_delays[value], 100 * all_delays[value] / most) for value in common]
+        omitted_count = len(all_delays) - len(common)
         rows += [markup('<tr><th scope="row">{}</th><td>{}</td><td>{}</td><td></td></tr>',
-                        counted(omitted, "other value"), *(
-                            sum(delays.values()) - sum(delays[one] for one in common)
-                            for delays in (in_delays, out_delays)))] if omitted else []
+                        counted(omitted_count, "other value"), *(
+                            sum(delays.values()) - sum(delays[item] for item in common)
+                            for delays in (in_cue_delays,
+                                           out_cue_delays)))] if omitted_count else []
         return markup(
             '<table class="spread"><caption>Frames late (negative: early)</caption><thead><tr><th '
             'scope="col">Frames</th><th scope="col">In-cues</th><th scope="col">Out-cues</th>'
@@ -207,18 +213,18 @@ class CueList:
         """Return the HTML section with the cue list."""
         number = self.part.number
         heads = join_markup(markup('<th scope="col">{}</th>', name) for name in COLUMNS)
-        wrong = sum(row.row_class != ROW_CLASSES[RIGHT] for row in self.rows)
-        hidden = len(self.rows) - wrong, max(wrong - MAX_PRINTED, 0)
-        printed = 0
+        wrong_count = sum(row.row_class != ROW_CLASSES[RIGHT] for row in self.rows)
+        hidden = len(self.rows) - wrong_count, max(wrong_count - MAX_PRINTED_ROWS, 0)
+        printed_count = 0
         rows = []
         for row in self.rows:
-            printed += row.row_class != ROW_CLASSES[RIGHT] and not row.is_repeated
+            printed_count += row.row_class != ROW_CLASSES[RIGHT] and not row.is_repeated
             classes = [row.row_class, *row.kinds, *["again"] * row.is_repeated,
-                       *["more"] * (printed > MAX_PRINTED)]
+                       *["more"] * (printed_count > MAX_PRINTED_ROWS)]
             cells = join_markup(markup("<td>{}</td>", cell) for cell in row.cells[1:])
             rows.append(markup('<tr id="s{}" class="{}"><th scope="row">{}</th>{}</tr>',
                                row.position, " ".join(classes), row.cells[0], cells))
-        choices = [("all", "all", len(self.rows)), (ROW_CLASSES[WRONG], "not right", wrong)]
+        choices = [("all", "all", len(self.rows)), (ROW_CLASSES[WRONG], "not right", wrong_count)]
         choices += [(kind.key, kind.name, self.counts[kind.key]) for kind in self.kinds
                     if self.counts[kind.key]]
         radios = join_markup(
@@ -231,14 +237,14 @@ class CueList:
             "repeated faults and {:,} more rows are omitted.</p><table "
             'class="list"><caption>{}</caption><thead><tr>{}</tr></thead><tbody>{}</tbody></table>'
             "</section>",
-            radios if wrong else NO_MARKUP, *hidden, self.make_caption(), heads,
+            radios if wrong_count else NO_MARKUP, *hidden, self.make_caption(), heads,
             join_markup(rows, "\n"))
 
     def make_caption(self) -> str:
         """Return the caption of the cue list, which explains its columns."""
-        looks = collections.Counter(row.row_class for row in self.rows)
-        counts = ", ".join(f"{looks[row_class]:,} {word}" for word, row_class in
-                           ROW_CLASSES.items() if looks[row_class])
+        row_classes = collections.Counter(row.row_class for row in self.rows)
+        counts = ", ".join(f"{row_classes[row_class]:,} {word}" for word, row_class in
+                           ROW_CLASSES.items() if row_classes[row_class])
         words = f"{counted(len(self.rows), 'subtitle')}: {counts}. Expected: TCI and TCO. " \
             "Actual: the first frame at whose end a receiver has the page, and the first without."
         if self.start is not None:
@@ -254,11 +260,11 @@ class CueList:
             return
         seen: set[str] = set()
         for cause in self.causes.list_causes():
-            one = self.causes.expected.subtitles[cause.subtitle_index]
-            if cause.name not in seen and one.begin >= self.causes.timeline.first:
+            item = self.causes.expected.subtitles[cause.subtitle_index]
+            if cause.name not in seen and item.begin >= self.causes.timeline.first:
                 seen.add(cause.name)
-                first = self.causes.first_wrong_frames.get(cause.subtitle_index, one.begin)
-                yield cause.name, one, one.begin if cause.name == LATE else first
+                first = self.causes.first_wrong_frames.get(cause.subtitle_index, item.begin)
+                yield cause.name, item, item.begin if cause.name == LATE else first
 
 
 def make_number_cell(position: int, number: int) -> Value:
@@ -275,14 +281,14 @@ def mark_late_time(frame: int | None, late: int | None) -> Value:
     """Return the time of a frame, marked if it is not the expected time."""
     if frame is None:
         return "not seen"
-    return markup("<b>{}</b>", time_of(frame)) if late else time_of(frame)
+    return markup("<b>{}</b>", format_frame(frame)) if late else format_frame(frame)
 
 
-def cause_key(cause: Cause) -> str:
-    return cause_class(cause.name)
+def make_cause_key(cause: Cause) -> str:
+    return make_cause_class(cause.name)
 
 
-def cause_class(name: str) -> str:
+def make_cause_class(name: str) -> str:
     """Return the CSS class of the rows with the cause `name`."""
     return f"c{CAUSE_NAMES.index(name)}"
 
@@ -319,14 +325,14 @@ def find_places(part: Part) -> dict[int, list[tuple[FaultLine, str]]]:
     for fault, end in part.check_output.read_faults():
         fault_places = places.setdefault(fault.number, [])
         if len(fault_places) < MAX_PLACES:
-            until = f", until {end.time}" if end.time else \
+            end_text = f", until {end.time}" if end.time else \
                 f", up to PES packet {end.pes}" if end.pes is not None else ""
-            fault_places.append((fault, until))
+            fault_places.append((fault, end_text))
     return places
 
 
 def make_filter_style(lists: Iterable[CueList]) -> Markup:
     """Return the CSS that hides rows without the selected kind of fault."""
-    keys = sorted({kind.key for one in lists for kind in one.kinds})
+    keys = sorted({kind.key for item in lists for kind in item.kinds})
     return join_markup(markup('.cues:has([value="{}"]:checked) tbody tr:not(.{}) '
                               '{{ display: none; }}\n', key, key) for key in keys)

@@ -10,18 +10,18 @@ from ..common.command_line import counted
 from ..common.files import SummedFile
 from ..common.markup import BREAK, HEAD, Markup, NO_MARKUP, Value, join_markup, markup, read_style
 from ..common.program import describe_program
-from ..common.times import ALL_DAY, Span, time_of
+from ..common.times import ALL_DAY, Span, format_frame
 from ..formats.listing import (
     CHANGED, CONTENT, FaultLine, PARITY, make_cell_markup, make_number_link, read_meanings)
 from ..formats.stl import Subtitle, SubtitleFile, read_titles
-from ..formats.teletext import BY_WORD, page_name
+from ..formats.teletext import OPTION_BY_WORD, page_name
 from ..judging.causes import list_cause_counts
 from ..judging.part import Part, belongs_to_part, find_lost_spans
 from ..judging.status import ACCEPTED, LOST, NOT_JUDGED, REFUSED, RELATIVE, WAIVED, WARNED
 from ..judging.subtitles import advise_on_midnight
 from ..judging.verdict import Verdict, summarize_delays
 from ..request.commands import CommandPaths
-from ..stream.gaps import first_lines
+from ..stream.gaps import limit_lines
 from ..stream.receiver import BLANK_PAGE
 from .blocks import make_fault_lines
 from .cue_list import CueList, make_filter_style, find_places
@@ -49,7 +49,7 @@ UNCHECKED_ROW_0 = "row 0, the header line of the page"
 UNCHECKED_DELAY = "a delay of all subtitles, since the clock was estimated"
 UNCHECKED_GAP = "the transmission between the parts"
 LOST_TITLE = "TS packets are missing from the recording, which could not be checked there"
-NAMED_TITLE = "Faults that only qc finds"
+NAMED_FAULTS_TITLE = "Faults that only qc finds"
 PROOF_NOTE = markup("The verdict and the faults are the lines that <code>subttx check --all</code> "
               "printed. The times, texts and pictures are computed by Python that is not proved; "
               "they show one receiver, tuned in before the first packet.")
@@ -57,40 +57,40 @@ PROOF_NOTE = markup("The verdict and the faults are the lines that <code>subttx 
 
 def draw_verdict(word: str) -> tuple[str, Markup]:
     """Return the CSS class and the SVG picture of a verdict."""
-    kind, drawn = SHAPES.get(word, SHAPES[REFUSED])
-    return kind, markup('<svg aria-hidden="true" viewBox="0 0 62 62">{}</svg>', drawn)
+    kind, shape_markup = SHAPES.get(word, SHAPES[REFUSED])
+    return kind, markup('<svg aria-hidden="true" viewBox="0 0 62 62">{}</svg>', shape_markup)
 
 
 def make_verdict_box(verdict: Verdict) -> Markup:
     """Return the box with the verdict: sentence, line, clock, advice and notes."""
-    kind, drawn = draw_verdict(verdict.word)
+    kind, shape_markup = draw_verdict(verdict.word)
     not_judged = verdict.word == NOT_JUDGED
     line = NOT_JUDGED if not_judged else verdict.worst_line or ""
     # The sentence of a relative verdict already reports that no clock was given.
     parts = [describe_clock(verdict)] if verdict.word not in (NOT_JUDGED, RELATIVE) else []
     parts += [make_folded_list(LOST_TITLE, [gap.format_line() for gap in verdict.gaps
                                             if gap.is_judged]),
-              make_folded_list(NAMED_TITLE,
-                          [f"{one.line}: {one.text}" for one in verdict.named_faults])]
+              make_folded_list(NAMED_FAULTS_TITLE,
+                          [f"{item.line}: {item.text}" for item in verdict.named_faults])]
     if not_judged:
-        parts += [markup("<p>{}</p>", one)
-                  for one in (verdict.unjudged_reason or "").splitlines()[1:]]
-        parts += [markup('<p>Type <code class="long">{}</code></p>', one)
-                  for one in verdict.suggestions]
+        parts += [markup("<p>{}</p>", item)
+                  for item in (verdict.unjudged_reason or "").splitlines()[1:]]
+        parts += [markup('<p>Type <code class="long">{}</code></p>', item)
+                  for item in verdict.suggestions]
     elif verdict.word != ACCEPTED:
         parts.append(make_advice(verdict))
-    notes = [*verdict.notes, *(one.warning_text() for one in verdict.warnings), *dict.fromkeys(
+    notes = [*verdict.notes, *(item.format_warning() for item in verdict.warnings), *dict.fromkeys(
         part.drawing_differences for part in verdict.parts if part.drawing_differences)]
-    parts += [markup('<p class="note">{}</p>', keep_options_together(one)) for one in notes]
+    parts += [markup('<p class="note">{}</p>', keep_options_together(item)) for item in notes]
     return markup('<div class="verdict {}">{}<div><p class="sentence">{}</p><p class="line" '
-                  'id="verdict">{}</p>{}</div></div>', kind, drawn,
+                  'id="verdict">{}</p>{}</div></div>', kind, shape_markup,
                   keep_options_together(verdict.sentence), line, join_markup(parts))
 
 
 def keep_options_together(text: str) -> Markup:
     """Mark up the options in a text, so that no line breaks within an option."""
-    return join_markup(markup("<b>{}</b>", one) if at % 2 else one
-                       for at, one in enumerate(re.split(r"(--[a-z]+(?: \d[\d:]*)?)", text)))
+    return join_markup(markup("<b>{}</b>", item) if at % 2 else item
+                       for at, item in enumerate(re.split(r"(--[a-z]+(?: \d[\d:]*)?)", text)))
 
 
 def describe_clock(verdict: Verdict) -> Markup:
@@ -111,26 +111,27 @@ def describe_given_clock(clock: Clock) -> str:
     return f"Clock {source} {clock.origin}."
 
 
-def make_folded_list(what: str, lines: Sequence[str]) -> Markup:
+def make_folded_list(title: str, lines: Sequence[str]) -> Markup:
     """Return a titled list of places, folded if long, or empty markup if there are none."""
     if not lines:
         return NO_MARKUP
-    listed = markup("<ul>{}</ul>", join_markup(markup("<li>{}</li>", one)
-                                               for one in first_lines(lines)))
+    list_markup = markup("<ul>{}</ul>", join_markup(markup("<li>{}</li>", item)
+                                                    for item in limit_lines(lines)))
     if len(lines) > MAX_LINES:
-        listed = markup("<details><summary>{}</summary>{}</details>",
-                        counted(len(lines), "place"), listed)
-    return markup('<p class="count">{}</p>{}', what, listed)
+        list_markup = markup("<details><summary>{}</summary>{}</details>",
+                             counted(len(lines), "place"), list_markup)
+    return markup('<p class="count">{}</p>{}', title, list_markup)
 
 
 def make_advice(verdict: Verdict) -> Markup:
     """Return the manual's advice on the worst fault."""
-    lead = verdict.worst_part.worst_fault_line if verdict.worst_part and \
+    worst_line = verdict.worst_part.worst_fault_line if verdict.worst_part and \
         not verdict.worst_named_fault else None
-    advice = find_advice(verdict.worst_part, lead) if verdict.worst_part and lead else None
+    advice = find_advice(verdict.worst_part,
+                         worst_line) if verdict.worst_part and worst_line else None
     return markup('<details><summary>What {} {} means, and what to do</summary><dl><dt>Meaning</dt>'
-                  "<dd>{}</dd><dt>Remedy</dt><dd>{}</dd></dl></details>", lead.number, lead.name,
-                  *advice) if lead and advice else NO_MARKUP
+                  "<dd>{}</dd><dt>Remedy</dt><dd>{}</dd></dl></details>", worst_line.number,
+                  worst_line.name, *advice) if worst_line and advice else NO_MARKUP
 
 
 def find_advice(part: Part, fault: FaultLine) -> tuple[Markup, Markup] | None:
@@ -176,9 +177,9 @@ class PartView:
                 if span.first <= span.last]
         decoded = self.decoded
         for first, last in self.part.check_output.skipped_packets:
-            before = decoded.frame_before(first) if decoded else None
+            before = decoded.find_frame_before(first) if decoded else None
             if decoded and before is not None:
-                lost_spans.append(Span(before, decoded.frame_after(last) or before))
+                lost_spans.append(Span(before, decoded.find_frame_after(last) or before))
         return Lanes(self.cue_list, decoded, lost_spans).draw()
 
     def pictures(self) -> Iterator[Markup]:
@@ -186,25 +187,30 @@ class PartView:
         due, decoded, request = self.part.expected_pages(), self.decoded, self.part.request
         if decoded is None:
             return
-        firsts: list[tuple[str, Subtitle | None, int]] = [*self.cue_list.find_first_faults()]
-        firsts += [(f"{fault.number} {fault.name}", due.subtitle(fault.frame), fault.frame)
-                   for number, fault in sorted(self.part.check_output.first_faults.items())
-                   if fault.frame is not None and (number in (PARITY, CHANGED) or
-                                                   number == CONTENT and not firsts)]
-        blank = bytes([0, 0, 0, 8, 0, 8, 1, BY_WORD[request.option].bits << 1])  # C4, C6, C7 set
-        for name, subtitle, frame in firsts:
-            expected_state = due.timeline.state_at(frame) if due.timeline else None
+        first_fault_rows: list[tuple[str, Subtitle | None,
+                                     int]] = [*self.cue_list.find_first_faults()]
+        first_fault_rows += [(f"{fault.number} {fault.name}", due.subtitle(fault.frame),
+                              fault.frame)
+                             for number, fault in sorted(self.
+                             part.check_output.first_faults.items()) if fault.frame is not None
+                             and (number in (PARITY, CHANGED) or
+                                  number == CONTENT
+                                                             and not first_fault_rows)]
+        # C4, C6, C7 set
+        blank = bytes([0, 0, 0, 8, 0, 8, 1, OPTION_BY_WORD[request.option].bits << 1])
+        for name, subtitle, frame in first_fault_rows:
+            expected_state = due.timeline.get_state_at(frame) if due.timeline else None
             rows, header = BLANK_PAGE, blank
             if expected_state and expected_state.header:
                 rows, header = expected_state.rows, expected_state.header
-            state = decoded.state_at(frame) if frame <= decoded.last else None
+            state = decoded.get_state_at(frame) if frame <= decoded.last else None
             words: Value = "no subtitle is expected" if subtitle is None else \
                 markup('<a href="#s{}">{}</a>', subtitle.index, subtitle.name)
             offset = self.cue_list.format_offset(frame)
             yield markup('<div class="kind"><h3>{}: {}{}</h3>{}</div>',
                          name[0].upper() + name[1:], words,
                          offset and f", {offset} into the recording",
-                         draw_picture_pair(time_of(frame), rows, header, state))
+                         draw_picture_pair(format_frame(frame), rows, header, state))
 
     def make_fault_table(self) -> Markup:
         """Return a table with a row for each fault number."""
@@ -212,17 +218,18 @@ class PartView:
         rows = []
         for number, count in sorted(answer.counts_by_number.items()):
             first = answer.first_faults[number]
-            frame = self.decoded.frame_before(first.pes) if self.decoded and first.pes is not None \
-                else first.frame
+            frame = self.decoded.find_frame_before(first.pes) if self.decoded \
+                and first.pes is not None else first.frame
             advice = find_advice(self.part, first)
             more = NO_MARKUP if advice is None else markup(
                 "<dl><dt>Meaning</dt><dd>{}</dd><dt>Remedy</dt><dd>{}</dd></dl>", *advice)
-            fault_items = join_markup((markup("<li>{}{}</li>", make_number_link(fault.line), until)
-                                       for fault, until in places.get(number, ())))
-            omitted = count - len(places.get(number, ()))
+            fault_items = join_markup((markup("<li>{}{}</li>", make_number_link(fault.line),
+                                              end_text)
+                                       for fault, end_text in places.get(number, ())))
+            omitted_count = count - len(places.get(number, ()))
             fault_items += markup("<li>and {:,} more: <code>check --all</code> lists them</li>",
-                                  omitted) \
-                if omitted else NO_MARKUP
+                                  omitted_count) \
+                if omitted_count else NO_MARKUP
             waived = "" if self.verdict.severity.is_error(number) else " (waived)"
             rows.append(markup(
                 '<tr id="n{}"><th scope="row">{} {}{}</th><td data-name="Faults">{:,}</td><td '
@@ -252,18 +259,18 @@ def make_definition_list(rows: Iterable[tuple[str, Value]]) -> Markup:
         markup("<dt>{}</dt><dd>{}</dd>", name, value) for name, value in rows if value))
 
 
-def scope_section(verdict: Verdict) -> Markup:
+def make_scope_section(verdict: Verdict) -> Markup:
     """Return the section about the judged range."""
     path = verdict.request.stl_path
     titles = read_titles(path) if os.path.isfile(path) else []
-    times = [part.time_codes() for part in verdict.parts if part.alignment]
+    times = [part.format_time_codes() for part in verdict.parts if part.alignment]
     count = counted(verdict.subtitle_count, "subtitle")
-    judged = f"{times[0][0]} to {times[-1][1]}, {count}" if times else ""
+    range_text = f"{times[0][0]} to {times[-1][1]}, {count}" if times else ""
     delays = summarize_delays(frames for part in verdict.parts for frames in part.delays) \
         if verdict.request.within else None
     return make_definition_list([
         ("Programme", " / ".join(titles)), ("Subtitle file", verdict.request.stl),
-        ("Recording", verdict.request.recording or ""), ("Judged", judged),
+        ("Recording", verdict.request.recording or ""), ("Judged", range_text),
         ("Page", page_name(*verdict.request.page)),
         ("Delays", delays.describe() if delays else "")])
 
@@ -279,11 +286,11 @@ def list_unchecked(verdict: Verdict) -> Iterator[str]:
         yield UNCHECKED_GAP
     if any(part.pes for part in verdict.parts):
         yield UNCHECKED_ROW_0
-        judged = sum(part.pes[1] + 1 - part.pes[0] for part in verdict.parts if part.pes)
+        judged_count = sum(part.pes[1] + 1 - part.pes[0] for part in verdict.parts if part.pes)
         count = verdict.parts[0].packets.count
-        if judged < count:
-            yield f"{counted(count - judged, 'PES packet')} of {count:,}, before and after the " \
-                "subtitles"
+        if judged_count < count:
+            yield f"{counted(count - judged_count, 'PES packet')} of {count:,}, before and after " \
+                "the subtitles"
     elif request.recording:
         yield f"{request.recording}: it was not read"
     if request.between != ALL_DAY and verdict.parts:
@@ -305,8 +312,8 @@ def list_waived(verdict: Verdict) -> Iterator[str]:
         if not verdict.severity.is_error(number):
             count = sum(part.check_output.counts_by_number[number] for part in verdict.parts)
             yield f"{number} {name} ({count:,})"
-    yield from (f"{one.name}: {one.text}" for one in verdict.named_faults
-                if not verdict.severity.is_error(one.name))
+    yield from (f"{named_fault.name}: {named_fault.text}" for named_fault in verdict.named_faults
+                if not verdict.severity.is_error(named_fault.name))
 
 
 def list_options(verdict: Verdict, part: Part) -> str:
@@ -320,7 +327,7 @@ def list_options(verdict: Verdict, part: Part) -> str:
     return " ".join([*words, *part.request.between.words()])
 
 
-def footer(verdict: Verdict, command_paths: CommandPaths) -> Markup:
+def make_footer(verdict: Verdict, command_paths: CommandPaths) -> Markup:
     """Return the last sections: unchecked properties, waived faults, files and commands."""
     program = describe_program(command_paths.program_path)
     size = os.path.getsize(command_paths.program_path)
@@ -329,9 +336,10 @@ def footer(verdict: Verdict, command_paths: CommandPaths) -> Markup:
              ("Program", SummedFile(command_paths.program_command, size, program.sha256))]
     rows = join_markup(markup('<tr><th scope="row">{}</th><td class="long">{}</td>'
                               '<td>{:,} bytes</td><td class="long"><code>{}</code></td></tr>',
-                              kind, one.name, one.size, one.sha256) for kind, one in files if one)
-    commands = join_markup((markup('<code class="long">{}</code>', one)
-                            for one in verdict.commands), BREAK)
+                              kind, item.name, item.size, item.sha256)
+                       for kind, item in files if item)
+    commands = join_markup((markup('<code class="long">{}</code>', item)
+                            for item in verdict.commands), BREAK)
     proved: Value = markup('<code class="long">{}</code>', program.proved) if program.proved else \
         "there is no file PROVED with the prover's result for this program"
     return join_markup([
@@ -361,7 +369,7 @@ def make_parts_table(parts: Sequence[Part]) -> Markup:
         clock = "estimated" if part.clock.is_estimated else describe_given_clock(part.clock)
         clock += f" All {counted(abs(delay), 'frame')} {'late' if delay > 0 else 'early'}." \
             if delay else ""
-        cells: list[Value] = [*(time or "" for time in part.time_codes()), part.first_text,
+        cells: list[Value] = [*(time or "" for time in part.format_time_codes()), part.first_text,
                               f"{part.check_output.fault_count:,}",
                               list_cause_counts([part.causes]) if part.causes else "none", clock]
         rows.append(markup('<tr><th scope="row"><a href="{}">part {}</a></th>{}</tr>', name,
@@ -385,19 +393,19 @@ def make_report_page(verdict: Verdict, command_paths: CommandPaths) -> Markup:
     line = verdict.worst_line or f"{NOT_JUDGED}: {verdict.unjudged_reason}"
     views = [] if verdict.word == NOT_JUDGED else [
         PartView(verdict, part) for part in verdict.parts]
-    body = [make_verdict_box(verdict), scope_section(verdict)]
+    body = [make_verdict_box(verdict), make_scope_section(verdict)]
     if len(views) == 1:
         body += views[0].make_sections()
     elif views:
         body.append(make_parts_table(verdict.parts))
     for view in views if len(views) > 1 else ():
         name = f"part{view.part.number}"
-        begin, end = view.part.time_codes()
+        begin, end = view.part.format_time_codes()
         body.append(markup('<section class="part" id="{}"><h2>Part {}, from {} to {}: {}</h2>{}'
                            "</section>", name, view.part.number, begin or "", end or "",
                            view.part.first_text,
-                           join_markup(view.make_sections(), "\n").anchored(f"{name}-")))
-    body.append(footer(verdict, command_paths))
+                           join_markup(view.make_sections(), "\n").prefix_anchors(f"{name}-")))
+    body.append(make_footer(verdict, command_paths))
     content = join_markup(body, "\n")
     links = join_markup((markup('<a href="#{}">{}</a>', anchor, words) for anchor, words in LINKS
                          if f' id="{anchor}"' in content.source), " ")

@@ -10,8 +10,8 @@ from typing import Any, Callable, Iterable, Iterator, NamedTuple, TypeVar
 
 from ..common.command_line import counted
 from ..common.markup import Markup, NO_MARKUP, join_markup, markup
-from ..formats.teletext import NEWSFLASH, SUBTITLE, has_bit, character_table
-from ..stream.receiver import BLANK_PAGE, HIT, OLD, ReceiverState, Rows, national_option
+from ..formats.teletext import NEWSFLASH, SUBTITLE, has_bit, make_character_table
+from ..stream.receiver import BLANK_PAGE, HIT, OLD, ReceiverState, Rows, read_national_option
 
 
 # A Teletext page of level 1 (EN 300 706, 12.2), drawn as SVG. Each cell has 12 by 15 units. Cells
@@ -20,8 +20,8 @@ from ..stream.receiver import BLANK_PAGE, HIT, OLD, ReceiverState, Rows, nationa
 WIDTH, HEIGHT = 12, 15
 SPACE = 0x20
 BLANK_ROW = b" " * 40
-LOW_ROWS = 21, 23  # rows to draw if a page is blank
-HIDDEN = markup('aria-hidden="true"')  # screen readers read the rows as text instead
+BLANK_PAGE_ROWS = 21, 23  # rows to draw if a page is blank
+ARIA_HIDDEN = markup('aria-hidden="true"')  # screen readers read the rows as text instead
 NUMBERS = 22  # width of the row numbers in units
 
 Look = tuple[int, bool, bool, bool]  # foreground colour, flash, boxed, double height
@@ -32,7 +32,7 @@ Key = TypeVar("Key")
 
 # A spacing attribute, or characters.
 PARTS = re.compile(rb"[\0-\x1f\x80-\x9f]|[^\0-\x1f\x80-\x9f]+")
-MARKED = re.compile(bytes([HIT]) + b"+|" + bytes([OLD]) + b"+")
+MARKED_CELLS = re.compile(bytes([HIT]) + b"+|" + bytes([OLD]) + b"+")
 
 
 class CellStyle(NamedTuple):
@@ -40,7 +40,7 @@ class CellStyle(NamedTuple):
 
     characters: str
     ink: int
-    paper: int
+    background: int
     flash: bool
     boxed: bool
     double: bool
@@ -49,21 +49,21 @@ class CellStyle(NamedTuple):
 # Key functions to group neighbouring cells that are drawn together
 get_characters: Callable[[CellStyle], str] = operator.attrgetter("characters")
 get_look: Callable[[CellStyle], Look] = operator.attrgetter("ink", "flash", "boxed", "double")
-get_ground: Callable[[CellStyle], Ground] = operator.attrgetter("paper", "boxed")
+get_ground: Callable[[CellStyle], Ground] = operator.attrgetter("background", "boxed")
 
 
 @functools.lru_cache(maxsize=None)
-def letter_table(option: int, is_mosaic: bool) -> Any:
+def make_decoding_table(option: int, is_mosaic: bool) -> Any:
     """Return the characters of bytes 00 to FF as a decoding table for `codecs`. The type is `Any`,
     since mypy rejects a string there."""
-    table = character_table(option)
+    table = make_character_table(option)
     return "".join("\u2592" if is_mosaic and byte & 0x20 and byte & 0x7F != SPACE
                    else table[byte & 0x7F] for byte in range(256))
 
 
 def decode_cells(cells: bytes, option: int, is_mosaic: bool = False) -> str:
     """Return the characters of consecutive cells."""
-    return codecs.charmap_decode(cells, "strict", letter_table(option, is_mosaic))[0]
+    return codecs.charmap_decode(cells, "strict", make_decoding_table(option, is_mosaic))[0]
 
 
 def style_row(row: bytes, number: int, option: int, is_boxed_page: bool) -> list[CellStyle]:
@@ -120,17 +120,17 @@ def draw_text(look: Look, column: int, text: str) -> Markup:
         return NO_MARKUP
     ink, flash, boxed, double = look
     names = [f"i{ink}"] + ["f"] * flash + ["u"] * (not boxed)
-    grown = markup(' transform="scale(1 2)"') * double
+    scale = markup(' transform="scale(1 2)"') * double
     return markup('<text class="{}" x="{}" y="11.8"{} textLength="{}" '
                   'lengthAdjust="spacingAndGlyphs">{}</text>', " ".join(names), column * WIDTH,
-                  grown, len(text) * WIDTH, text)
+                  scale, len(text) * WIDTH, text)
 
 
 @functools.lru_cache(maxsize=4096)
 def draw_row(row: bytes, number: int, option: int, is_boxed_page: bool) -> tuple[Markup, bool]:
     """Draw a row as SVG. Also return whether double height hides the next row."""
     spans = style_row(row, number, option, is_boxed_page)
-    is_tall = any(one.double for one in spans)
+    is_tall = any(item.double for item in spans)
     height = HEIGHT * (2 if is_tall else 1)
     parts = [markup('<g transform="translate(0 {})">', (number - 1) * HEIGHT)]
     for (paper, boxed), column, text in group_cells(spans, get_ground):
@@ -139,7 +139,7 @@ def draw_row(row: bytes, number: int, option: int, is_boxed_page: bool) -> tuple
                                 column * WIDTH, len(text) * WIDTH, height))
     for look, column, text in group_cells(spans, get_look):
         parts.append(draw_text(look, column, text))
-    for found in MARKED.finditer(row):
+    for found in MARKED_CELLS.finditer(row):
         name, (begin, end) = "hit" if found[0][0] == HIT else "old", found.span()
         parts.append(markup('<rect class="{}" x="{}" y="1" width="{}" height="13"/>', name,
                             begin * WIDTH + 1, (end - begin) * WIDTH - 2))
@@ -175,9 +175,9 @@ def is_boxed(header: bytes) -> bool:
 
 def find_used_rows(pages: Iterable[Rows]) -> RowRange:
     """Return the first and the last row to draw. They lie one row above and below the used rows."""
-    used = [number for rows in pages for number, one in enumerate(rows, 1) if one != BLANK_ROW]
+    used = [number for rows in pages for number, row in enumerate(rows, 1) if row != BLANK_ROW]
     if not used:
-        return LOW_ROWS
+        return BLANK_PAGE_ROWS
     return max(1, min(used) - 1), min(24, max(used) + 1)
 
 
@@ -186,7 +186,7 @@ def begin_picture(kind: str, shown_rows: RowRange) -> Markup:
     top, height = (shown_rows[0] - 1) * HEIGHT, (shown_rows[1] - shown_rows[0] + 1) * HEIGHT
     return markup('<svg class="{}" viewBox="{} {} {} {}" {} xml:space="preserve"><rect class="v" '
                   'y="{}" width="480" height="{}"/>', kind, -NUMBERS, top - 1, 482 + NUMBERS,
-                  height + 2, HIDDEN, top, height)
+                  height + 2, ARIA_HIDDEN, top, height)
 
 
 def draw_picture(rows: Rows, header: bytes, shown_rows: RowRange,
@@ -194,11 +194,11 @@ def draw_picture(rows: Rows, header: bytes, shown_rows: RowRange,
     """Draw rows of a page as SVG, with outlines around differing cells."""
     parts = [begin_picture("page", shown_rows)]
     tall: set[int] = set()
-    option, has_boxes = national_option(header), is_boxed(header)
+    option, has_boxes = read_national_option(header), is_boxed(header)
     for number, row in enumerate(rows[shown_rows[0] - 1:shown_rows[1]], shown_rows[0]):
         if (row != BLANK_ROW or not has_boxes) and number - 1 not in tall:
-            drawn, is_tall = draw_row(row, number, option, has_boxes)
-            parts.append(drawn)
+            row_markup, is_tall = draw_row(row, number, option, has_boxes)
+            parts.append(row_markup)
             tall |= {number} if is_tall else set()
     parts.append(draw_frames(different, tall))
     parts.append(markup("</svg>"))
@@ -250,7 +250,7 @@ def draw_picture_pair(time: str, expected: Rows, header: bytes, state: ReceiverS
                                                              different)))
 
 
-def make_figure(caption: str, words: str, drawn: Markup) -> Markup:
+def make_figure(caption: str, words: str, picture: Markup) -> Markup:
     """Return a picture with a caption, followed by `words` in small print."""
     return markup("<figure><figcaption>{} <small>{}</small></figcaption>{}</figure>", caption,
-                  words, drawn)
+                  words, picture)

@@ -4,10 +4,10 @@ from __future__ import annotations
 from typing import Iterable, Iterator
 
 from ..common.markup import Markup, NO_MARKUP, Value, join_markup, markup
-from ..common.times import FRAMES_A_SECOND, Span, time_of
+from ..common.times import FRAMES_A_SECOND, Span, format_frame
 from ..judging.cues import Cue, find_text_spans
 from ..stream.receiver import Timeline
-from .cue_list import CueList, cause_key
+from .cue_list import CueList, make_cause_key
 
 WIDTH = 1000  # width of a lane in units, which are scaled to the width of the page
 MIN_MARK_WIDTH = 2  # minimum width of a mark in units
@@ -16,7 +16,7 @@ STEPS = [seconds * FRAMES_A_SECOND for seconds in (1, 2, 5, 10, 30)] + [
     minutes * MINUTE for minutes in (1, 2, 5, 10, 30, 60, 120, 240)]
 MAX_TIMES = 10  # maximum number of time labels below the lanes
 # A label less than this percentage of the lane's width from an end is aligned with that end.
-EDGE = 8
+EDGE_PERCENT = 8
 
 
 class Lanes:
@@ -25,37 +25,37 @@ class Lanes:
     def __init__(self, cues: CueList, decoded: Timeline | None, lost_spans: Iterable[Span]) -> None:
         self.cues, self.decoded, self.lost_spans = cues, decoded, list(lost_spans)
         subtitles = [cue.subtitle for cue in cues.cues]
-        self.begin = min(one.begin for one in subtitles)
-        self.end = max(one.end for one in subtitles)
+        self.begin = min(item.begin for item in subtitles)
+        self.end = max(item.end for item in subtitles)
         if decoded and decoded.frames:
             self.begin, self.end = min(self.begin, decoded.first), max(self.end, decoded.last + 1)
 
-    def find_x(self, frame: int) -> float:
+    def compute_x(self, frame: int) -> float:
         """Return the horizontal position of a frame on a lane."""
         inside = min(max(frame, self.begin), self.end) - self.begin
         return round(inside * WIDTH / (self.end - self.begin), 1)
 
     def draw(self) -> Markup:
         """Draw all lanes, and the times below them."""
-        lanes = [self.draw_lane("expected", "Expected", ((one.subtitle.begin, one.subtitle.end)
-                                                    for one in self.cues.cues))]
+        lanes = [self.draw_lane("expected", "Expected", ((cue.subtitle.begin, cue.subtitle.end)
+                                                    for cue in self.cues.cues))]
         if self.decoded:
             lanes.append(self.draw_lane("received", "Decoded", (
                 (span.first, span.last + 1) for span in find_text_spans(self.decoded))))
-        lanes += self.fault_lanes()
+        lanes += self.draw_fault_lanes()
         if self.lost_spans:
             lanes.append(self.draw_lane("fault", "not recorded", (
                 (span.first, span.last + 1) for span in self.lost_spans)))
-        label = f"Timeline from {time_of(self.begin)} to {time_of(self.end)}"
+        label = f"Timeline from {format_frame(self.begin)} to {format_frame(self.end)}"
         return markup('<figure class="lanes"><figcaption>{}</figcaption>{}{}</figure>', label,
                       join_markup(lanes), self.draw_axis())
 
-    def fault_lanes(self) -> Iterator[Markup]:
+    def draw_fault_lanes(self) -> Iterator[Markup]:
         """Draw a lane for each kind of fault."""
         places = {kind.key: list[tuple[int, int]]() for kind in self.cues.kinds}
         for cue in self.cues.cues:
             if cue.cause:
-                places[cause_key(cue.cause)].append(find_cue_span(cue))
+                places[make_cause_key(cue.cause)].append(find_cue_span(cue))
         for number, spans in self.cues.judge.spans.items():
             places[f"n{number}"] += [(span.first, span.last + 1) for span in spans]
         for kind in self.cues.kinds:
@@ -71,7 +71,7 @@ class Lanes:
         """Draw a lane. Marks that would touch are drawn as one mark."""
         runs: list[list[float]] = []
         for begin, end in sorted(spans):
-            left, right = self.find_x(begin), self.find_x(end)
+            left, right = self.compute_x(begin), self.compute_x(end)
             right = max(right, left + MIN_MARK_WIDTH)
             if runs and left - runs[-1][1] < 0.5:
                 runs[-1][1] = max(runs[-1][1], right)
@@ -85,21 +85,22 @@ class Lanes:
     def draw_axis(self) -> Markup:
         """Draw the times below the lanes. Each time links to the next subtitle."""
         length = self.end - self.begin
-        step = next((one for one in STEPS if length <= MAX_TIMES * one), STEPS[-1])
+        step = next((item for item in STEPS if length <= MAX_TIMES * item), STEPS[-1])
         begins = [cue.subtitle for cue in self.cues.cues]
         words = []
         for frame in range(-(-self.begin // step) * step, self.end - length // 30, step):
-            short = time_of(frame)[:5] if step >= MINUTE else time_of(frame)[3:8]
-            one = next((one for one in begins if one.begin >= frame), None)
-            place = self.find_x(frame) / 10
-            edge = "first" if place < EDGE else "last" if place > 100 - EDGE else "inner"
-            words.append(markup('<a class="{}" href="#s{}" style="left:{:.4g}%">{}</a>', edge,
-                                one.index, place, short) if one else NO_MARKUP)
+            label = format_frame(frame)[:5] if step >= MINUTE else format_frame(frame)[3:8]
+            item = next((item for item in begins if item.begin >= frame), None)
+            place = self.compute_x(frame) / 10
+            position_class = "first" if place < EDGE_PERCENT else "last" \
+                if place > 100 - EDGE_PERCENT else "inner"
+            words.append(markup('<a class="{}" href="#s{}" style="left:{:.4g}%">{}</a>',
+                                position_class, item.index, place, label) if item else NO_MARKUP)
         return markup('<div class="axis"><div>{}</div></div>', join_markup(words))
 
 
 def find_cue_span(cue: Cue) -> tuple[int, int]:
     """Return the earlier of the expected and actual in-cue, and the later out-cue."""
-    one = cue.subtitle
-    return (min(one.begin, one.begin if cue.begin is None else cue.begin),
-            max(one.end, one.end if cue.end is None else cue.end))
+    item = cue.subtitle
+    return (min(item.begin, item.begin if cue.begin is None else cue.begin),
+            max(item.end, item.end if cue.end is None else cue.end))

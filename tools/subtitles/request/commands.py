@@ -12,7 +12,8 @@ import time
 from typing import Callable, TextIO
 
 from ..common.command_line import (
-    HIDDEN, INSTALLED, Stop, discard_output, escape_hidden, print_stderr, quote_argument)
+    CONTROL_CHARACTERS, INSTALLED, Stop, discard_output, escape_hidden, print_stderr,
+    quote_argument)
 from ..common.files import is_utf_8
 from ..common.program import TOP, resolve_script
 from .request import OPTIONS, Profile, Request, Selection, list_arguments
@@ -31,28 +32,28 @@ class CommandPaths:
         elif not folder:
             folder = "."
         self.folder = folder
-        self.program_command = program or self.default_program()
+        self.program_command = program or self.get_default_program()
         path = os.path.abspath(program or os.path.join(TOP, "subttx"))
         if os.path.isdir(path) or not os.access(path, os.X_OK):
             raise Stop(f"{self.program_command} is not an executable program")
         # Run the program itself, since the script ./subttx would search for it each time.
         self.program_path = resolve_script(path)
 
-    def default_program(self) -> str:
+    def get_default_program(self) -> str:
         """Return the path of the program next to the tools."""
         if self.is_installed:
             return os.path.join(self.folder, "subttx")
         path = os.path.normpath(os.path.join(self.folder, "..", "subttx"))
         return path if os.path.dirname(path) else os.path.join(".", path)
 
-    def tool_command(self, name: str) -> str:
+    def get_tool_command(self, name: str) -> str:
         """Return the path of a tool, as the operator would type it."""
         return os.path.join(self.folder, INSTALLED + name if self.is_installed else name)
 
 
-def shell_line(*words: str) -> str:
+def quote_command(*args: str) -> str:
     """Return a shell command line. All arguments except `>` and `|` are quoted."""
-    line = " ".join(word if word in (">", "|") else quote_argument(word) for word in words)
+    line = " ".join(word if word in (">", "|") else quote_argument(word) for word in args)
     return line.replace(" > ", " >")
 
 
@@ -73,15 +74,16 @@ INDEX = "index"  # name of the page with all pairs of a folder
 ESCAPE = "%"
 # Parts of names that are escaped: a leading dot, control characters, and suffixes that look like
 # the number of a second pair, of a part or of a line.
-ESCAPED = re.compile(rf"^\.|{ESCAPE}|{HIDDEN.pattern}|[.~](?=[0-9]+$)|(?<=^line) (?=[0-9]+$)"
-                     r"|^i(?=ndex$)")
+ESCAPED_PARTS = re.compile(rf"^\.|{ESCAPE}|{CONTROL_CHARACTERS.pattern}|[.~](?=[0-9]+$)|(?<=^line) "
+                           rf"(?=[0-9]+$)"
+                           r"|^i(?=ndex$)")
 MAX_NAME_BYTES, KEPT_NAME_BYTES = 180, 120  # a longer name is cut, and a digest is appended
 
 
-def pair_name(stl: str) -> str:
+def make_pair_name(stl: str) -> str:
     """Return the base name of a pair's result files, from the name of its subtitle file."""
     stem = os.path.splitext(os.path.basename(stl))[0]
-    name = ESCAPED.sub(lambda found: "".join(
+    name = ESCAPED_PARTS.sub(lambda found: "".join(
         f"{ESCAPE}{byte:02X}" for byte in os.fsencode(found[0])), stem) or ESCAPE
     if len(os.fsencode(name)) > MAX_NAME_BYTES:
         digest = hashlib.sha256(os.fsencode(stem)).hexdigest()[:32]
@@ -90,7 +92,7 @@ def pair_name(stl: str) -> str:
     return name
 
 
-def part_name(name: str, number: int) -> str:
+def make_part_name(name: str, number: int) -> str:
     """Return the base name of the result files of part `number`."""
     return f"{name}.{number}"
 
@@ -103,9 +105,9 @@ class ListNames:
 
     def name_pair(self, stl: str) -> str:
         """Return a unique name for the next pair."""
-        return self.add_number(pair_name(stl))
+        return self.add_number(make_pair_name(stl))
 
-    def name_line(self, number: int) -> str:
+    def make_line_name(self, number: int) -> str:
         """Return a unique name for a line that has no valid pair."""
         return self.add_number(f"line {number}")
 
@@ -133,11 +135,11 @@ class PartFiles:
         """Return the files of a pair's parts, also those written since the folder was listed."""
         names = {*self.files_by_pair.get(name, ())}
         for number in itertools.count(1):
-            candidates = {f"{part_name(name, number)}.{ending}" for ending in PART_ENDINGS}
-            present = {file for file in candidates
-                       if os.path.lexists(os.path.join(self.folder, file))}
-            names |= present
-            if not present:
+            candidates = {f"{make_part_name(name, number)}.{ending}" for ending in PART_ENDINGS}
+            existing_files = {file for file in candidates
+                              if os.path.lexists(os.path.join(self.folder, file))}
+            names |= existing_files
+            if not existing_files:
                 break
         return sorted(names)
 
@@ -149,12 +151,12 @@ def list_pair_files(folder: str, name: str, parts: PartFiles | None = None) -> l
             for file in (*(f"{name}.{ending}" for ending in PAIR_ENDINGS), *part_files)]
 
 
-def lock_path(folder: str, name: str) -> str:
+def make_lock_path(folder: str, name: str) -> str:
     """Return the path of a pair's lock file, or of the folder's lock file if `name` is empty."""
     return os.path.join(folder, f".{name}.{LOCK}" if name else f".{LOCK}")
 
 
-def index_path(folder: str) -> str:
+def make_index_path(folder: str) -> str:
     """Return the path of the page that lists all pairs of a folder."""
     return os.path.join(folder, f"{INDEX}.html")
 
@@ -169,26 +171,28 @@ class OutputNames:
         self.name, self.folder, self.out = name, folder, out
         self.staging_folder = staging_folder or out
         self.program_stl = ""  # path for the program, which accepts only UTF-8
-        self.recording_path = self.temporary_path("recording")  # path of a copy of standard input
-        self.list_path = self.temporary_path("txt")
-        self.report_path = self.final_path("html")
-        self.json_path = self.final_path("json") if out else None
+        # path of a copy of standard input
+        self.recording_path = self.make_temporary_path("recording")
+        self.list_path = self.make_temporary_path("txt")
+        self.report_path = self.make_final_path("html")
+        self.json_path = self.make_final_path("json") if out else None
 
-    def display_path(self, ending: str) -> str:
+    def make_display_path(self, ending: str) -> str:
         """Return the path of a result file, as shown to the operator."""
         return os.path.join(self.out or "", f"{self.name}.{ending}")
 
-    def final_path(self, ending: str) -> str:
+    def make_final_path(self, ending: str) -> str:
         """Return the path at which the result file with this ending is stored."""
         return os.path.join(self.staging_folder or "", f"{self.name}.{ending}")
 
-    def temporary_path(self, ending: str) -> str:
+    def make_temporary_path(self, ending: str) -> str:
         """Return the path in the temporary folder for a file with this ending."""
         return os.path.join(self.folder, f"{self.name}.{ending}")
 
-    def name_part(self, number: int) -> OutputNames:
+    def make_part_paths(self, number: int) -> OutputNames:
         """Return the paths of the result files of a part."""
-        part = OutputNames(part_name(self.name, number), self.folder, self.out, self.staging_folder)
+        part = OutputNames(make_part_name(self.name, number), self.folder, self.out,
+                           self.staging_folder)
         part.program_stl = self.program_stl
         return part
 
@@ -199,7 +203,7 @@ class OutputNames:
         """Return a path in UTF-8, which the program needs. If necessary, make a symbolic link."""
         if is_utf_8(name):
             return name
-        path = self.temporary_path(ending)
+        path = self.make_temporary_path(ending)
         if not os.path.lexists(path):
             os.symlink(os.path.abspath(name), path)
         return path
@@ -208,21 +212,21 @@ class OutputNames:
 def make_qc_command(request: Request, command_paths: CommandPaths, *more: str) -> str:
     """Return the command line that repeats a request with additional arguments. An additional
     option replaces the same option of the request."""
-    arguments = [command_paths.tool_command("qc"), request.stl,
+    arguments = [command_paths.get_tool_command("qc"), request.stl,
                  *([request.recording] if request.recording else [])]
     options = list_arguments(request)
-    replaced = {"--origin": ["--origin", "--start"]}.get(more[0], [more[0]]) if more else []
-    arguments += [word for option in options if option and option[0] not in replaced
+    replaced_options = {"--origin": ["--origin", "--start"]}.get(more[0], [more[0]]) if more else []
+    arguments += [word for option in options if option and option[0] not in replaced_options
                   for word in option]
-    return shell_line(*arguments, *more)
+    return quote_command(*arguments, *more)
 
 
-def profile_line(profile: Profile) -> str:
+def format_profile(profile: Profile) -> str:
     """Return the output line that lists the options in a profile."""
     arguments = [word for option in OPTIONS if (setting := profile.settings.get(option.field))
                  and setting.name == option.name
                  for word in option.format_arguments(setting.value, None)]
-    return f"profile {profile.name}: {shell_line(*arguments) or 'no options'}"
+    return f"profile {profile.name}: {quote_command(*arguments) or 'no options'}"
 
 
 UPDATE_SECONDS = 0.2  # minimum number of seconds between updates of the progress line
@@ -299,10 +303,10 @@ class Printer:
 
     def end_list(self, last_line: str) -> None:
         """End a list: print the number of omitted lines, and the last line."""
-        omitted = self.list_length - MAX_LIST_LINES
-        if omitted > 1:
-            self.print_line(f".. {omitted - 1} more lines")
-        if omitted > 0:
+        omitted_count = self.list_length - MAX_LIST_LINES
+        if omitted_count > 1:
+            self.print_line(f".. {omitted_count - 1} more lines")
+        if omitted_count > 0:
             self.print_line(last_line)
 
     def print_verdict(self, sentence: str, line: str) -> None:
@@ -331,9 +335,9 @@ class Listener:
             self.printer.print_line(selection.line)
         self.selections.append(selection)
 
-    def add_command(self, *words: str) -> None:
+    def add_command(self, *args: str) -> None:
         """Print and store a command."""
-        self.commands.append(shell_line(*words))
+        self.commands.append(quote_command(*args))
         self.printer.print_command(self.commands[-1])
 
     def add_notes(self, *lines: str) -> None:

@@ -13,9 +13,9 @@ from typing import Any, Collection, Iterable, Iterator, Mapping, NamedTuple, Seq
 
 from ..common.command_line import Stop, ToolParser, format_error
 from ..common.files import Inputs, read_bounded_bytes, describe_kind, make_safe_name
-from .commands import ListNames, pair_name
+from .commands import ListNames, make_pair_name
 from .request import (
-    Mode, OPTIONS, Profile, Request, Setting, add_options, option_values, make_request,
+    Mode, OPTIONS, Profile, Request, Setting, add_options, get_option_values, make_request,
     make_file_request)
 
 
@@ -31,7 +31,7 @@ LIST_TOKEN = re.compile(r"""(?P<blank>[ \t\r\n]+) | (?P<comment>\#.*)
                        | (?P<plain>[^ \t\r\n\\'"\#]+)
                        | \\(?P<letter>.) | '(?P<single>[^']*)' | "(?P<double>(?:[^"\\]|\\.)*)" """,
                            re.VERBOSE | re.DOTALL)
-ESCAPED = re.compile(r'\\(["\\])')
+QUOTED_ESCAPE = re.compile(r'\\(["\\])')
 
 
 class Line(NamedTuple):
@@ -78,12 +78,12 @@ def split_lines(text: str) -> Iterator[Line]:
 def parse_line(number: int, text: str) -> Line:
     """Parse a line of a list. Empty lines and comments have no arguments."""
     try:
-        return Line(number, tuple(split_words(text)))
+        return Line(number, tuple(split_arguments(text)))
     except ValueError as reason:
         return Line(number, (text[:80],), str(reason))
 
 
-def split_words(line: str) -> list[str]:
+def split_arguments(line: str) -> list[str]:
     """Split a line into words as `shlex` does, but in linear time. Raise `ValueError` if the line
     is too long, a quote is not closed or a word has a NUL character."""
     if len(line) > MAX_LINE_CHARACTERS:
@@ -100,8 +100,8 @@ def split_words(line: str) -> list[str]:
             parts += [[]] * bool(parts[-1])
         else:
             parts[-1].append(match[kind] if kind != "double" else
-                             ESCAPED.sub(r"\1", match[kind]))
-    arguments = ["".join(parts_of_word) for parts_of_word in parts if parts_of_word]
+                             QUOTED_ESCAPE.sub(r"\1", match[kind]))
+    arguments = ["".join(word_parts) for word_parts in parts if word_parts]
     if len(arguments) > MAX_LINE_WORDS:
         raise ValueError(f"it has more than {MAX_LINE_WORDS} words")
     if any("\0" in word for word in arguments):
@@ -117,9 +117,9 @@ def parse_setting(arguments: Sequence[str]) -> Setting:
     """Parse a line of a profile. Raise `Stop` if the option is not allowed in a profile. The
     message quotes only known options, since the user may have given a private file by mistake."""
     name = arguments[0].partition("=")[0]
-    option = next((one for one in OPTIONS if one.name == name), None)
+    option = next((item for item in OPTIONS if item.name == name), None)
     if option is None or not option.is_in_profile:
-        names = ", ".join(one.name for one in OPTIONS if one.is_in_profile)
+        names = ", ".join(item.name for item in OPTIONS if item.is_in_profile)
         raise Stop(f"{option.name if option else 'its first word'} is not allowed in a profile: "
                    f"use {names}")
     parser = ToolParser("")
@@ -167,9 +167,9 @@ def read_options(parser: ToolParser, line: Sequence[str], defaults: Mapping[str,
     the command line itself. Only then may the profile be a pipe, since a list could name a pipe to
     which nothing is written.
     """
-    typed = {word.partition("=")[0] for word in line}
-    defaults = remove_replaced_clock(defaults, typed)
-    own_defaults = remove_replaced_clock(own_defaults, typed)
+    given_options = {word.partition("=")[0] for word in line}
+    defaults = remove_replaced_clock(defaults, given_options)
+    own_defaults = remove_replaced_clock(own_defaults, given_options)
     options = parser.parse_args([*line], argparse.Namespace(**defaults))
     if isinstance(options.profile, str):
         profile = read_profile(os.path.join(folder, options.profile), is_typed)
@@ -178,10 +178,10 @@ def read_options(parser: ToolParser, line: Sequence[str], defaults: Mapping[str,
         own_options.profile = None
         names = {setting.name for setting in profile.settings.values()}
         defaults = {**remove_replaced_clock(own_defaults, names),
-                    **remove_replaced_clock(profile_values, typed)}
+                    **remove_replaced_clock(profile_values, given_options)}
         options = parser.parse_args([*line], argparse.Namespace(**defaults))
         options.profile, options.own_defaults = profile, own_options
-    if options.within != defaults.get("within", options.within) and "--late" not in typed:
+    if options.within != defaults.get("within", options.within) and "--late" not in given_options:
         options.late = None  # --late only suits the previous value of --within
     return options
 
@@ -189,16 +189,16 @@ def read_options(parser: ToolParser, line: Sequence[str], defaults: Mapping[str,
 def remove_replaced_clock(options: Mapping[str, Any], names: Collection[str]) -> dict[str, Any]:
     """Remove the value of `origin` if `names` contains `--start`, and the value of `start` if
     `names` contains `--origin`."""
-    replaced = [other for field, other in (("origin", "start"), ("start", "origin"))
-                if f"--{field}" in names]
-    return {**options, **dict.fromkeys(replaced)}
+    replaced_options = [other for field, other in (("origin", "start"), ("start", "origin"))
+                        if f"--{field}" in names]
+    return {**options, **dict.fromkeys(replaced_options)}
 
 
 def describe_mode_conflict(name: str, modes: Sequence[Mode], mode: Mode) -> str:
     """Return the message which reports that an option can't be used in a mode."""
     *others, last = (mode_.text for mode_ in modes)
-    accepted = f"{', '.join(others)} or {last}" if others else last
-    return f"{name} may be given with {accepted}, not with {mode.text}"
+    accepted_modes = f"{', '.join(others)} or {last}" if others else last
+    return f"{name} may be given with {accepted_modes}, not with {mode.text}"
 
 
 @functools.lru_cache(maxsize=None)
@@ -216,8 +216,8 @@ def make_line_request(line: Sequence[str], defaults: argparse.Namespace,
                       folder: str = "") -> Request:
     """Return the request for a line of a list. `folder` is the folder of the list, `defaults` are
     the options of the command line."""
-    own_defaults = option_values(getattr(defaults, "own_defaults", defaults))
-    request = make_request(read_options(make_line_parser(), line, option_values(defaults),
+    own_defaults = get_option_values(getattr(defaults, "own_defaults", defaults))
+    request = make_request(read_options(make_line_parser(), line, get_option_values(defaults),
                                         own_defaults, folder))
     if request.recording == "-":
         raise Stop("a list can't have standard input (-) as a recording: give a file")
@@ -257,7 +257,7 @@ def find_folder_pairs(folder: str, defaults: argparse.Namespace) -> list[BatchIt
         if ending.lower() in (SUBTITLE_ENDING, *RECORDING_ENDINGS):
             files_by_stem[stem.lower()].append(file)
     return [item for files in files_by_stem.values() for item in
-            pair_files(folder, files, defaults)]
+            match_pair(folder, files, defaults)]
 
 
 def collect_inputs(items: Iterable[BatchItem], *more: str) -> Inputs:
@@ -297,18 +297,18 @@ def check_files(item: BatchItem) -> BatchItem:
                          files=(request.stl, request.recording, *request.other_files))
 
 
-def pair_files(folder: str, files: list[str], defaults: argparse.Namespace) -> Iterable[BatchItem]:
+def match_pair(folder: str, files: list[str], defaults: argparse.Namespace) -> Iterable[BatchItem]:
     """Return the pair among files whose names differ only in case. If there are more than two
     files, match exact names."""
-    subtitles, recordings = separate_files(files)
+    subtitles, recordings = split_file_names(files)
     if len(subtitles) > 1 or len(recordings) > 1:
         files_by_stem: dict[str, list[str]] = collections.defaultdict(list)
         for file in files:
             files_by_stem[os.path.splitext(file)[0]].append(file)
         if len(files_by_stem) > 1:
             return [item for group in files_by_stem.values() for item in
-                    pair_files(folder, group, defaults)]
-    name = pair_name((subtitles or recordings)[0])
+                    match_pair(folder, group, defaults)]
+    name = make_pair_name((subtitles or recordings)[0])
     paths = [os.path.join(folder, file) for file in subtitles + recordings]
     if not recordings:
         reason = f"{', '.join(paths)}: no recording has the same name"
@@ -321,7 +321,7 @@ def pair_files(folder: str, files: list[str], defaults: argparse.Namespace) -> I
     return [BatchItem(name, None, reason, paths)]
 
 
-def separate_files(files: list[str]) -> tuple[list[str], list[str]]:
+def split_file_names(files: list[str]) -> tuple[list[str], list[str]]:
     """Separate the subtitle files in a list of names from the recordings."""
     is_subtitles = [os.path.splitext(file)[1].lower() == SUBTITLE_ENDING for file in files]
     return ([file for file, is_subtitle_file in zip(files, is_subtitles) if is_subtitle_file],
@@ -338,7 +338,7 @@ def read_list_pairs(path: str, lines: Iterable[Line],
                 raise Stop(line.fault)
             request = make_line_request(line.arguments, defaults, folder)
         except (Stop, ValueError) as reason:
-            yield BatchItem(names.name_line(line.number), None,
+            yield BatchItem(names.make_line_name(line.number), None,
                             f"{path}, line {line.number}: {reason}",
                        list_possible_paths(line.arguments, folder))
             continue

@@ -15,12 +15,12 @@ from ..common.command_line import (
     parse_pes_interval, parse_pid, parse_repeat_interval, parse_start, parse_time, parse_within)
 from ..common.files import read_first_bytes, make_safe_name
 from ..common.shapes import (
-    CHECKSUM, COUNT, Flag, Integer, Listed, Maybe, Member, OneOf, PID, PTS, Record, Shape, TIME,
+    CHECKSUM, COUNT, Flag, Integer, ListOf, Maybe, Member, OneOf, PID, PTS, Record, Shape, TIME,
     Text)
-from ..common.times import Between, FRAMES_OF_A_DAY, frame_of, time_of
+from ..common.times import FRAMES_OF_A_DAY, FrameRange, format_frame, parse_frame
 from ..formats.layout import find_layout_fault
 from ..formats.stl import read_stl
-from ..formats.teletext import OPTION_WORDS, option_for_language, page_name
+from ..formats.teletext import OPTION_WORDS, choose_language_option, page_name
 
 
 # The options for a pair
@@ -50,7 +50,7 @@ PAIRS = (PAIR, BATCH, WATCH, LINE)
 JUDGED = (*PAIRS, ALONE)
 MEASURED_PAIRS, MEASURED = (*PAIRS, MEASURE), (*JUDGED, MEASURE)
 
-NOT_TAKEN = object()  # `check` does not take the option
+NOT_ACCEPTED_BY_CHECK = object()  # `check` does not take the option
 
 
 class Option(NamedTuple):
@@ -68,7 +68,7 @@ class Option(NamedTuple):
     flag_value: Any = True  # value of the field if the flag is given
     choices: Sequence[str] = ()
     nargs: str | None = None
-    check_default: Any = NOT_TAKEN  # default in `check`
+    check_default: Any = NOT_ACCEPTED_BY_CHECK  # default in `check`
     changes_pages: bool = False  # whether `schedule` takes it too
     is_in_profile: bool = False  # whether profiles may contain it
     # The option's member in a JSON result
@@ -190,7 +190,7 @@ OPTIONS: tuple[Option, ...] = (
            read=parse_break_count, shape=COUNT),
     Option("--pes", "I-J", "judge only PES packets I to J, for a recording that contains the "
            "programme twice", MEASURED_PAIRS, "all", field="pes", read=parse_packet_range,
-           write=format_range, shape=Maybe(Listed(COUNT, 2, 2))),
+           write=format_range, shape=Maybe(ListOf(COUNT, 2, 2))),
     Option("--start", "TIME|tcp", "take TIME as the time code of the recording's [first picture]"
            "(#the-clock-by-the-first-picture); `tcp`: use the TCP of the GSI block",
            MEASURED_PAIRS, "estimated", field="start", read=parse_start, is_in_profile=True,
@@ -275,7 +275,7 @@ def list_arguments(request: Any) -> list[list[str]]:
         if profile else option.default) for option in OPTIONS]
 
 
-def request_members() -> list[Member]:
+def list_request_members() -> list[Member]:
     """Return the members of the object `request` in a JSON result."""
     return [member for option in OPTIONS if (member := option.member)]
 
@@ -352,15 +352,15 @@ class Request:
         return name
 
     @property
-    def between(self) -> Between:
+    def between(self) -> FrameRange:
         """Return the judged range. Only subtitles that begin in it are judged."""
-        begin, end = frame_of(self.from_time or ""), frame_of(self.to_time or "")
-        return Between(begin or 0, FRAMES_OF_A_DAY if end is None else end)
+        begin, end = parse_frame(self.from_time or ""), parse_frame(self.to_time or "")
+        return FrameRange(begin or 0, FRAMES_OF_A_DAY if end is None else end)
 
-    def restrict_to(self, begin: int, end: int) -> Request:
+    def limit_to_range(self, begin: int, end: int) -> Request:
         """Return this request limited to the subtitles that begin from frame `begin` up to, but not
         including, frame `end`."""
-        return dataclasses.replace(self, from_time=time_of(begin), to_time=time_of(end))
+        return dataclasses.replace(self, from_time=format_frame(begin), to_time=format_frame(end))
 
     @property
     def pace(self) -> int | None:
@@ -381,17 +381,17 @@ class Request:
                 and option.format_arguments(option.get_value(self), option.default) and self.profile
                 and self.profile.get_value(option.field, None) == option.get_value(self)]
 
-    def schedule_arguments(self) -> list[str]:
+    def list_schedule_arguments(self) -> list[str]:
         """Return the arguments for `schedule`: the options that change the expected pages."""
-        return self.program_arguments([option for option in OPTIONS if option.changes_pages])
+        return self.list_program_arguments([option for option in OPTIONS if option.changes_pages])
 
     def check_arguments(self, is_file_alone: bool = False) -> list[str]:
         """Return the arguments for `check`, except the origin."""
-        return self.program_arguments([
-            option for option in OPTIONS if option.check_default is not NOT_TAKEN
+        return self.list_program_arguments([
+            option for option in OPTIONS if option.check_default is not NOT_ACCEPTED_BY_CHECK
             and (ALONE in option.modes or not is_file_alone)])
 
-    def program_arguments(self, options: Iterable[Option]) -> list[str]:
+    def list_program_arguments(self, options: Iterable[Option]) -> list[str]:
         """Return the program's arguments for the given options, without `--pace none`."""
         request = dataclasses.replace(
             self, pace_word=None if self.pace_word == NONE else self.pace_word)
@@ -399,7 +399,7 @@ class Request:
                 option.format_arguments(option.get_value(request), option.check_default)]
 
 
-def option_values(args: argparse.Namespace) -> dict[str, Any]:
+def get_option_values(args: argparse.Namespace) -> dict[str, Any]:
     """Return the values of options by field name."""
     return {option.field: getattr(args, option.field) for option in OPTIONS}
 
@@ -417,7 +417,7 @@ def make_file_request(stl: str, recording: str | None, options: argparse.Namespa
     if options.late and options.late.longest > options.within:
         raise Stop(f"--late contains a delay of {counted(options.late.longest, 'frame')}, but "
                    f"--within allows only {options.within}: increase --within")
-    request = Request(make_safe_name(stl), recording_name, **option_values(options))
+    request = Request(make_safe_name(stl), recording_name, **get_option_values(options))
     if request.option == AUTO and not is_pipe(request.stl):  # a pipe is read later
         choose_option(request)
     return request
@@ -445,7 +445,7 @@ def choose_option(request: Request) -> None:
     language = b""
     with contextlib.suppress(Stop, OSError):  # the error is reported later
         language = read_first_bytes(request.stl_path, LC.stop)[LC]
-    request.option = option_for_language(language).word
+    request.option = choose_language_option(language).word
     request.language = language.decode("latin-1")
 
 

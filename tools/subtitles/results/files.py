@@ -16,7 +16,7 @@ from ..common.command_line import Stop, format_error, escape_hidden_lines
 from ..common.files import (
     is_replaced, open_output, open_result, read_bounded_bytes, read_first_bytes)
 from ..common.program import ProgramInfo
-from ..common.shapes import Listed, Member, Members
+from ..common.shapes import ListOf, Member, Members
 from ..judging.status import ACCEPTED, NOT_JUDGED, STATUSES, matches_exit_status
 from ..judging.subtitles import SubtitleCounts
 from ..judging.verdict import Verdict
@@ -56,7 +56,7 @@ def write_result(verdict: Verdict, program: ProgramInfo) -> Iterator[str]:
 
 def write_list(member: Member, source: ResultSource, limit: ListLimit) -> Iterator[str]:
     """Yield a JSON list with one item per line. Omit further items at the limit."""
-    assert isinstance(member.shape, Listed) and member.getter
+    assert isinstance(member.shape, ListOf) and member.getter
     items, separator = iter(member.getter(source)), "["
     for count, item in enumerate(items):
         text = json.dumps(member.shape.shape.to_json(item), ensure_ascii=False)
@@ -123,7 +123,7 @@ def write_file(path: str | None, make_chunks: Callable[[], Iterable[bytes]]) -> 
             file.writelines(make_chunks())
 
 
-def result_bytes(result: dict[str, Any]) -> bytes:
+def encode_result(result: dict[str, Any]) -> bytes:
     """Return the result of an unjudged pair, encoded as JSON."""
     return json.dumps(result).encode() + b"\n"
 
@@ -131,7 +131,7 @@ def result_bytes(result: dict[str, Any]) -> bytes:
 def write_result_file(path: str, result: dict[str, Any]) -> None:
     """Write the result of a pair that was not judged into a folder of results."""
     with open_result(path) as file:
-        file.write(result_bytes(result))
+        file.write(encode_result(result))
 
 
 def read_result(path: str) -> dict[str, Any] | None:
@@ -309,55 +309,56 @@ def format_cell(cell: Members | None) -> str:
     return f"{code} {cell['character']}" if cell["character"] else code
 
 
-def object_columns(name: str, members: Members | None) -> Columns:
+def make_object_columns(name: str, members: Members | None) -> Columns:
     """Return the columns for an object in the JSON result, one for each member."""
     return {f"{name}_{key}": value for key, value in (members or {}).items()}
 
 
-def part_columns(parts: Sequence[dict[str, Any]], number: int | None) -> Columns:
+def make_part_columns(parts: Sequence[dict[str, Any]], number: int | None) -> Columns:
     """Return the columns for part `number`, or for the only part if it is `None`."""
     numbered_parts = [part for part in parts if part["part"] == number or number is None]
     if len(numbered_parts) != 1:
         return {}
-    columns, pid = object_columns("part", numbered_parts[0]), numbered_parts[0]["pid"]
+    columns, pid = make_object_columns("part", numbered_parts[0]), numbered_parts[0]["pid"]
     return {**columns, "part_pid": pid if pid is None else f"0x{pid:X}"}
 
 
-def pair_columns(result: dict[str, Any]) -> Columns:
+def make_pair_columns(result: dict[str, Any]) -> Columns:
     """Return the columns that describe a pair."""
     pair = {name: result[name] for name in PAIR_COLUMNS}
     if "request" not in result:
         return {"stl": result["name"], **pair}
     return {"stl": result["request"]["stl"], "recording": result["request"]["recording"], **pair,
             "line": result["line"], "sentence": result["sentence"],
-            **object_columns("subtitle_counts", result["subtitle_counts"]),
-            **part_columns(result["parts"], None)}
+            **make_object_columns("subtitle_counts", result["subtitle_counts"]),
+            **make_part_columns(result["parts"], None)}
 
 
-def fault_columns(pair: Columns, parts: Sequence[dict[str, Any]], fault: Members) -> Columns:
+def make_fault_columns(pair: Columns, parts: Sequence[dict[str, Any]], fault: Members) -> Columns:
     """Return the columns for a fault, with the columns for its pair and part."""
     cause = fault["cause"]
-    return {**pair, **part_columns(parts, fault["part"]), **fault,
-            **object_columns("subtitle", fault["subtitle"]), **object_columns("cause", cause),
-            **object_columns("cause_subtitle", cause and cause["subtitle"]),
+    return {**pair, **make_part_columns(parts, fault["part"]), **fault,
+            **make_object_columns("subtitle", fault["subtitle"]),
+            **make_object_columns("cause", cause),
+            **make_object_columns("cause_subtitle", cause and cause["subtitle"]),
             "expected": format_cell(fault["expected"]), "decoded": format_cell(fault["decoded"])}
 
 
-def subtitle_lines(verdict: Verdict) -> Iterator[bytes]:
+def make_subtitle_lines(verdict: Verdict) -> Iterator[bytes]:
     """Yield the lines of a CSV file about one pair: the verdict, then the subtitles."""
     files: Columns = {"stl": verdict.request.stl, "recording": verdict.request.recording}
     pair: Columns = {**files, "verdict": verdict.word,
                    "reason": verdict.unjudged_reason or verdict.sentence}
     rows = ({**files, **row} for row in list_subtitle_rows(verdict))
-    return map(str.encode, column_lines(itertools.chain([pair], rows), CUE_COLUMNS))
+    return map(str.encode, make_column_lines(itertools.chain([pair], rows), CUE_COLUMNS))
 
 
-def column_lines(rows: Iterable[Columns], columns: Sequence[str]) -> Iterator[str]:
+def make_column_lines(rows: Iterable[Columns], columns: Sequence[str]) -> Iterator[str]:
     """Yield a line with the names of the columns, then a line for each row."""
     text = io.StringIO()
     writer = csv.writer(text, lineterminator="\n")
     values: Iterator[list[object]] = (
-        [table_value(row.get(name)) for name in columns] for row in rows)
+        [escape_table_value(row.get(name)) for name in columns] for row in rows)
     header: list[object] = [*columns]
     for line in itertools.chain([header], values):
         writer.writerow(["" if cell is None else cell for cell in line])
@@ -366,7 +367,7 @@ def column_lines(rows: Iterable[Columns], columns: Sequence[str]) -> Iterator[st
         text.truncate()
 
 
-def table_value(value: object) -> object:
+def escape_table_value(value: object) -> object:
     """Escape control characters in a text, and put an apostrophe before a spreadsheet formula."""
     if not isinstance(value, str):
         return value
@@ -374,18 +375,18 @@ def table_value(value: object) -> object:
     return f"'{text}" if text.startswith(FORMULA_BEGINNINGS) else text
 
 
-def table_lines(results: Iterable[dict[str, Any]]) -> Iterator[bytes]:
+def make_table_lines(results: Iterable[dict[str, Any]]) -> Iterator[bytes]:
     """Yield the lines of a CSV file about many pairs and their faults."""
-    rows = (row for result in results for row in column_rows(result))
-    return map(str.encode, column_lines(rows, COLUMNS))
+    rows = (row for result in results for row in make_column_rows(result))
+    return map(str.encode, make_column_lines(rows, COLUMNS))
 
 
-def column_rows(result: dict[str, Any]) -> Iterator[Columns]:
+def make_column_rows(result: dict[str, Any]) -> Iterator[Columns]:
     """Yield the columns for a pair, then the columns for each of its faults."""
-    pair = pair_columns(result)
+    pair = make_pair_columns(result)
     yield pair
     for fault in result["faults"] if "request" in result else ():
-        yield fault_columns(pair, result["parts"], fault)
+        yield make_fault_columns(pair, result["parts"], fault)
 
 
 class TestCase(NamedTuple):
@@ -416,7 +417,7 @@ def make_element(case: TestCase) -> tree.Element:
     return element
 
 
-def junit_file(cases: Sequence[TestCase], date: str) -> bytes:
+def make_junit_file(cases: Sequence[TestCase], date: str) -> bytes:
     """Return the JUnit file with a test case for each pair."""
     def count(kind: str) -> str:
         return str(sum(case.status != 0 and (case.verdict == NOT_JUDGED) == (kind == "errors")

@@ -11,25 +11,25 @@ from ..clock.start import SOURCES
 from ..common.command_line import MAX_EVERY, PACKET_SIZES
 from ..common.program import ProgramInfo
 from ..common.shapes import (
-    COUNT, Flag, Integer, Listed, Maybe, Member, MAX_NUMBER, Number, OneOf, PID, PTS, Record,
-    Rules, Schema, CHECKSUM, Text, TIME, make_definitions, name_shape)
-from ..common.times import FRAMES_OF_A_DAY, time_of
+    COUNT, Flag, Integer, ListOf, Maybe, Member, MAX_NUMBER, Number, OneOf, PID, PTS, Record,
+    Rules, Schema, CHECKSUM, Text, TIME, make_definitions, make_named_shape)
+from ..common.times import FRAMES_OF_A_DAY, format_frame
 from ..judging.causes import CAUSE_NAMES, CauseDescriber, count_causes
 from ..judging.cues import NOT_KNOWN, RIGHT, WAIVED, WRONG, make_subtitle_rows
 from ..judging.faults import make_faults
 from ..judging.part import Part
 from ..judging.status import ACCEPTED, NOT_JUDGED, POSSIBLE_RESULTS, RELATIVE, STATUSES
 from ..judging.verdict import Verdict
-from ..request.request import CHOICES, request_members
+from ..request.request import CHOICES, list_request_members
 
 
 FIRST_FAULT, LAST_FAULT = 10, 79
 
-CODE_TIME = name_shape("code_time", Text(r"[0-9]{2,3}(:[0-9]{2,3}){3}"))
-DATE = name_shape("date", Text(r"[0-9]{4}-[0-9]{2}-[0-9]{2}T[0-9]{2}:[0-9]{2}:[0-9]{2}Z"))
-PART = name_shape("part_number", Integer(1, MAX_NUMBER))
-STATUS = name_shape("status", OneOf(*sorted({*STATUSES.values()})))
-WORD = name_shape("word", OneOf(*STATUSES))
+CODE_TIME = make_named_shape("code_time", Text(r"[0-9]{2,3}(:[0-9]{2,3}){3}"))
+DATE = make_named_shape("date", Text(r"[0-9]{4}-[0-9]{2}-[0-9]{2}T[0-9]{2}:[0-9]{2}:[0-9]{2}Z"))
+PART = make_named_shape("part_number", Integer(1, MAX_NUMBER))
+STATUS = make_named_shape("status", OneOf(*sorted({*STATUSES.values()})))
+WORD = make_named_shape("word", OneOf(*STATUSES))
 
 FILE_AT_START = Record(
     "file_at_start", "",
@@ -51,7 +51,7 @@ SUBTITLE = Record(
     Member("begin", CODE_TIME, "The TCI."),
     Member("end", CODE_TIME, "The TCO."))
 
-CAUSE_NAME = name_shape("cause_name", OneOf(*CAUSE_NAMES))
+CAUSE_NAME = make_named_shape("cause_name", OneOf(*CAUSE_NAMES))
 OTHER_SUBTITLE = "The subtitle whose text was received."
 CAUSE_MEMBERS = (
     Member("subtitle", SUBTITLE),
@@ -113,7 +113,7 @@ REQUEST = Record(
     "request", "",
     Member("stl", Text(), "The subtitle file as typed."),
     Member("recording", Maybe(Text()), "The recording as typed; null: a subtitle file alone."),
-    *request_members())
+    *list_request_members())
 
 CLOCK_OF_PART = Record(
     "clock", "",
@@ -142,8 +142,8 @@ JUDGED_PART = Record(
     Member("part", PART, getter=lambda of: of.part.number),
     Member("stl", Text(), getter=lambda of: of.part.request.stl),
     Member("origin", Maybe(PTS), getter=lambda of: of.part.origin),
-    Member("from", Maybe(TIME), getter=lambda of: of.part.time_codes()[0]),
-    Member("to", Maybe(TIME), getter=lambda of: of.part.time_codes()[1]),
+    Member("from", Maybe(TIME), getter=lambda of: of.part.format_time_codes()[0]),
+    Member("to", Maybe(TIME), getter=lambda of: of.part.format_time_codes()[1]),
     Member("verdict", OneOf("accepted", "refused", "not judged"), "`not judged` means that a "
            "signal ended the call after the listed faults.",
            lambda of: of.part.check_output.verdict),
@@ -233,7 +233,7 @@ PROGRAM = Record(
     Member("proof", Maybe(Text()), "The line that the prover printed.",
            lambda program: program.proved))
 
-SPREAD = Record(
+DELAY_SPREAD = Record(
     "spread", "",
     Member("minimum", COUNT, getter=lambda delays: delays.minimum),
     Member("median", COUNT, getter=lambda delays: delays.median),
@@ -248,7 +248,7 @@ COUNTS = Record(
            "57."))
 
 FORMAT = 7
-MAX_LISTED = 20_000
+MAX_LISTED_ITEMS = 20_000
 MAX_SUBTITLES = 100_000  # maximum number of subtitles; a subtitle file has at most 99,999 blocks
 MAX_SECONDS = 10 ** 9
 Value = object
@@ -265,7 +265,7 @@ def list_trusted_frames(known: ResultSource) -> Iterator[dict[str, Value]]:
     """Yield the ranges of frames, in all parts, that have no fault."""
     for part in known.verdict.parts:
         for begin, end in part.trusted_frames:
-            yield {"part": part.number, "from": time_of(begin), "to": time_of(end)}
+            yield {"part": part.number, "from": format_frame(begin), "to": format_frame(end)}
 
 
 def list_cause_rows(known: ResultSource) -> Iterator[dict[str, Value]]:
@@ -283,7 +283,7 @@ def list_subtitle_rows(verdict: Verdict) -> Iterator[dict[str, Value]]:
         yield from make_subtitle_rows(part, verdict.severity, verdict.valid_subtitles)
 
 
-def add_known(numbers: list[int | None]) -> int | None:
+def add_numbers_if_known(numbers: list[int | None]) -> int | None:
     """Return the sum of the numbers. Return `None` if a number is unknown or the list is empty."""
     known = [number for number in numbers if number is not None]
     return sum(known) if known and len(known) == len(numbers) else None
@@ -291,7 +291,7 @@ def add_known(numbers: list[int | None]) -> int | None:
 
 def sum_parts(known: ResultSource, name: str) -> int | None:
     """Return the sum of a count over all parts, or `None` if it is unknown."""
-    return add_known([getattr(part.check_output, name) for part in known.verdict.parts])
+    return add_numbers_if_known([getattr(part.check_output, name) for part in known.verdict.parts])
 
 
 FILES_AT_START = Record(
@@ -304,7 +304,7 @@ CAUSE_COUNTS = Record("cause_counts", "", *(
 
 # Allowed combinations of verdict, status, last line and reason
 TEXT, NOTHING = Text(least=1), OneOf(None)
-TOGETHER = Rules([
+JOINT_RULES = Rules([
     {"verdict": OneOf(word), "status": OneOf(status),
      "line": NOTHING if word == NOT_JUDGED else TEXT,
      "worst_fault": NOTHING if word == NOT_JUDGED else TEXT,
@@ -312,33 +312,34 @@ TOGETHER = Rules([
 # Without a clock no pair is accepted or waived. The verdict `relative` has status 0 only with
 # --relative.
 HAS_CLOCK = Rules([{"origin": PTS}, {"start": TEXT}, {"recording": NOTHING}])
-IS_ALLOWED = Rules([{"relative": OneOf(True)}])
-TIMED = Rules([
+RELATIVE_RULES = Rules([{"relative": OneOf(True)}])
+TIME_RULES = Rules([
     {"verdict": OneOf(*(word for word in STATUSES if word not in (ACCEPTED, WAIVED, RELATIVE)))},
     {"verdict": OneOf(ACCEPTED, WAIVED), "request": HAS_CLOCK},
     {"verdict": OneOf(RELATIVE), "status": OneOf(STATUSES[RELATIVE])},
-    {"verdict": OneOf(RELATIVE), "request": IS_ALLOWED}])
+    {"verdict": OneOf(RELATIVE), "request": RELATIVE_RULES}])
 
 # The lists, which are written item by item. The member `omitted` counts their missing items.
 LISTS = (
-    Member("parts", Listed(JUDGED_PART, MAX_LISTED), "Frames between parts are not judged.",
+    Member("parts", ListOf(JUDGED_PART, MAX_LISTED_ITEMS), "Frames between parts are not judged.",
            lambda known: (PartResult(part, known.verdict.is_kept) for part in known.verdict.parts)),
-    Member("losses", Listed(LOSS, MAX_LISTED), getter=lambda known: known.verdict.gaps),
-    Member("notes", Listed(Text(), MAX_LISTED),
+    Member("losses", ListOf(LOSS, MAX_LISTED_ITEMS), getter=lambda known: known.verdict.gaps),
+    Member("notes", ListOf(Text(), MAX_LISTED_ITEMS),
            getter=lambda known: known.verdict.list_notes()),
-    Member("hints", Listed(Text(), MAX_LISTED), getter=lambda known: known.verdict.hints),
-    Member("warnings", Listed(WARNING, MAX_LISTED),
+    Member("hints", ListOf(Text(), MAX_LISTED_ITEMS), getter=lambda known: known.verdict.hints),
+    Member("warnings", ListOf(WARNING, MAX_LISTED_ITEMS),
            getter=lambda known: known.verdict.warnings),
-    Member("commands", Listed(Text(), MAX_LISTED), getter=lambda known: known.verdict.commands),
-    Member("choices", Listed(CHOICE, MAX_LISTED),
+    Member("commands", ListOf(Text(), MAX_LISTED_ITEMS),
+           getter=lambda known: known.verdict.commands),
+    Member("choices", ListOf(CHOICE, MAX_LISTED_ITEMS),
            getter=lambda known: known.verdict.selections),
-    Member("trusted_frames", Listed(TRUSTED, MAX_LISTED), "The list is empty if `check` "
+    Member("trusted_frames", ListOf(TRUSTED, MAX_LISTED_ITEMS), "The list is empty if `check` "
            "accepts the part.", list_trusted_frames),
-    Member("faults", Listed(FAULT, MAX_LISTED), "Faults without a number come first.",
+    Member("faults", ListOf(FAULT, MAX_LISTED_ITEMS), "Faults without a number come first.",
            lambda known: make_faults(known.verdict)),
-    Member("causes", Listed(LISTED_CAUSE, MAX_LISTED), "Each cause also has a key named `part`.",
-           list_cause_rows),
-    Member("subtitles", Listed(CUE, MAX_SUBTITLES), "The list includes refused "
+    Member("causes", ListOf(LISTED_CAUSE, MAX_LISTED_ITEMS),
+           "Each cause also has a key named `part`.", list_cause_rows),
+    Member("subtitles", ListOf(CUE, MAX_SUBTITLES), "The list includes refused "
            "subtitles. A fault between two subtitles belongs to neither.",
            lambda known: list_subtitle_rows(known.verdict)))
 OMITTED = Record("omitted", "The number of items omitted from each list.", *(
@@ -376,12 +377,12 @@ VERDICT = Record(
     Member("cause_counts", CAUSE_COUNTS, "The number of causes with each name.",
            lambda known: count_causes(
                part.causes for part in known.verdict.parts if part.causes)),
-    Member("complete_after", Maybe(SPREAD),
+    Member("complete_after", Maybe(DELAY_SPREAD),
            "The number of frames after which subtitles were complete.",
            lambda known: known.verdict.delays),
     *LISTS,
     Member("omitted", OMITTED),
-    rules=[TOGETHER, TIMED])
+    rules=[JOINT_RULES, TIME_RULES])
 
 NO_PAIR = Record(
     "no_pair", "A result without a request: a file or a line of a batch that is not a pair, or a "
@@ -418,5 +419,5 @@ def schema() -> Schema:
                     "members are always present; null means unknown or not applicable. Times are "
                     "HH:MM:SS:FF at 25 frames a second, on the subtitle file's clock.",
         "title": "A verdict on a subtitle file and its recording, or on a batch of them",
-        "oneOf": [one.make_reference() for one in (VERDICT, BATCH, NO_PAIR)],
+        "oneOf": [item.make_reference() for item in (VERDICT, BATCH, NO_PAIR)],
         "definitions": {**make_definitions([VERDICT, NO_PAIR]), BATCH.name: batch}}

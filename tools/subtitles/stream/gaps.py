@@ -6,13 +6,13 @@ import statistics
 from typing import Iterable, Iterator, NamedTuple, Sequence
 
 from ..common.command_line import counted, format_pid, was
-from ..common.times import TICKS, ticks_between, time_of, wrap_pts
+from ..common.times import TICKS, format_frame, subtract_pts, wrap_pts
 from .packets import PCRStep, PTSPair, Packets
 from .survey import Survey
 
 
 SECOND = 90_000  # ticks
-MAX_LISTED = 20  # maximum number of places to list
+MAX_LISTED_PLACES = 20  # maximum number of places to list
 PAUSE = 10  # if a PCR step has less than 1/10 of the usual TS packets, the clock jumped
 
 
@@ -49,87 +49,92 @@ def find_loss_places(packets: Packets, announced: Iterable[PTSPair] = ()) -> lis
     known = [LossPlace(mark.before, following[mark.number], mark.lost, mark.scrambled,
                        gap_marker=mark.number)
              for mark in packets.gap_markers]
-    holes = [*filter(None, map(find_pcr_loss, packets.pcr_steps))]
-    for hole in holes:
+    gaps = [*filter(None, map(find_pcr_loss, packets.pcr_steps))]
+    for gap in gaps:
         for place in known:
-            if overlap(hole, place) and is_within(hole.missing, place):
-                place.missing = max(place.missing, hole.missing)
-    known += [hole for hole in holes if not any(overlap(hole, one) for one in known)]
+            if do_overlap(gap, place) and is_within(gap.missing, place):
+                place.missing = max(place.missing, gap.missing)
+    known += [gap for gap in gaps if not any(do_overlap(gap, item) for item in known)]
     jumps = [LossPlace(before, after, is_announced=True) for before, after in announced]
-    return known + [jump for jump in jumps if not any(overlap(jump, one) for one in known)]
+    return known + [jump for jump in jumps if not any(do_overlap(jump, item) for item in known)]
 
 
-def find_pcr_loss(clocked: PCRStep) -> LossPlace | None:
+def find_pcr_loss(pcr_step: PCRStep) -> LossPlace | None:
     """Return the loss that a late PCR shows, or `None` if no other PID lost packets."""
-    if clocked.counters != "broken" or clocked.ticks <= 0:
+    if pcr_step.counters != "broken" or pcr_step.ticks <= 0:
         return None
-    return LossPlace(clocked.before, clocked.after, missing=clocked.ticks - round(clocked.usual))
+    return LossPlace(pcr_step.before, pcr_step.after,
+                     missing=pcr_step.ticks - round(pcr_step.usual))
 
 
 def find_clock_jumps(packets: Packets) -> Iterator[ClockJump]:
     """Yield the jumps of the PCR at which no packet is missing."""
-    for clocked in packets.pcr_steps:
-        if clocked.counters == "whole" and clocked.packets * PAUSE * clocked.usual < \
-                clocked.usual_packets * abs(clocked.ticks):
-            yield ClockJump(clocked.before, clocked.ticks - round(clocked.usual))
+    for pcr_step in packets.pcr_steps:
+        if pcr_step.counters == "whole" and pcr_step.packets * PAUSE * pcr_step.usual < \
+                pcr_step.usual_packets * abs(pcr_step.ticks):
+            yield ClockJump(pcr_step.before, pcr_step.ticks - round(pcr_step.usual))
 
 
 def is_within(ticks: int, place: LossPlace) -> bool:
     """Return whether a loss of `ticks` fits between the two PTS of a place. A longer loss is a jump
     of the PCR."""
     return place.before is None or place.after is None or \
-        ticks <= ticks_between(place.before, place.after)
+        ticks <= subtract_pts(place.before, place.after)
 
 
-def overlap(place: LossPlace, other: LossPlace) -> bool:
+def do_overlap(place: LossPlace, other: LossPlace) -> bool:
     """Return whether neither of two places is after the other."""
     return not is_after(place, other) and not is_after(other, place)
 
 
 def is_after(place: LossPlace, other: LossPlace) -> bool:
     return place.before is not None and other.after is not None and \
-        ticks_between(other.after, place.before) >= 0
+        subtract_pts(other.after, place.before) >= 0
 
 
 def describe_loss(place: LossPlace) -> str:
     """Describe the missing packets at a place."""
-    said = [f"{counted(place.lost, 'TS packet')} {was(place.lost)} lost"] \
+    loss_texts = [f"{counted(place.lost, 'TS packet')} {was(place.lost)} lost"] \
         if place.lost and not place.missing else []
-    by = f" ({counted(place.lost, 'TS packet')} according to the counter)" if place.lost else \
-        " and the counters of other PIDs"
-    said += [f"{place.missing / SECOND:.2f} s of TS packets are missing according to the PCR{by}"] \
+    evidence = f" ({counted(place.lost, 'TS packet')} according to the counter)" if place.lost \
+        else " and the counters of other PIDs"
+    loss_texts += [f"{place.missing / SECOND:.2f} s of TS packets are missing according to the "
+                   f"PCR{evidence}"] \
         if place.missing else []
-    said += [f"{counted(place.scrambled, 'TS packet')} {was(place.scrambled)} scrambled"] \
+    loss_texts += [f"{counted(place.scrambled, 'TS packet')} {was(place.scrambled)} scrambled"] \
         if place.scrambled else []
-    said += ["the interval between PES packets is unusually long, and the stream announces a jump "
-             "of the continuity counter"] if place.is_announced else []
-    return ", ".join(said) or "a break in the stream"
+    loss_texts += ["the interval between PES packets is unusually long, and the stream announces a "
+                   "jump of the continuity counter"] if place.is_announced else []
+    return ", ".join(loss_texts) or "a break in the stream"
 
 
-def loss_line(place: LossPlace, first: int | None) -> str:
+def describe_loss_place(place: LossPlace, first: int | None) -> str:
     """Describe the PTS and missing packets of a place. `first` is the recording's first PTS."""
     known = [pts for pts in (place.before, place.after) if pts is not None]
     names = " and ".join(map(str, known))
-    times = " and ".join(time_of(wrap_pts(pts - (first or 0)) // TICKS) for pts in known)
-    where = "between" if len(known) == 2 else "before" if place.before is None else "after"
-    return (f"{where} PTS {names} ({times} after the first PTS): " if known
+    times = " and ".join(format_frame(wrap_pts(pts - (first or 0)) // TICKS) for pts in known)
+    position = "between" if len(known) == 2 else "before" if place.before is None else "after"
+    return (f"{position} PTS {names} ({times} after the first PTS): " if known
             else "") + describe_loss(place)
 
 
-def first_lines(lines: Sequence[str]) -> list[str]:
-    """Return the first `MAX_LISTED` lines and, if there are more, a line with their number."""
-    more = len(lines) - MAX_LISTED
-    return [*lines[:MAX_LISTED], *([f"and at {counted(more, 'more place')}"] if more > 0 else [])]
+def limit_lines(lines: Sequence[str]) -> list[str]:
+    """Return the first `MAX_LISTED_PLACES` lines and, if there are more, a line with their
+    number."""
+    more = len(lines) - MAX_LISTED_PLACES
+    return [*lines[:MAX_LISTED_PLACES],
+            *([f"and at {counted(more, 'more place')}"] if more > 0 else [])]
 
 
-def gap_marker_lines(packets: Packets) -> list[str]:
+def describe_gap_markers(packets: Packets) -> list[str]:
     """Return a line for each gap marker. If there are too many, the last line has the number of the
     omitted ones."""
     first = next(packets.pts(), None)
-    lines = [loss_line(place, first) for place in find_loss_places(packets) if place.gap_marker is
-             not None]
-    if len(lines) > MAX_LISTED:
-        lines[MAX_LISTED - 1:] = [f"and at {counted(len(lines) - MAX_LISTED + 1, 'more place')}"]
+    lines = [describe_loss_place(place, first) for place in find_loss_places(packets)
+             if place.gap_marker is not None]
+    if len(lines) > MAX_LISTED_PLACES:
+        omitted = len(lines) - MAX_LISTED_PLACES + 1
+        lines[MAX_LISTED_PLACES - 1:] = [f"and at {counted(omitted, 'more place')}"]
     return lines
 
 
@@ -145,13 +150,13 @@ def explain_refusal(packets: Packets) -> str | None:
         if packets.scrambled == packets.packets:
             return f"{name} is scrambled, in all its {counted(packets.packets, 'TS packet')}"
         return f"{name} has no complete PES packet in {counted(packets.packets, 'TS packet')}"
-    which = "PES packets of private_stream_1" if packets.refusal == 31 else \
+    packet_kind = "PES packets of private_stream_1" if packets.refusal == 31 else \
         "PES packets of 184 to 1656 bytes"
     if not packets.count:
-        return f"{name} has no {which}, which carry Teletext"
+        return f"{name} has no {packet_kind}, which carry Teletext"
     word = "Start" if packets.refusal == 31 else "Length"
-    return f"{name} has data other than {which} from PES packet {packets.count} on: refused " \
-        f"{packets.refusal} {word} pes {packets.count}"
+    return f"{name} has data other than {packet_kind} from PES packet {packets.count} on: " \
+        f"refused {packets.refusal} {word} pes {packets.count}"
 
 
 # Anomalies of the distance between PTS and PCR, sampled once a second
@@ -176,29 +181,29 @@ def find_pts_anomalies(packets: Packets) -> Iterator[PTSAnomaly]:
     """Yield the anomalies of the PTS. The usual distance to the PCR is the median of the first
     minute."""
     samples = packets.samples
-    first = [ahead for pts, ahead in samples
-             if 0 <= ticks_between(samples[0][0], pts) <= 60 * SECOND]
+    first = [ticks_ahead for pts, ticks_ahead in samples
+             if 0 <= subtract_pts(samples[0][0], pts) <= 60 * SECOND]
     usual = round(statistics.median(first)) if first else 0
-    for kind, off, odd in (
+    for kind, distances, anomalies in (
             ("behind", 0, [sample for sample in samples if sample[1] < 0]),
             ("early", 0, [sample for sample in samples if sample[1] > SECOND]),
             ("changed", usual, [sample for sample in samples
                                 if abs(sample[1] - usual) > SECOND // 2])):
-        if odd:
-            worst = max((ahead - off for _, ahead in odd), key=abs)
-            yield PTSAnomaly(kind, odd[0][0], len(odd), len(samples), worst)
+        if anomalies:
+            worst = max((ticks_ahead - distances for _, ticks_ahead in anomalies), key=abs)
+            yield PTSAnomaly(kind, anomalies[0][0], len(anomalies), len(samples), worst)
 
 
 def find_pts_delay(packets: Packets) -> int:
     """Return the largest delay of recent PTS behind the PCR, in ticks."""
-    return max([0, *(-ahead for _, ahead in packets.samples[-MAX_LATE:])])
+    return max([0, *(-ticks_ahead for _, ticks_ahead in packets.samples[-MAX_LATE:])])
 
 
 def find_recorded_range(survey: Survey, packets: Packets) -> tuple[int, int] | None:
     """Return the first and the last PTS between which the recording has all packets of the PID,
     judging by the PCR. Return `None` if there is no PCR."""
-    clock = survey.clock_of(packets.pid)
+    clock = survey.get_pcr_range(packets.pid)
     if clock is None:
         return None
-    ahead = max([0, *(one for _, one in packets.samples[:MAX_LATE])])
-    return wrap_pts(clock[0] + ahead), clock[1] - find_pts_delay(packets)
+    ticks_ahead = max([0, *(item for _, item in packets.samples[:MAX_LATE])])
+    return wrap_pts(clock[0] + ticks_ahead), clock[1] - find_pts_delay(packets)

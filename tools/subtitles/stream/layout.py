@@ -6,11 +6,11 @@ from collections import Counter
 from typing import Iterable, Iterator, NamedTuple, Optional, Sequence, TypeVar
 
 from ..formats.layout import (
-    CODES, COLOURS, COLUMNS, DOUBLE, DRAWN_CODES, Layout, MAX_AFTER, MAX_BEFORE, MAX_SHIFT,
-    PLAIN, START_BOX, TextFault, WHITE, assign_rows, complexity_key, count_leading_codes,
-    count_leading_spaces, draw_text, find_column, find_page_letters, find_start_column,
-    find_text_letters, format_layout, make_page_rows, prepare_line, remove_attributes, remove_codes,
-    split_raw_lines, trim_line)
+    CODES, COLOURS, COLUMNS, DOUBLE, DRAWN_CODES, Layout, MAX_AFTER, MAX_BEFORE, MAX_SHIFT, PLAIN,
+    START_BOX, TextFault, WHITE, assign_rows, compute_complexity, count_leading_codes,
+    count_leading_spaces, draw_text, encode_text_characters, find_column, find_start_column,
+    format_layout, list_page_characters, make_page_rows, prepare_line, remove_attributes,
+    remove_codes, split_raw_lines, trim_line)
 from ..formats.stl import Subtitle
 from ..formats.teletext import COMMON, NationalOption
 from .receiver import Rows, Timeline
@@ -22,11 +22,11 @@ from .receiver import Rows, Timeline
 # to check the result.
 
 # Codes that `check` refuses unless the layout strips them.
-REFUSED = {code for code in CODES if code not in COMMON}
+UNUSUAL_CODES = {code for code in CODES if code not in COMMON}
 BOX_CODES, LINE_CODES = b"\x0a\x0b", b"\x0a\x0b\x0d"
-FEWEST, TENTHS = 10, 9  # at least 10 subtitles, of which 9/10 must be drawn as sent
-MAX_STRIPPED = 5  # maximum number of codes for which all combinations are tried
-MAX_KEPT = 6
+MIN_SUBTITLES, MIN_TENTHS = 10, 9  # at least 10 subtitles, of which 9/10 must be drawn as sent
+MAX_STRIP_CODES = 5  # maximum number of codes for which all combinations are tried
+MAX_KEPT_CANDIDATES = 6
 Element = TypeVar("Element")
 
 
@@ -53,99 +53,102 @@ class SentLine(NamedTuple):
 
 def is_found(sent: SentSubtitle, option: NationalOption) -> bool:
     """Return whether a subtitle has characters and the page has the same characters."""
-    letters = find_text_letters(sent.text, option)
-    return bool(letters) and find_page_letters(sent.rows) == letters
+    letters = encode_text_characters(sent.text, option)
+    return bool(letters) and list_page_characters(sent.rows) == letters
 
 
-def pair_lines(place: int, lines: Sequence[bytes], rows: Sequence[bytes]) -> list[SentLine]:
+def match_lines(place: int, lines: Sequence[bytes], rows: Sequence[bytes]) -> list[SentLine]:
     """Return the lines of a subtitle with the rows in which they were sent. Return an empty list if
     the characters differ."""
-    said = [(number, line) for number, line in enumerate(lines) if remove_attributes(line)]
-    shown = [(number, row) for number, row in enumerate(rows, 1) if remove_attributes(row)]
-    if [remove_attributes(line) for _, line in said] != [remove_attributes(row) for _, row in
-                                                         shown]:
+    file_lines = [(number, line) for number, line in enumerate(lines) if remove_attributes(line)]
+    page_rows = [(number, row) for number, row in enumerate(rows, 1) if remove_attributes(row)]
+    if [remove_attributes(line) for _, line in file_lines] != [remove_attributes(row) for _, row in
+                                                               page_rows]:
         return []
     return [SentLine(place, number, line, row, sent)
-            for (number, line), (row, sent) in zip(said, shown)]
+            for (number, line), (row, sent) in zip(file_lines, page_rows)]
 
 
-def codes_to_strip(pairs: Sequence[SentLine]) -> Iterator[bytes]:
+def find_codes_to_strip(pairs: Sequence[SentLine]) -> Iterator[bytes]:
     """Yield sets of codes that a layout may strip: codes that `check` refuses, codes that were not
     sent inside lines, and combinations of the codes in the lines."""
-    lacks, has, ends = set[int](), set[int](), set[int]()
+    missing_codes, present_codes, end_codes = set[int](), set[int](), set[int]()
     for cells, sent in {(pair.cells, pair.sent) for pair in pairs}:
-        said, shown = Counter(trim_line(cells)), Counter(trim_line(sent))
-        for code in set(said) & set(CODES):
-            (has if shown[code] else lacks).add(code)
-        ends |= set(cells) & set(CODES)
-    must = (ends & REFUSED) | (lacks - has)
-    free = sorted(ends - must - has)
+        file_codes, page_codes = Counter(trim_line(cells)), Counter(trim_line(sent))
+        for code in set(file_codes) & set(CODES):
+            (present_codes if page_codes[code] else missing_codes).add(code)
+        end_codes |= set(cells) & set(CODES)
+    required_codes = (end_codes & UNUSUAL_CODES) | (missing_codes - present_codes)
+    free = sorted(end_codes - required_codes - present_codes)
     some: list[list[int]] = [
         free, [], *([code] for code in free), [code for code in free if code in BOX_CODES],
         [code for code in free if code in LINE_CODES],
         *([other for other in free if other != code] for code in free)]
-    if len(free) <= MAX_STRIPPED:
-        some += [list(one) for size in range(len(free) + 1)
-                 for one in itertools.combinations(free, size)]
-    choices = {bytes(sorted({*must, *one})) for one in some}
+    if len(free) <= MAX_STRIP_CODES:
+        some += [list(item) for size in range(len(free) + 1)
+                 for item in itertools.combinations(free, size)]
+    choices = {bytes(sorted({*required_codes, *item})) for item in some}
     yield from sorted(choices, key=lambda it: (len(it), it))
 
 
 def most(counts: Counter[Element], size: int) -> list[Element]:
     """Return the `size` elements with the highest counts."""
-    return [one for one, _ in counts.most_common(size)]
+    return [item for item, _ in counts.most_common(size)]
 
 
-def find_beginnings(lines: Counter[tuple[bytes, bytes]],
-                    trim: bool) -> list[tuple[bool, bytes, bytes]]:
+def find_line_beginnings(lines: Counter[tuple[bytes, bytes]],
+                         trim: bool) -> list[tuple[bool, bytes, bytes]]:
     """Return the most frequent ways to begin a line: `white` (whether white is added to a line
     without a colour), and the codes to add before and after the line's own leading codes."""
     # Counts of pairs: the leading codes of a line, and the leading codes of the row sent for it.
     line_counts = Counter[tuple[bytes, bytes]]()
     for (cells, sent), count in lines.items():
-        shown = sent.lstrip(b" ")
+        page_codes = sent.lstrip(b" ")
         cells = cells.strip(b" ") if trim else cells
-        line_counts[cells[:count_leading_codes(cells)], shown[:count_leading_codes(shown)]] += count
+        line_counts[cells[:count_leading_codes(cells)],
+                    page_codes[:count_leading_codes(page_codes)]] += count
     votes = Counter[tuple[bool, bytes, bytes]]()
     for white in (False, True):
-        whole = {(own + bytes([WHITE]) * (white and not any(it in COLOURS for it in own)), shown)
-                 for own, shown in line_counts}
-        ways = {(white, shown[:at], shown[at + len(own):]) for own, shown in whole
-                for at in range(len(shown) - len(own) + 1)
-                if shown[at:at + len(own)] == own and (own or at == len(shown))}
-        for way in ways:
-            if len(way[1] + way[2]) <= MAX_BEFORE and all(
-                    code in DRAWN_CODES for code in way[1] + way[2]):
-                votes[way] = sum(count for (own, shown), count in line_counts.items()
-                                 if shown == way[1] + own + bytes([WHITE]) * (
-                                     white and not any(it in COLOURS for it in own)) + way[2])
-    return most(votes, MAX_KEPT)
+        candidates = {(own + bytes([WHITE]) * (white and not any(it in COLOURS
+                                                                 for it in own)), page_codes)
+                      for own, page_codes in line_counts}
+        beginnings = {(white, page_codes[:at], page_codes[at + len(own):])
+                      for own, page_codes in candidates for at in range(len(page_codes) -
+                      len(own) + 1) if page_codes[at:at + len(own)] == own
+                      and (own or at == len(page_codes))}
+        for beginning in beginnings:
+            if len(beginning[1] + beginning[2]) <= MAX_BEFORE and all(
+                    code in DRAWN_CODES for code in beginning[1] + beginning[2]):
+                votes[beginning] = sum(count for (own, page_codes), count in line_counts.items()
+                                       if page_codes == beginning[1] + own + bytes([WHITE]) * (
+                                     white and not any(it in COLOURS for it in own)) + beginning[2])
+    return most(votes, MAX_KEPT_CANDIDATES)
 
 
 def find_ends(lines: Counter[tuple[bytes, bytes]]) -> list[bytes]:
     """Return the codes that were most often added at the end of a line."""
     votes = Counter[bytes]()
     for (cells, sent), count in lines.items():
-        own, shown = (one.rstrip(b" ")[::-1] for one in (cells, sent))
-        codes, added = (one[:count_leading_codes(one)][::-1] for one in (own, shown))
+        own, page_codes = (item.rstrip(b" ")[::-1] for item in (cells, sent))
+        codes, added_codes = (item[:count_leading_codes(item)][::-1] for item in (own, page_codes))
         if cells.endswith(b" ") and not sent.rstrip(b" ").endswith(cells.strip(b" ")):
             codes = b""
-        if added.startswith(codes):
-            votes[added[len(codes):]] += count
-    return [one for one in most(votes, MAX_KEPT)
-            if len(one) <= MAX_AFTER and all(code in DRAWN_CODES for code in one)]
+        if added_codes.startswith(codes):
+            votes[added_codes[len(codes):]] += count
+    return [item for item in most(votes, MAX_KEPT_CANDIDATES)
+            if len(item) <= MAX_AFTER and all(code in DRAWN_CODES for code in item)]
 
 
 def find_line_layouts(pairs: Sequence[SentLine]) -> list[Layout]:
     """Return the layouts that draw the cells of most lines as sent, best first. Rows and columns of
     the lines don't count."""
     scores = Counter[Layout]()
-    for strip, trim in itertools.product(codes_to_strip(pairs), (False, True)):
+    for strip, trim in itertools.product(find_codes_to_strip(pairs), (False, True)):
         all_lines = Counter((remove_codes(pair.cells, strip), pair.sent) for pair in pairs)
         lines = Counter({line: count for line, count in all_lines.items()
                          if START_BOX not in line[0]})
         beginnings = [(False, PLAIN.before, PLAIN.behind)]
-        beginnings = [*find_beginnings(lines, trim), *beginnings] if lines else beginnings
+        beginnings = [*find_line_beginnings(lines, trim), *beginnings] if lines else beginnings
         ends = {PLAIN.after, *find_ends(lines)}
         for (white, before, behind), after, fit in itertools.product(
                 beginnings, ends, (False, True)):
@@ -153,14 +156,15 @@ def find_line_layouts(pairs: Sequence[SentLine]) -> list[Layout]:
             if layout not in scores:
                 scores[layout] = sum(
                     count for (cells, sent), count in all_lines.items()
-                    for made in [prepare_line(cells, layout)]
-                    if made.strip(b" ") == sent.strip(b" ") and len(made) <= COLUMNS)
+                    for prepared in [prepare_line(cells, layout)]
+                    if prepared.strip(b" ") == sent.strip(b" ") and len(prepared) <= COLUMNS)
     best = max(scores.values())
-    candidates = [one for one, score in scores.items() if score * 10 >= best * TENTHS]
-    return sorted(candidates, key=lambda one: (-scores[one], complexity_key(one)))[:4 * MAX_KEPT]
+    candidates = [item for item, score in scores.items() if score * 10 >= best * MIN_TENTHS]
+    return sorted(candidates, key=lambda item: (-scores[item],
+                                                compute_complexity(item)))[:4 * MAX_KEPT_CANDIDATES]
 
 
-def as_bits(places: Iterable[int]) -> int:
+def make_bit_set(places: Iterable[int]) -> int:
     """Return a bit mask in which the bits `places` are set."""
     bits = 0
     for place in places:
@@ -173,47 +177,47 @@ def find_row_layouts(layout: Layout, pairs: Sequence[SentLine],
                      subtitles: Sequence[SentSubtitle]) -> Iterator[tuple[Layout, int]]:
     """Yield variants of a layout that differ in the rows of lines, each with a bit mask of the
     subtitles that have a line in a wrong row."""
-    lines = [[prepare_line(remove_codes(line, layout.strip), layout) for line in one] for one in
-             all_lines]
+    lines = [[prepare_line(remove_codes(line, layout.strip), layout) for line in all_line]
+             for all_line in all_lines]
     for double, pack, last in itertools.product((False, True), repeat=3):
-        shape = layout._replace(double=double, pack=pack, last=last)
-        rows = {pair.place: assign_rows(lines[pair.place], subtitles[pair.place].row, shape)
+        row_layout = layout._replace(double=double, pack=pack, last=last)
+        rows = {pair.place: assign_rows(lines[pair.place], subtitles[pair.place].row, row_layout)
                 for pair in pairs}
         votes = Counter(pair.row - rows[pair.place][pair.number] for pair in pairs)
         for shift in {0, *most(votes, 2)}:
             if abs(shift) <= MAX_SHIFT:
-                wrong = as_bits({pair.place for pair in pairs
-                                 if rows[pair.place][pair.number] + shift != pair.row})
-                yield shape._replace(row=shift), wrong
+                wrong_places = make_bit_set({pair.place for pair in pairs
+                                             if rows[pair.place][pair.number] + shift != pair.row})
+                yield row_layout._replace(row=shift), wrong_places
 
 
 def find_column_layouts(layout: Layout, pairs: Sequence[SentLine], subtitles: Sequence[SentSubtitle]
               ) -> Iterator[tuple[Layout, int]]:
     """Yield variants of a layout that differ in the columns of lines, each with a bit mask of the
     subtitles that have a wrong line."""
-    wrong, kinds = set[int](), dict[tuple[bytes, int, int], set[int]]()
+    wrong_places, kinds = set[int](), dict[tuple[bytes, int, int], set[int]]()
     for pair in pairs:
         cells = prepare_line(remove_codes(pair.cells, layout.strip), layout)
         if cells.strip(b" ") != pair.sent.strip(b" ") or not 0 < len(cells) <= COLUMNS:
-            wrong.add(pair.place)
+            wrong_places.add(pair.place)
             continue
         column = count_leading_spaces(pair.sent) - count_leading_spaces(cells)
         kind = cells, subtitles[pair.place].justify, column
         kinds.setdefault(kind, set()).add(pair.place)
     for text, up, free in itertools.product((False, True), (False, True), (1, 2, 3)):
-        shape = layout._replace(text=text, up=up, free=free)
+        column_layout = layout._replace(text=text, up=up, free=free)
         left, right = Counter[int](), Counter[int]()
         for (cells, justify, column), places in kinds.items():
             if (justify or free) == 1:
-                left[column - find_start_column(cells, 1, shape)] += len(places)
+                left[column - find_start_column(cells, 1, column_layout)] += len(places)
             elif (justify or free) == 3:
-                right[find_start_column(cells, 3, shape) - column] += len(places)
-        for left_free, right_free in itertools.product({0, *most(left, 2)}, {0, *most(right, 2)}):
-            if left_free in range(COLUMNS) and right_free in range(COLUMNS):
-                candidate = shape._replace(left=left_free, right=right_free)
+                right[find_start_column(cells, 3, column_layout) - column] += len(places)
+        for free_left, free_right in itertools.product({0, *most(left, 2)}, {0, *most(right, 2)}):
+            if free_left in range(COLUMNS) and free_right in range(COLUMNS):
+                candidate = column_layout._replace(left=free_left, right=free_right)
                 others = {place for (cells, justify, column), places in kinds.items()
                           if find_column(cells, justify, candidate) != column for place in places}
-                yield candidate, as_bits(wrong | others)
+                yield candidate, make_bit_set(wrong_places | others)
 
 
 def draws_as_sent(layout: Layout, sent: SentSubtitle, option: NationalOption) -> bool:
@@ -234,11 +238,12 @@ def simplify(layout: Layout, subtitles: Sequence[SentSubtitle], option: National
     most = count_misdrawn(layout, subtitles, option, len(subtitles))
     for names in (("strip",), ("before", "behind"), ("behind",), ("after",), *(
             (name,) for name in Layout._fields[4:])):
-        less = layout._replace(**{name: getattr(PLAIN, name) for name in names})
-        if less != layout and complexity_key(less) < complexity_key(layout):
-            others = count_misdrawn(less, subtitles, option, most)
+        smaller_layout = layout._replace(**{name: getattr(PLAIN, name) for name in names})
+        if smaller_layout != layout \
+                and compute_complexity(smaller_layout) < compute_complexity(layout):
+            others = count_misdrawn(smaller_layout, subtitles, option, most)
             if others <= most:
-                layout, most = less, others
+                layout, most = smaller_layout, others
     return layout
 
 
@@ -246,21 +251,24 @@ def find_candidates(subtitles: Sequence[SentSubtitle], option: NationalOption) -
     """Return the plain layout, and the layouts that draw the most subtitles as sent."""
     all_lines = [split_raw_lines(sent.text, option) for sent in subtitles]
     pairs = [pair for place, sent in enumerate(subtitles)
-             for pair in pair_lines(place, all_lines[place], sent.rows)]
+             for pair in match_lines(place, all_lines[place], sent.rows)]
     if not pairs:
         return [PLAIN]
-    unknown = as_bits(range(len(subtitles))) ^ as_bits({pair.place for pair in pairs})
+    unpaired_places = make_bit_set(range(len(subtitles))) ^ make_bit_set({pair.place
+                                                                          for pair in pairs})
     counts = Counter[Layout]()
     for cells in find_line_layouts(pairs):
         rows = list(find_row_layouts(cells, pairs, all_lines, subtitles))
-        for column, wrong in find_column_layouts(cells, pairs, subtitles):
+        for column, wrong_places in find_column_layouts(cells, pairs, subtitles):
             for row, others in rows:
                 layout = column._replace(double=row.double, pack=row.pack, last=row.last,
                                          row=row.row)
-                counts[layout] = len(subtitles) - bin(wrong | others | unknown).count("1")
+                counts[layout] = len(subtitles) - bin(wrong_places | others
+                                                      | unpaired_places).count("1")
     best = max(counts.values())
-    candidates = sorted((one for one in counts if counts[one] == best), key=complexity_key)
-    return [PLAIN, *(simplify(one, subtitles, option) for one in candidates[:MAX_KEPT])]
+    candidates = sorted((item for item in counts if counts[item] == best), key=compute_complexity)
+    return [PLAIN,
+            *(simplify(item, subtitles, option) for item in candidates[:MAX_KEPT_CANDIDATES])]
 
 
 # Evidence for the items of a layout
@@ -272,17 +280,17 @@ def find_candidates(subtitles: Sequence[SentSubtitle], option: NationalOption) -
 # the operator's decision.
 
 STAR = "*"  # name of the item for codes after a line's own leading codes
-SINGLE = ("after", "fit", "white", "trim", "text", "up", "left", "right", "free", "double", "pack",
-          "last", "row")
+SINGLE_VALUE_ITEMS = ("after", "fit", "white", "trim", "text", "up", "left", "right", "free",
+                      "double", "pack", "last", "row")
 MAX_ITEMS = 12  # maximum number of items for which all groups are tried
 # Visible codes of a text: colours other than white, flash, backgrounds.
 VISIBLE_CODES = (*range(0x01, 0x07), 0x08, 0x1C, 0x1D)
-RESTORED = (DOUBLE, START_BOX)  # codes that `before` may restore
+RESTORABLE_CODES = (DOUBLE, START_BOX)  # codes that `before` may restore
 # Codes that replace the colour, flash or double height of a line if they come after its own codes.
-OVERRULING = (*COLOURS, 0x09, 0x0C)
+OVERRIDING_CODES = (*COLOURS, 0x09, 0x0C)
 FLASH = 0x08
 BOXES_SHOWN = 2  # number of start boxes that libzvbi needs before a line to show the line
-MAX_MOVED = 2  # maximum number of rows by which a broadcaster is likely to move all lines
+MAX_MOVED_ROWS = 2  # maximum number of rows by which a broadcaster is likely to move all lines
 LayoutItem = tuple[str, int]  # name of an item, and the code for `strip`
 Group = frozenset[LayoutItem]
 Page = Optional[Rows]  # the page that a layout draws, if it can
@@ -298,7 +306,7 @@ class ItemEvidence(NamedTuple):
     @property
     def has_evidence(self) -> bool:
         """Return whether there is enough evidence to accept the items."""
-        return self.redrawn >= FEWEST and self.as_sent * 10 >= self.redrawn * TENTHS
+        return self.redrawn >= MIN_SUBTITLES and self.as_sent * 10 >= self.redrawn * MIN_TENTHS
 
 
 class RejectedItems(NamedTuple):
@@ -322,7 +330,7 @@ class LayoutChoice(NamedTuple):
     @property
     def is_clear(self) -> bool:
         """Return whether this is probably the broadcaster's layout."""
-        return self.total >= FEWEST and self.as_sent * 10 >= self.total * TENTHS
+        return self.total >= MIN_SUBTITLES and self.as_sent * 10 >= self.total * MIN_TENTHS
 
 
 def list_items(layout: Layout) -> list[LayoutItem]:
@@ -333,7 +341,8 @@ def list_items(layout: Layout) -> list[LayoutItem]:
         items.append(("before", 0))
     if layout.behind and layout.before + layout.behind != PLAIN.before:
         items.append((STAR, 0))
-    return items + [(name, 0) for name in SINGLE if getattr(layout, name) != getattr(PLAIN, name)]
+    return items + [(name, 0) for name in SINGLE_VALUE_ITEMS
+                    if getattr(layout, name) != getattr(PLAIN, name)]
 
 
 def remove_items(layout: Layout, group: Iterable[LayoutItem]) -> Layout:
@@ -345,7 +354,7 @@ def remove_items(layout: Layout, group: Iterable[LayoutItem]) -> Layout:
         layout = layout._replace(before=layout.before + layout.behind, behind=b"")
     if ("before", 0) in removed_items:
         layout = layout._replace(before=PLAIN.before, behind=PLAIN.behind)
-    return layout._replace(**{name: getattr(PLAIN, name) for name in SINGLE if (name, 0)
+    return layout._replace(**{name: getattr(PLAIN, name) for name in SINGLE_VALUE_ITEMS if (name, 0)
                               in removed_items})
 
 
@@ -356,10 +365,11 @@ def add_items(layout: Layout, group: Iterable[LayoutItem], other: Layout) -> Lay
     names = {name for name, _ in group}
     if names & {"before", STAR}:
         layout = layout._replace(before=other.before, behind=other.behind)
-    return layout._replace(**{name: getattr(other, name) for name in SINGLE if name in names})
+    return layout._replace(**{name: getattr(other, name) for name in SINGLE_VALUE_ITEMS
+                              if name in names})
 
 
-def items_text(group: Iterable[LayoutItem], layout: Layout) -> str:
+def format_items(group: Iterable[LayoutItem], layout: Layout) -> str:
     """Return a group of items as a value of `--layout`."""
     return format_layout(add_items(PLAIN, group, layout))
 
@@ -367,15 +377,16 @@ def items_text(group: Iterable[LayoutItem], layout: Layout) -> str:
 def find_questionable_items(layout: Layout) -> Group:
     """Return the items of a layout that are unlikely, or that remove something visible."""
     brought = layout.before + layout.behind
-    removed_codes = {*VISIBLE_CODES, *({*RESTORED} - {*brought})}
-    taken: set[LayoutItem] = {("strip", code) for code in layout.strip if code in removed_codes}
-    if {*OVERRULING} & {*layout.behind}:
-        taken.add((STAR, 0))
+    removed_codes = {*VISIBLE_CODES, *({*RESTORABLE_CODES} - {*brought})}
+    removed_items: set[LayoutItem] = {("strip", code) for code in layout.strip
+                                      if code in removed_codes}
+    if {*OVERRIDING_CODES} & {*layout.behind}:
+        removed_items.add((STAR, 0))
     if FLASH in brought or brought.count(START_BOX) < BOXES_SHOWN:
-        taken.add(("before", 0))
-    if abs(layout.row) > MAX_MOVED:
-        taken.add(("row", 0))
-    return frozenset(taken)
+        removed_items.add(("before", 0))
+    if abs(layout.row) > MAX_MOVED_ROWS:
+        removed_items.add(("row", 0))
+    return frozenset(removed_items)
 
 
 class Evidence:
@@ -400,33 +411,34 @@ class Evidence:
         """Count the subtitles that a layout draws as sent."""
         return sum(page == sent.rows for page, sent in zip(self.pages(layout), self.subtitles))
 
-    def item_evidence(self, layout: Layout, group: Iterable[LayoutItem],
-                      is_enough: bool = False) -> ItemEvidence:
+    def measure_evidence(self, layout: Layout, group: Iterable[LayoutItem],
+                         is_enough: bool = False) -> ItemEvidence:
         """Return the evidence for a group of items. If `is_enough`, stop as soon as the evidence
         suffices."""
-        less, text = remove_items(layout, group), items_text(group, layout)
-        right = [page == one.rows for page, one in zip(self.pages(layout), self.subtitles)]
-        decides = as_sent = 0
+        smaller_layout, text = remove_items(layout, group), format_items(group, layout)
+        right = [page == item.rows for page, item in zip(self.pages(layout), self.subtitles)]
+        decisive_count = sent_count = 0
         for is_right in (False, True):
-            for page, sent, was_right in zip(self.pages(layout), self.subtitles, right):
-                if was_right == is_right and self.page(sent, less) != page:
-                    decides, as_sent = decides + 1, as_sent + is_right
-                    if is_enough and is_right and ItemEvidence(text, decides, as_sent).has_evidence:
-                        return ItemEvidence(text, decides, as_sent)
-        return ItemEvidence(text, decides, as_sent)
+            for page, sent, was_drawn_right in zip(self.pages(layout), self.subtitles, right):
+                if was_drawn_right == is_right and self.page(sent, smaller_layout) != page:
+                    decisive_count, sent_count = decisive_count + 1, sent_count + is_right
+                    if is_enough and is_right and ItemEvidence(text, decisive_count,
+                                                               sent_count).has_evidence:
+                        return ItemEvidence(text, decisive_count, sent_count)
+        return ItemEvidence(text, decisive_count, sent_count)
 
     def find_unsupported(self, layout: Layout) -> Group | None:
         """Return the group of items without enough evidence that changes the smallest number of
         subtitles, or `None` if every group has enough. If there are more than `MAX_ITEMS` items,
         return a single item."""
         items = list_items(layout)
-        is_few = len(items) <= MAX_ITEMS
-        sizes = range(1, len(items) + 1) if is_few else (1,)
-        rests = [(self.item_evidence(layout, group, is_few), group) for size in sizes
-                 for group in itertools.combinations(items, size)]
-        failing = [(rest.redrawn, len(group), group) for rest, group in rests
-                   if not (rest.has_evidence and is_few)]
-        return frozenset(min(failing)[-1]) if failing else None
+        has_few_items = len(items) <= MAX_ITEMS
+        sizes = range(1, len(items) + 1) if has_few_items else (1,)
+        group_evidence = [(self.measure_evidence(layout, group, has_few_items), group)
+                          for size in sizes for group in itertools.combinations(items, size)]
+        weak_groups = [(rest.redrawn, len(group), group) for rest, group in group_evidence
+                       if not (rest.has_evidence and has_few_items)]
+        return frozenset(min(weak_groups)[-1]) if weak_groups else None
 
     def remove_unsupported(self, layout: Layout) -> tuple[Layout, list[Group]]:
         """Remove items that lack evidence or need the operator's decision. Return the layout and
@@ -442,8 +454,9 @@ class Evidence:
         the weaker evidence."""
         items: dict[str, ItemEvidence] = {}
         for item in list_items(layout):
-            rest = self.item_evidence(layout, [item])
-            items[rest.text] = min(rest, items.get(rest.text, rest), key=lambda one: one.redrawn)
+            rest = self.measure_evidence(layout, [item])
+            items[rest.text] = min(rest, items.get(rest.text, rest),
+                                   key=lambda element: element.redrawn)
         return LayoutChoice(layout, self.count(layout), len(self.subtitles), (*items.values(),),
                             (*left,))
 
@@ -454,14 +467,15 @@ class Evidence:
         one entry."""
         count, left = self.count(layout), list[RejectedItems]()
         for group in removed_groups:
-            other, text = add_items(layout, group, whole), items_text(group, whole)
+            other, text = add_items(layout, group, whole), format_items(group, whole)
             more = self.count(other) - count
-            if more > 0 and all(one.text != text for one in left):
+            if more > 0 and all(element.text != text for element in left):
                 left.append(RejectedItems(text, more, format_layout(other)))
-        together = self.count(whole) - count
-        if together > max((one.more for one in left), default=0):
+        joint_count = self.count(whole) - count
+        if joint_count > max((element.more for element in left), default=0):
             items = [item for group in removed_groups for item in group]
-            left.append(RejectedItems(items_text(items, whole), together, format_layout(whole)))
+            left.append(RejectedItems(format_items(items, whole), joint_count,
+                                      format_layout(whole)))
         return left
 
 
@@ -469,15 +483,15 @@ def choose_layouts(sent: Sequence[SentSubtitle],
                    option: NationalOption) -> tuple[LayoutChoice, LayoutChoice]:
     """Return two layouts: the layout that draws the largest number of found subtitles as sent, and
     a layout with sufficient evidence for each item, which can be recommended."""
-    subtitles = [one for one in sent if is_found(one, option)]
+    subtitles = [item for item in sent if is_found(item, option)]
     evidence = Evidence(subtitles, option)
     best = find_candidates(subtitles, option)
-    closest = evidence.make_choice(min(best, key=lambda one: (-evidence.count(one),
-                                                              complexity_key(one))))
+    closest = evidence.make_choice(min(best, key=lambda item: (-evidence.count(item),
+                                                               compute_complexity(item))))
     if not closest.is_clear:
         return closest, closest
-    layout = min((evidence.remove_unsupported(one)[0] for one in best),
-                 key=lambda one: (-evidence.count(one), complexity_key(one)))
+    layout = min((evidence.remove_unsupported(item)[0] for item in best),
+                 key=lambda item: (-evidence.count(item), compute_complexity(item)))
     removed_groups = evidence.remove_unsupported(closest.layout)[1]
     return closest, evidence.make_choice(
         layout, evidence.find_rejected_items(layout, removed_groups, closest.layout))
@@ -487,19 +501,19 @@ def find_sent_subtitles(subtitles: Iterable[Subtitle], held: Timeline,
                         option: NationalOption) -> list[SentSubtitle]:
     """Return the subtitles during which a page with their characters was decoded, each with the
     page that lasted longest."""
-    drawings = []
+    drawn_pages = []
     for subtitle in subtitles:
-        letters = find_text_letters(subtitle.text, option)
+        letters = encode_text_characters(subtitle.text, option)
         pages = [(-count_shared_frames(held, number, subtitle), number)
-                 for number in held.page_numbers(subtitle.begin, subtitle.end)
-                 if letters and find_page_letters(held.pages[number]) == letters]
+                 for number in held.list_page_numbers(subtitle.begin, subtitle.end)
+                 if letters and list_page_characters(held.pages[number]) == letters]
         if pages:
-            drawings.append(SentSubtitle(subtitle.text, subtitle.row, subtitle.justify,
-                                         held.pages[min(pages)[1]]))
-    return drawings
+            drawn_pages.append(SentSubtitle(subtitle.text, subtitle.row, subtitle.justify,
+                                            held.pages[min(pages)[1]]))
+    return drawn_pages
 
 
 def count_shared_frames(held: Timeline, number: int, subtitle: Subtitle) -> int:
     """Count the frames of a subtitle in which page `number` is decoded."""
-    span = held.page_span(number)
+    span = held.get_page_span(number)
     return min(span.last + 1, subtitle.end) - max(span.first, subtitle.begin)

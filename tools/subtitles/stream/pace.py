@@ -7,9 +7,9 @@ import itertools
 import operator
 from typing import Iterator, NamedTuple, Optional, Sequence, Tuple
 
-from ..common.times import NO_FRAME, frames_at, split_rising_rows
+from ..common.times import NO_FRAME, find_frames_of_day, split_rising_rows
 from .packets import Packets, Range
-from .repeats import NEAR
+from .repeats import MAX_CUE_DISTANCE
 
 
 # The continuity counter has four bits: it does not show a loss of 16 TS packets, and after a loss
@@ -24,16 +24,17 @@ from .repeats import NEAR
 # Use the longest interval that reveals every loss. It is worse to refuse an intact recording than
 # to note that a loss may be hidden.
 
-LEAST = 100  # minimum number of PES packets for a measurement
-FEW, PART = 3, 1000  # maximum number of exceptions: three, or one in 1000
-OFTEN, SELDOM = 20, 100  # at least 1/20 of the intervals are usual, at most 1/100 are longer
-HOLE = 17  # after a loss of 16 TS packets, the next one is the 17th
+MIN_PES_PACKETS = 100  # minimum number of PES packets for a measurement
+MAX_EXCEPTIONS, PART = 3, 1000  # maximum number of exceptions: three, or one in 1000
+# at least 1/20 of the intervals are usual, at most 1/100 are longer
+USUAL_SHARE, RARE_SHARE = 20, 100
+LOSS_DISTANCE = 17  # after a loss of 16 TS packets, the next one is the 17th
 # After a loss of two PES packets the next is the third; after a loss of one, the second.
-TWO_LOST, ONE_LOST = 3, 2
+DISTANCE_IF_TWO_LOST, DISTANCE_IF_ONE_LOST = 3, 2
 UNITS = 4  # Teletext units in a TS packet; a PES header takes the place of one
 PAYLOAD = 184  # payload bytes of a TS packet
-USUAL_EVERY = 250  # default of --every, in frames
-MAX_EACH = 9  # maximum number of TS packets in a PES packet
+DEFAULT_REPEAT_LIMIT = 250  # default of --every, in frames
+MAX_PES_PACKETS_TS = 9  # maximum number of TS packets in a PES packet
 REGULAR, IRREGULAR, PAUSED, BY_EVERY, TOO_FEW = \
     "regular", "irregular", "paused", "by --every", "too few"
 Pauses = Sequence[Tuple[Optional[int], Optional[int]]]
@@ -41,11 +42,12 @@ Pauses = Sequence[Tuple[Optional[int], Optional[int]]]
 
 class Silence(NamedTuple):
     """A long interval without a PES packet. `first` and `last` are the frames of the PES packets
-    around it. `is_near_another` is true if only a few PES packets separate it from another one."""
+    around it. `is_near_other_silence` is true if only a few PES packets separate it from another
+    one."""
 
     first: int
     last: int
-    is_near_another: bool
+    is_near_other_silence: bool
 
 
 class Pace(NamedTuple):
@@ -78,52 +80,61 @@ def compute_pace(rows: Sequence[Sequence[int]], packets_per_pes: int, every: int
     regular.
     """
     distances = count_distances(rows, 1)
-    loss_distances = count_distances(rows, TWO_LOST if is_stream else ONE_LOST)
+    loss_distances = count_distances(rows, DISTANCE_IF_TWO_LOST if is_stream
+                                     else DISTANCE_IF_ONE_LOST)
     count = sum(distances.values())
-    few = max(FEW, count // PART)
-    interval = number_at_rank(distances, few, True) if count > few else max(distances, default=0)
-    if count < LEAST or sum(loss_distances.values()) <= few:
+    max_exceptions = max(MAX_EXCEPTIONS, count // PART)
+    interval = find_number_at_rank(distances, max_exceptions,
+                                   True) if count > max_exceptions else max(distances, default=0)
+    if count < MIN_PES_PACKETS or sum(loss_distances.values()) <= max_exceptions:
         return Pace(BY_EVERY if min(loss_distances, default=0) > every else TOO_FEW, interval)
-    loss_interval = find_loss_distance(loss_distances, interval, few) if is_stream else interval + 1
+    loss_interval = find_loss_distance(loss_distances, interval,
+                                       max_exceptions) if is_stream else interval + 1
     if min(loss_interval, *loss_distances) > every:
         return Pace(BY_EVERY, interval, loss_interval)
     is_dense = max(interval, 1) >= loss_interval
     if is_dense:
-        usual = find_usual_distance(distances, count, few)
+        usual = find_usual_distance(distances, count, max_exceptions)
         if usual is None:
             return Pace(IRREGULAR, interval, loss_interval)
         loss_interval = usual + 2
     silences = [silence for row in rows for silence
                 in find_silences(row, loss_interval, count_loss_steps(packets_per_pes))]
-    idle = select_idle_silences(silences, every, pauses)
-    if 2 * len(idle) > len(silences):
-        return Pace(PAUSED, max(silence.last - silence.first for silence in idle), loss_interval)
-    hidden_places = sum(many for frames, many in loss_distances.items() if frames < loss_interval)
+    idle_silences = select_idle_silences(silences, every, pauses)
+    if 2 * len(idle_silences) > len(silences):
+        return Pace(PAUSED,
+                    max(silence.last - silence.first for silence in idle_silences), loss_interval)
+    hidden_places = sum(frequency for frames, frequency in loss_distances.items()
+                        if frames < loss_interval)
     return Pace(REGULAR, interval, loss_interval, hidden_places, sum(loss_distances.values()),
                 is_dense)
 
 
 def find_loss_distance(loss_distances: collections.Counter[int], usual_distance: int,
-                       few: int) -> int:
+                       max_exceptions: int) -> int:
     """Return the shortest interval in frames after a loss of two PES packets. If it does not exceed
-    the usual interval, ignore the `few` shortest intervals."""
+    the usual interval, ignore the `max_exceptions` shortest intervals."""
     least = min(loss_distances)
-    return least if least > max(usual_distance, 1) else number_at_rank(loss_distances, few, False)
+    return least if least > max(usual_distance, 1) else find_number_at_rank(loss_distances,
+                                                                            max_exceptions, False)
 
 
-def find_usual_distance(distances: collections.Counter[int], count: int, few: int) -> int | None:
+def find_usual_distance(distances: collections.Counter[int], count: int,
+                        max_exceptions: int) -> int | None:
     """Return the usual interval if PES packets are dense (see `Pace`), such as two in a frame.
     Return `None` if too many intervals are longer."""
-    usual = max([1, *(frames for frames, many in distances.items() if many * OFTEN >= count)])
-    longer = sum(many for frames, many in distances.items() if frames > usual)
-    is_usual = longer * SELDOM <= count and longer - distances[usual + 1] <= few
+    usual = max([1, *(frames for frames, frequency in distances.items()
+                      if frequency * USUAL_SHARE >= count)])
+    longer_count = sum(frequency for frames, frequency in distances.items() if frames > usual)
+    is_usual = longer_count * RARE_SHARE <= count \
+        and longer_count - distances[usual + 1] <= max_exceptions
     return usual if is_usual else None
 
 
 def count_loss_steps(packets_per_pes: int) -> int:
     """Return the distance in PES packets between the last one received before a loss of 16 TS
     packets and the first one received after it."""
-    return max(TWO_LOST, -(-HOLE // packets_per_pes))
+    return max(DISTANCE_IF_TWO_LOST, -(-LOSS_DISTANCE // packets_per_pes))
 
 
 def find_hidden_loss(rows: Sequence[Sequence[int]], packets_per_pes: int) -> int | None:
@@ -142,13 +153,14 @@ def select_idle_silences(silences: Sequence[Silence], every: int, pauses: Pauses
     """
     inside = [(silence, end - begin) for begin, end in pauses if begin is not None
               and end is not None
-              for silence in silences if begin <= silence.first and abs(end - silence.last) <= NEAR]
-    shortest = min((length for _, length in inside), default=0)
-    longer = sum(begin is not None and end is not None and end - begin >= shortest
-                 for begin, end in pauses)
-    usual = [silence for silence, _ in inside] if 2 * len(inside) > longer else []
-    return [silence for silence in silences if silence.is_near_another or silence in usual
-            or USUAL_EVERY < silence.last - silence.first <= every
+              for silence in silences if begin <= silence.first
+              and abs(end - silence.last) <= MAX_CUE_DISTANCE]
+    shortest_silence = min((length for _, length in inside), default=0)
+    longer_count = sum(begin is not None and end is not None and end - begin >= shortest_silence
+                       for begin, end in pauses)
+    usual = [silence for silence, _ in inside] if 2 * len(inside) > longer_count else []
+    return [silence for silence in silences if silence.is_near_other_silence or silence in usual
+            or DEFAULT_REPEAT_LIMIT < silence.last - silence.first <= every
             or any(is_outside(silence, *pause) for pause in pauses)]
 
 
@@ -156,7 +168,7 @@ def is_outside(silence: Silence, begin: int | None, end: int | None) -> bool:
     """Return whether a silence lies in the pause before the first in-cue (`begin` is `None`) or
     after the last out-cue (`end` is `None`)."""
     if begin is None:
-        return end is not None and silence.last <= end + NEAR
+        return end is not None and silence.last <= end + MAX_CUE_DISTANCE
     return end is None and begin <= silence.first
 
 
@@ -171,7 +183,7 @@ def count_distances(rows: Sequence[Sequence[int]], steps: int) -> collections.Co
     return counts
 
 
-def number_at_rank(counts: collections.Counter[int], rank: int, is_from_above: bool) -> int:
+def find_number_at_rank(counts: collections.Counter[int], rank: int, is_from_above: bool) -> int:
     """Return the number at a rank in ascending order, or in descending order if `is_from_above`.
     Ranks begin at 0. `counts` has how often each number occurs."""
     numbers = sorted(counts, reverse=is_from_above)
@@ -189,16 +201,17 @@ def find_silences(row: Sequence[int], lost: int, steps: int) -> Iterator[Silence
 
 
 
-def frame_rows(packets: Packets, inside: Range, origin: int, within: int) -> list[Sequence[int]]:
+def list_frame_rows(packets: Packets, inside: Range, origin: int,
+                    within: int) -> list[Sequence[int]]:
     """Return the frames of the PES packets `inside` that `check` reads, in sequences. A sequence
     ends at a gap marker, at a refused packet, at a packet without a frame, and where the frame
     number decreases."""
     rows, pts = [], array.array("q")
-    for run in itertools.chain(packets.runs_between(*inside), [None]):
+    for run in itertools.chain(packets.list_runs_between(*inside), [None]):
         if run is not None and run.pts is not None and not run.fault:
             pts.extend(run.list_pts())
         elif pts:
-            rows += [row for _, row in split_rising_rows(frames_at(pts, origin, within))
+            rows += [row for _, row in split_rising_rows(find_frames_of_day(pts, origin, within))
                      if row[0] != NO_FRAME]
             pts = array.array("q")
     return rows
@@ -209,8 +222,8 @@ def count_ts_packets(packets: Packets, inside: Range, size: int | None) -> int:
     largest PES packet `inside` if that is greater. `size` is the number of bytes of a PES file."""
     total = packets.packets if size is None else size // PAYLOAD
     usual = round(total / packets.count) if packets.count else 0
-    units = max((run.units for run in packets.runs_between(*inside)), default=0)
-    return min(max(usual, -(-(units + 1) // UNITS), 1), MAX_EACH)
+    units = max((run.units for run in packets.list_runs_between(*inside)), default=0)
+    return min(max(usual, -(-(units + 1) // UNITS), 1), MAX_PES_PACKETS_TS)
 
 
 def find_pauses(times: Sequence[tuple[int, int]]) -> Pauses:

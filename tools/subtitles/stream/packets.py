@@ -7,7 +7,7 @@ import functools
 import itertools
 from typing import Iterable, Iterator, NamedTuple, Sequence
 
-from ..common.times import TICKS, count_until, ticks_between, wrap_pts
+from ..common.times import TICKS, count_until, subtract_pts, wrap_pts
 
 
 PES = 0  # used as the PID of a PES file
@@ -56,7 +56,7 @@ class PacketRun(NamedTuple):
 @functools.lru_cache(maxsize=1 << 10)
 def parse_headers(control: str) -> tuple[bytes, ...]:
     """Parse page headers in hexadecimal. Return the eight four-bit values of each."""
-    return tuple(bytes(int(digit, 16) for digit in one) for one in control.split("+") if one)
+    return tuple(bytes(int(digit, 16) for digit in item) for item in control.split("+") if item)
 
 
 class PageChange(NamedTuple):
@@ -128,7 +128,7 @@ class Packets:
     def has_page(self) -> bool:
         return any(HEADER in run.flags for run in self.runs)
 
-    def runs_between(self, first: int, last: int) -> Iterator[PacketRun]:
+    def list_runs_between(self, first: int, last: int) -> Iterator[PacketRun]:
         """Yield the runs of the PES packets from number `first` to `last`."""
         at = count_until(self.runs, lambda run: run.first > first) - 1
         for place in range(max(at, 0), len(self.runs)):  # a slice would copy all later runs
@@ -141,9 +141,9 @@ class Packets:
             elif begin < end:
                 yield run.part(begin, end - begin)
 
-    def pts_at(self, number: int) -> int | None:
+    def get_pts(self, number: int) -> int | None:
         """Return the PTS of a PES packet, if it has one."""
-        return next((run.pts for run in self.runs_between(number, number)), None)
+        return next((run.pts for run in self.list_runs_between(number, number)), None)
 
     def __iter__(self) -> Iterator[tuple[int, int | None, str]]:
         """Yield the number, the PTS and the flags of each PES packet."""
@@ -153,20 +153,20 @@ class Packets:
 
     def pts(self, inside: Range | None = None, flags: str = "") -> Iterator[int]:
         """Yield the PTS of the PES packets in the range `inside` that have all `flags`."""
-        for run in self.runs_between(*inside) if inside else self.runs:
+        for run in self.list_runs_between(*inside) if inside else self.runs:
             if flags in run.flags:
                 yield from run.list_pts()
 
-    def runs_with_pts(self) -> Iterator[PacketRun]:
+    def list_runs_with_pts(self) -> Iterator[PacketRun]:
         return (run for run in self.runs if run.pts is not None)
 
-    def time_bases(self) -> list[range]:
+    def split_time_bases(self) -> list[range]:
         """Return the ranges of PES packets with one time base. A new range begins where two PTS in
         a row are less than the two PTS before them."""
-        known = [(number, pts) for run in self.runs_with_pts() for number in end_numbers(run)
+        known = [(number, pts) for run in self.list_runs_with_pts() for number in end_numbers(run)
                  if (pts := run.pts_of(number)) is not None]
         begins = [0] + [known[at][0] for at in range(2, len(known) - 1) if all(
-            ticks_between(new, old) > 0 for _, old in known[at - 2:at]
+            subtract_pts(new, old) > 0 for _, old in known[at - 2:at]
             for _, new in known[at:at + 2])]
         return [range(*pair) for pair in zip(begins, [*begins[1:], self.count])]
 
@@ -180,27 +180,28 @@ def end_numbers(run: PacketRun) -> Iterable[int]:
 
 # Alternating sub-pages, which a receiver shows in turn
 
-FEWEST = 4  # sub-pages alternate if at least this many changes return to an earlier sub-page
+# sub-pages alternate if at least this many changes return to an earlier sub-page
+MIN_SUBCODE_CHANGES = 4
 
 
-def subcode_of(header: bytes) -> str:
+def read_subcode(header: bytes) -> str:
     """Return the sub-code in a header's eight four-bit values, S4 first (EN 300 706, 9.3.1.2)."""
     return f"{header[5] & 3:X}{header[4]:X}{header[3] & 7:X}{header[2]:X}"
 
 
-def alternating_subcodes(packets: Packets, inside: Range | None = None) -> list[str]:
+def find_alternating_subcodes(packets: Packets, inside: Range | None = None) -> list[str]:
     """Return the page's sub-codes in ascending order, or an empty list unless they alternate."""
-    subcodes, last, again = set[str](), "", 0
-    for run in packets.runs_between(*inside) if inside else packets.runs:
-        codes = [*map(subcode_of, parse_headers(run.control))]
-        for code in codes * min(run.length, FEWEST):
-            again += code != last and code in subcodes
+    subcodes, last, return_count = set[str](), "", 0
+    for run in packets.list_runs_between(*inside) if inside else packets.runs:
+        codes = [*map(read_subcode, parse_headers(run.control))]
+        for code in codes * min(run.length, MIN_SUBCODE_CHANGES):
+            return_count += code != last and code in subcodes
             subcodes.add(code)
             last = code
-    return sorted(subcodes) if again >= FEWEST else []
+    return sorted(subcodes) if return_count >= MIN_SUBCODE_CHANGES else []
 
 
-def subpage_text(subcodes: Sequence[str], page: str) -> str:
+def describe_subpages(subcodes: Sequence[str], page: str) -> str:
     """Return a note that sub-pages of a page alternate."""
     return f"sub-pages of {page} alternate, with the sub-codes {', '.join(subcodes[:-1])} and " \
         f"{subcodes[-1]}"
@@ -213,7 +214,7 @@ def find_announced_jumps(packets: Packets, inside: Range, usual: int) -> list[PT
     `usual` frames apart. Use only the PES packets `inside`."""
     pts = array.array("q", packets.pts(inside))
     previous_pts = {after: before for before, after in zip(pts, itertools.islice(pts, 1, None))
-                    if ticks_between(before, after) > usual * TICKS}
-    jumps = (packets.pts_at(number) for number in packets.counter_jumps
+                    if subtract_pts(before, after) > usual * TICKS}
+    jumps = (packets.get_pts(number) for number in packets.counter_jumps
              if inside[0] <= number <= inside[1])
-    return [(previous_pts[one], one) for one in dict.fromkeys(jumps) if one in previous_pts]
+    return [(previous_pts[jump], jump) for jump in dict.fromkeys(jumps) if jump in previous_pts]

@@ -5,7 +5,7 @@ import math
 import statistics
 from typing import Iterable, NamedTuple, Sequence
 
-from ..common.times import TICKS, ticks_between, wrap_pts
+from ..common.times import TICKS, subtract_pts, wrap_pts
 
 
 # Once a second `survey` prints the lead of Teletext: its PTS minus the decoding time of the last
@@ -21,9 +21,9 @@ from ..common.times import TICKS, ticks_between, wrap_pts
 # Numbers of leads to compare on either side of a step. Use 30 only if 10 are unclear.
 SAMPLE_SIZES = (10, 30)
 # With fewer leads, the estimated error of their mean includes their typical change.
-FEW = 5
-MANY = 20  # minimum number of leads on either side to compare their extremes
-SURE = 2.5  # number of standard errors that a difference of means must exceed
+MIN_OWN_LEADS = 5
+MIN_LEADS = 20  # minimum number of leads on either side to compare their extremes
+SIGNIFICANT_ERRORS = 2.5  # number of standard errors that a difference of means must exceed
 
 
 class VideoLead(NamedTuple):
@@ -48,21 +48,21 @@ class Departure(NamedTuple):
 def locate_departures(leads: Sequence[VideoLead]) -> list[Departure] | None:
     """Return the places where pictures drift or may drift from Teletext. Return `None` if most
     decoding times are irregular."""
-    steps = steps_of(leads)
+    steps = compute_steps(leads)
     ends = [at for at, step in enumerate(steps, 1) if abs(step) * 4 >= TICKS]
     if len(ends) * 2 > len(leads):
         return None
     rows = [[lead.ticks for lead in leads[begin:end]]
             for begin, end in zip([0, *ends], [*ends, len(leads)])]
     changes = [abs(after - before) for row in rows for before, after in zip(row, row[1:])]
-    typical = statistics.fmean(changes) if changes else TICKS
+    typical_step = statistics.fmean(changes) if changes else TICKS
     departures, before, between, ticks = [], rows[0], list[int](), 0
     for end, row in zip(ends, rows[1:]):
         ticks += steps[end - 1]
         if len(row) == 1 and end != ends[-1]:
             between += row
             continue
-        left = measure_departure(before, row, ticks, typical)
+        left = measure_departure(before, row, ticks, typical_step)
         if left == 0 and is_outside(between, before):
             left = None  # a short drift, or a damaged PTS
         if left != 0:
@@ -72,46 +72,47 @@ def locate_departures(leads: Sequence[VideoLead]) -> list[Departure] | None:
     return departures
 
 
-def steps_of(leads: Sequence[VideoLead]) -> list[int]:
+def compute_steps(leads: Sequence[VideoLead]) -> list[int]:
     """Return the ticks by which each interval of decoding times exceeds the usual duration of its
     pictures."""
     times = [wrap_pts(lead.pts - lead.ticks) for lead in leads]
-    gone = [(ticks_between(first, second), after.number - before.number)
-            for first, second, before, after in zip(times, times[1:], leads, leads[1:])]
-    usual = statistics.median(ticks / count for ticks, count in gone) if gone else TICKS
-    return [round(ticks - usual * count) for ticks, count in gone]
+    intervals = [(subtract_pts(first, second), after.number - before.number)
+                 for first, second, before, after in zip(times, times[1:], leads, leads[1:])]
+    usual = statistics.median(ticks / count for ticks, count in intervals) if intervals else TICKS
+    return [round(ticks - usual * count) for ticks, count in intervals]
 
 
 def is_outside(between: Iterable[int], before: Sequence[int]) -> bool:
     """Return whether one of the leads `between` differs by half a frame or more from all leads
     `before`."""
-    half = TICKS // 2
-    return any(lead <= min(before) - half or lead >= max(before) + half for lead in between)
+    half_frame = TICKS // 2
+    return any(lead <= min(before) - half_frame or lead >= max(before) + half_frame
+               for lead in between)
 
 
 def measure_departure(before: Sequence[int], after: Sequence[int], step: int,
-                      typical: float) -> int | None:
+                      typical_step: float) -> int | None:
     """Return the ticks by which pictures drift at a step of the decoding times.
 
-    `before` and `after` are the leads around the step, and `typical` is the typical change of a
-    lead. The result is 0, the step, or the change of the leads if pictures were lost too. Return
+    `before` and `after` are the leads around the step, and `typical_step` is the typical change of
+    a lead. The result is 0, the step, or the change of the leads if pictures were lost too. Return
     `None` if this is unclear.
     """
-    limit, half = min(abs(step) or TICKS, TICKS) / 2, TICKS // 2
+    limit, half_frame = min(abs(step) or TICKS, TICKS) / 2, TICKS // 2
     for most in SAMPLE_SIZES:
         old, new = before[-most:], after[:most]
-        moved = statistics.fmean(new) - statistics.fmean(old)
-        error = SURE * math.sqrt(sum(max(
+        mean_change = statistics.fmean(new) - statistics.fmean(old)
+        error = SIGNIFICANT_ERRORS * math.sqrt(sum(max(
             statistics.variance(row) if len(row) > 1 else 0,
-            typical ** 2 if len(row) < FEW else 0) / len(row) for row in (old, new)))
+            typical_step ** 2 if len(row) < MIN_OWN_LEADS else 0) / len(row) for row in (old, new)))
         for ticks in (0, step):
             ends = [abs(end(new) - end(old) + ticks) * 2 for end in (min, max)]
-            is_sure = min(len(old), len(new)) >= MANY and max(ends) < limit
-            if abs(moved + ticks) + (0 if is_sure else error) < limit:
+            is_significant = min(len(old), len(new)) >= MIN_LEADS and max(ends) < limit
+            if abs(mean_change + ticks) + (0 if is_significant else error) < limit:
                 return ticks
-        if step and abs(moved) - error >= limit:
-            if abs(step + moved) <= min(limit + error, abs(step) / 4):
+        if step and abs(mean_change) - error >= limit:
+            if abs(step + mean_change) <= min(limit + error, abs(step) / 4):
                 return step
-            if 0 <= step + moved <= abs(moved) / 2:
-                return -half * round(moved / half)
+            if 0 <= step + mean_change <= abs(mean_change) / 2:
+                return -half_frame * round(mean_change / half_frame)
     return None

@@ -6,13 +6,14 @@ import itertools
 from typing import Iterator, NamedTuple
 
 from ..common.command_line import counted
-from ..common.times import FRAMES_OF_A_DAY, TICKS, frame_in, pts_of, time_of, wrap_pts
+from ..common.times import FRAMES_OF_A_DAY, TICKS, compute_frame, format_frame, pts_of, wrap_pts
 from .packets import BLANK, CLOSED, HEADER, OPEN, PacketRun, Packets, PageChange, Range
 
 
 # A run of at least this many ticks is not skipped, since the PTS may wrap around within it.
-SKIPPED = 1 << 31
-AFTER = 2  # number of consecutive PES packets after the last frame at which the search ends
+MAX_SKIPPED_TICKS = 1 << 31
+# number of consecutive PES packets after the last frame at which the search ends
+PACKETS_AFTER_RANGE = 2
 
 
 class SentPacket(NamedTuple):
@@ -39,8 +40,9 @@ class PacketRange(NamedTuple):
         if self.range is None or self.first is None or self.last is None:
             return f"none of {count} at the time of the subtitles contains a header of the page " \
                 "or follows such a header"
-        kept = self.range[1] - self.range[0] + 1
-        return f"{kept} of {count}, from {time_of(self.first)} to {time_of(self.last)}"
+        packet_count = self.range[1] - self.range[0] + 1
+        return f"{packet_count} of {count}, from {format_frame(self.first)} to " \
+            f"{format_frame(self.last)}"
 
 
 def find_range(packets: Packets, begin: int, end: int, origin: int, every: int | None = None,
@@ -61,7 +63,7 @@ def find_range(packets: Packets, begin: int, end: int, origin: int, every: int |
     ending = RangeEnd(low, high, end, within, every is not None)
     first = first_packet_frame = None
     read, is_over = 0, False
-    for sent in packets_from(packets, low, high, origin, within):
+    for sent in read_packets_between(packets, low, high, origin, within):
         read = sent.number + 1
         if inside and sent.number > inside[1]:
             break
@@ -79,8 +81,8 @@ def find_range(packets: Packets, begin: int, end: int, origin: int, every: int |
     read = read or packets.count
     if first is None:
         return PacketRange(None, read, first_packet_frame=first_packet_frame, is_over=is_over)
-    begun = frame_in(next(packets.pts((first, ending.number))), origin, within)
-    return PacketRange((first, ending.number), read, begun, ending.last, first_packet_frame,
+    begin_frame = compute_frame(next(packets.pts((first, ending.number))), origin, within)
+    return PacketRange((first, ending.number), read, begin_frame, ending.last, first_packet_frame,
                        ending.has_end, is_over)
 
 
@@ -96,12 +98,12 @@ class PageTexts:
 
     def find_changes(self, sent: SentPacket) -> list[PageChange]:
         """Return the page changes caused by the page transmission that begins with a header."""
-        def is_of_it(change: PageChange) -> bool:
-            frame = frame_in(change.pts, self.origin, self.within)
+        def is_change_of_run(change: PageChange) -> bool:
+            frame = compute_frame(change.pts, self.origin, self.within)
             return sent.frame is not None and sent.frame <= frame <= sent.frame + self.within
 
         at = bisect.bisect_left(self.numbers, sent.number)
-        return [*itertools.takewhile(is_of_it, itertools.islice(self.changes, at, None))]
+        return [*itertools.takewhile(is_change_of_run, itertools.islice(self.changes, at, None))]
 
     def is_repeat(self, sent: SentPacket) -> bool:
         """Return whether a page transmission erases the text before it and sends it again."""
@@ -133,26 +135,27 @@ class RangeStart:
         """Read a PES packet that precedes the range."""
         if not (self.within and self.transmission and sent.frame in (self.transmission[0].frame,
                                                                      None)):
-            self.blank, self.transmission = self.last_blank(), []
+            self.blank, self.transmission = self.find_last_blank(), []
         self.transmission.append(sent)
         if HEADER in sent.flags:
             self.header = sent.number
         if sent.frame is not None:
             self.is_blank = BLANK in sent.flags
 
-    def last_blank(self) -> int | None:
+    def find_last_blank(self) -> int | None:
         """Return the first PES packet of the last page transmission that leaves the page blank."""
         header = next((sent for sent in self.transmission if HEADER in sent.flags), None)
-        leaves_blank = header and BLANK in self.transmission[-1].flags and \
+        is_left_blank = header and BLANK in self.transmission[-1].flags and \
             not self.texts.is_repeat(header)
-        return self.transmission[0].number if leaves_blank else self.blank
+        return self.transmission[0].number if is_left_blank else self.blank
 
     def find(self, sent: SentPacket) -> int | None:
         """Return the first PES packet of the range, if the range begins at or before `sent`."""
         if sent.frame is None or sent.frame < self.begin:
             return None
         is_shown, is_replaced = not self.is_blank, self.texts.is_replaced(sent)
-        blank = None if is_shown and is_replaced and sent.frame == self.begin else self.last_blank()
+        blank = None if is_shown and is_replaced and sent.frame == self.begin \
+            else self.find_last_blank()
         if blank is not None or HEADER not in sent.flags:
             return blank
         # If this header repeats an earlier text, `check` also needs the previous header.
@@ -184,7 +187,8 @@ class RangeEnd:
             if self.may_be_late and self.has_end and frame > self.last:
                 self.high = self.last
             self.behind = self.behind + 1 if frame > self.high else 0
-            if self.behind == (1 if self.has_end and self.last == self.high else AFTER):
+            if self.behind == (1 if self.has_end and self.last == self.high
+                               else PACKETS_AFTER_RANGE):
                 return True
         if first is not None and not self.behind:
             self.number = sent.number
@@ -203,14 +207,14 @@ class RangeEnd:
         return is_page_over or frame >= self.end + self.within
 
 
-def packets_from(packets: Packets, low: int, high: int, origin: int, within: int) \
+def read_packets_between(packets: Packets, low: int, high: int, origin: int, within: int) \
         -> Iterator[SentPacket]:
     """Yield the PES packets from the first run that may overlap the frames `low` to `high`."""
     first, last = pts_of(low, origin), pts_of(high, origin)
     for run in itertools.dropwhile(lambda run: is_outside(run, first, last), packets.runs):
         for number in range(run.first, run.end):
             pts = run.pts_of(number)
-            frame = None if pts is None else frame_in(pts, origin, within)
+            frame = None if pts is None else compute_frame(pts, origin, within)
             yield SentPacket(number, frame, run.flags)
 
 
@@ -219,7 +223,7 @@ def is_outside(run: PacketRun, low: int, high: int) -> bool:
     day apart, but the order of two PTS is certain only if they are less than 13 hours apart, half
     of the clock's range."""
     first, last = run.pts, run.last
-    if first is None or last is None or not 0 <= run.step * run.length < SKIPPED:
+    if first is None or last is None or not 0 <= run.step * run.length < MAX_SKIPPED_TICKS:
         return first is None
     begin, length = low - TICKS, wrap_pts(high - low) + 2 * TICKS
     return wrap_pts(first - begin) > length and wrap_pts(begin - first) > wrap_pts(last - first)

@@ -8,7 +8,7 @@ import itertools
 from typing import Iterable, Iterator, NamedTuple, Sequence
 
 from ..common.times import (
-    FRAMES_OF_A_DAY, NO_FRAME, Span, count_until, frames_at, split_rising_rows)
+    FRAMES_OF_A_DAY, NO_FRAME, Span, count_until, find_frames_of_day, split_rising_rows)
 from ..formats.teletext import Page
 from .packets import (
     CLOSED, ERASE, HEADER, NO_RANGE, OPEN, PacketRun, Packets, Range, STRAY, Texts, parse_headers)
@@ -39,12 +39,12 @@ class ReceiverState(NamedTuple):
 INITIAL_STATE = ReceiverState(False, False, None, OLD_PAGE, None)
 
 
-def national_option(header: bytes) -> int:
+def read_national_option(header: bytes) -> int:
     """Return C12, C13 and C14 of a header as a number: 0 is English, 4 German."""
     return header[7] >> 1
 
 
-CLEARED = bytes(0x20 if code in (OLD, HIT) else code for code in range(256))
+CLEARED_MARKS = bytes(0x20 if code in (OLD, HIT) else code for code in range(256))
 
 
 def clear_unsent_cells(rows: Rows) -> Rows:
@@ -52,23 +52,23 @@ def clear_unsent_cells(rows: Rows) -> Rows:
     cells = b"".join(rows)
     if OLD not in cells and HIT not in cells:
         return rows
-    return tuple(row.translate(CLEARED) for row in rows)
+    return tuple(row.translate(CLEARED_MARKS) for row in rows)
 
 
 PAUSE = 2  # a longer interval in frames without a PES packet is a pause
-FEW = 20  # pauses are frequent if there are fewer PES packets per pause
+PACKETS_PER_PAUSE = 20  # pauses are frequent if there are fewer PES packets per pause
 
 
 class SpanIndex:
     """An index to find whether given frames overlap any of many spans."""
 
     def __init__(self, spans: Iterable[Span]) -> None:
-        rising = sorted(spans)
-        self.begins = [span.first for span in rising]
-        lasts: list[int] = [span.last for span in rising]
-        self.reach = [*itertools.accumulate(lasts, lambda one, other: max(one, other))]
+        sorted_spans = sorted(spans)
+        self.begins = [span.first for span in sorted_spans]
+        last_frames: list[int] = [span.last for span in sorted_spans]
+        self.reach = [*itertools.accumulate(last_frames, lambda item, other: max(item, other))]
 
-    def has(self, first: int, last: int) -> bool:
+    def includes(self, first: int, last: int) -> bool:
         """Return whether a span overlaps the frames from `first` to `last`."""
         at = bisect.bisect_right(self.begins, last)
         return at > 0 and self.reach[at - 1] >= first
@@ -123,12 +123,13 @@ class ReceivedPackets:
         """Return the frames of the run with index `at`."""
         return self.uneven_frames.get(at, range(self.begins[at], self.ends[at] + 1))
 
-    def pause_at(self, frame: int) -> Span | None:
+    def find_pause(self, frame: int) -> Span | None:
         """Return the pause around a frame. Return `None` if the frame is not in a pause, or if
         pauses are frequent."""
         at = count_until(self.pauses, lambda span: span.first > frame) - 1
-        is_steady = len(self.pauses) * FEW <= self.count
-        return self.pauses[at] if is_steady and at >= 0 and self.pauses[at].last >= frame else None
+        has_usual_pauses = len(self.pauses) * PACKETS_PER_PAUSE <= self.count
+        return self.pauses[at] if has_usual_pauses and at >= 0 and self.pauses[at].last >= frame \
+            else None
 
     @functools.cached_property
     def uncertain_index(self) -> SpanIndex:
@@ -139,16 +140,16 @@ class ReceivedPackets:
         """Return whether all PES packets of a span of frames were received."""
         is_known = self.halt is None or last <= self.last
         return is_known and not (
-            self.uncertain_index.has(first, last) or self.lost.has(first, last))
+            self.uncertain_index.includes(first, last) or self.lost.includes(first, last))
 
-    def runs_in_frame(self, frame: int) -> list[PacketRun]:
+    def list_frame_runs(self, frame: int) -> list[PacketRun]:
         """Return the PES packets of a frame, each as a run."""
         first, end = bisect.bisect_left(self.ends, frame), bisect.bisect_right(self.begins, frame)
         return [self.received_runs[at].part(self.received_runs[at].first + place, 1)
                 for at in range(first, end) for frames in [self.run_frames(at)] for place in range(
                     bisect.bisect_left(frames, frame), bisect.bisect_right(frames, frame))]
 
-    def frame_before(self, number: int) -> int | None:
+    def find_frame_before(self, number: int) -> int | None:
         """Return the last received frame before a PES packet, or `None` if there is none."""
         at = count_until(self.received_runs, lambda run: run.first >= number) - 1
         if at < 0:
@@ -156,7 +157,7 @@ class ReceivedPackets:
         run = self.received_runs[at]
         return self.run_frames(at)[min(number - run.first, run.length) - 1]
 
-    def frame_after(self, number: int) -> int | None:
+    def find_frame_after(self, number: int) -> int | None:
         """Return the first received frame after a PES packet, or `None` if there is none."""
         at = count_until(self.received_runs, lambda run: run.end - 1 > number)
         if at == len(self.received_runs):
@@ -177,7 +178,7 @@ def find_pauses(before: int, frames: Sequence[int]) -> Iterator[Span]:
 # read or that have no frame. From the first PES packet with an earlier frame than the packet before
 # it, all PES packets are ignored.
 
-LEAST = 250  # minimum number of frames to decode before and after a span
+MIN_FRAMES = 250  # minimum number of frames to decode before and after a span
 
 
 class Timeline(ReceivedPackets):
@@ -219,33 +220,37 @@ class Timeline(ReceivedPackets):
         """Receive the PES packets in the range `inside`. `held` has the rows decoded after a PES
         packet, `strays` the rows received outside a transmission of the page."""
         first, last = self.inside
-        self.is_erased = any(ERASE in run.flags for run in self.packets.runs_between(0, first - 1))
+        self.is_erased = any(ERASE in run.flags
+                             for run in self.packets.list_runs_between(0, first - 1))
         earlier = [texts for number, texts in self.packets.decoded_rows if number < first]
         if earlier:
-            self.printed_rows = full_page(earlier[-1], self.is_erased)
-        stray: Texts = ()
-        for run in self.packets.runs_between(first, last):
-            stray = strays.get(run.first, stray)
-            self.receive_run(run, held.get(run.first), stray)
+            self.printed_rows = complete_page(earlier[-1], self.is_erased)
+        stray_texts: Texts = ()
+        for run in self.packets.list_runs_between(first, last):
+            stray_texts = strays.get(run.first, stray_texts)
+            self.receive_run(run, held.get(run.first), stray_texts)
 
-    def receive_run(self, run: PacketRun, texts: Texts | None, stray: Texts = ()) -> None:
+    def receive_run(self, run: PacketRun, texts: Texts | None, stray_texts: Texts = ()) -> None:
         """Receive a run. `texts` are the rows that `survey` printed after the run's first PES
         packet, if any. If that packet is not received, the receiver may not have decoded these
-        rows. `stray` are rows received outside a transmission of the page."""
-        is_told = texts is not None
+        rows. `stray_texts` are rows received outside a transmission of the page."""
+        has_texts = texts is not None
         self.is_erased = self.is_erased or ERASE in run.flags
         if texts is not None:
-            self.printed_rows = full_page(texts, self.is_erased)
-        all_frames = frames_at(() if run.fault else run.list_pts(), self.origin, self.within)
+            self.printed_rows = complete_page(texts, self.is_erased)
+        all_frames = find_frames_of_day(() if run.fault else run.list_pts(), self.origin,
+                                        self.within)
         for place, frames in split_rising_rows(all_frames) or [(0, [NO_FRAME])]:
             if frames[0] != NO_FRAME:
-                self.receive(run.part(run.first + place, len(frames)), frames, is_told, stray)
+                self.receive(run.part(run.first + place, len(frames)), frames, has_texts,
+                             stray_texts)
             else:
                 self.is_uncertain = True
-                self.is_outdated = self.is_outdated or is_told or is_of_page(run)
+                self.is_outdated = self.is_outdated or has_texts or is_of_page(run)
 
-    def receive(self, run: PacketRun, frames: Sequence[int], is_told: bool, stray: Texts) -> None:
-        """Receive PES packets with ascending frames. `is_told` is true if `survey` printed rows
+    def receive(self, run: PacketRun, frames: Sequence[int], has_texts: bool,
+                stray_texts: Texts) -> None:
+        """Receive PES packets with ascending frames. `has_texts` is true if `survey` printed rows
         after the first of them."""
         if self.halt is None and frames[0] < self.last < self.begin:
             self.clear()
@@ -254,29 +259,29 @@ class Timeline(ReceivedPackets):
             return
         if is_first and self.first_packet_frame != NO_FRAME:
             self.first = self.first_packet_frame
-        for letter, sent in ((HEADER, self.header_frames), (ERASE, self.erasure_frames)):
-            if letter in run.flags:
+        for flag, sent in ((HEADER, self.header_frames), (ERASE, self.erasure_frames)):
+            if flag in run.flags:
                 sent.extend(frame for frame in dict.fromkeys(frames)
                             if not sent or frame > sent[-1])
         if STRAY in run.flags:
-            self.stray_rows.append((Span(frames[0], frames[-1]), stray))
-        if (self.states[-1].is_received or HEADER in run.flags) and (is_of_page(run) or is_told):
-            self.update_state(run, frames[0], is_told)
+            self.stray_rows.append((Span(frames[0], frames[-1]), stray_texts))
+        if (self.states[-1].is_received or HEADER in run.flags) and (is_of_page(run) or has_texts):
+            self.update_state(run, frames[0], has_texts)
 
-    def update_state(self, run: PacketRun, frame: int, is_told: bool) -> None:
-        """Update the state after a run. `is_told` is true if `survey` printed rows after the run's
-        first packet."""
+    def update_state(self, run: PacketRun, frame: int, has_texts: bool) -> None:
+        """Update the state after a run. `has_texts` is true if `survey` printed rows after the
+        run's first packet."""
         before = self.states[-1]
-        self.is_outdated = self.is_outdated and not (ERASE in run.flags or is_told)
+        self.is_outdated = self.is_outdated and not (ERASE in run.flags or has_texts)
         rows = before.rows if self.is_outdated else self.printed_rows
         header, screen, held = before.header, before.screen, before.rows
         headers = iter(parse_headers(run.control))
-        for at, letter in enumerate(run.flags):
-            if letter == HEADER:
+        for at, flag in enumerate(run.flags):
+            if flag == HEADER:
                 header = next(headers, b"")
-            elif letter == ERASE:
+            elif flag == ERASE:
                 held = BLANK_PAGE
-            elif letter == CLOSED and header:
+            elif flag == CLOSED and header:
                 screen = rows if at > run.flags.rfind(HEADER) else held, header
         after = ReceiverState(True, OPEN in run.flags, header, rows, screen)
         if after == before:
@@ -285,18 +290,18 @@ class Timeline(ReceivedPackets):
         self.state_frames.append(frame)
         self.state_packets.append(run.first)
         if after.is_open != len(self.open_changes) % 2:
-            self.note_opening(frame)
+            self.record_opening(frame)
         if rows != before.rows:
-            self.note_page(frame, clear_unsent_cells(rows))
+            self.record_page(frame, clear_unsent_cells(rows))
 
-    def note_opening(self, frame: int) -> None:
+    def record_opening(self, frame: int) -> None:
         """Record that the page opens or closes at the end of a frame."""
         if self.open_changes and self.open_changes[-1] == frame:
             self.open_changes.pop()
         else:
             self.open_changes.append(frame)
 
-    def note_page(self, frame: int, page: Rows) -> None:
+    def record_page(self, frame: int, page: Rows) -> None:
         """Record the page decoded from `frame` onwards, if it differs from the previous page."""
         if self.frames and self.frames[-1] == frame:
             self.frames.pop()
@@ -309,37 +314,37 @@ class Timeline(ReceivedPackets):
     def page_frames(self) -> dict[Rows, array.array[int]]:
         """Return, for each page, the frames from which it was decoded. Call it only after the last
         PES packet."""
-        when: dict[Rows, array.array[int]] = {}
+        frames_by_page: dict[Rows, array.array[int]] = {}
         for frame, page in zip(self.frames, self.pages):
-            when.setdefault(page, array.array("i")).append(frame)
-        return when
+            frames_by_page.setdefault(page, array.array("i")).append(frame)
+        return frames_by_page
 
-    def number_at(self, frame: int) -> int:
+    def find_page_number_at(self, frame: int) -> int:
         """Return the index of the page decoded at the end of a frame, or -1 if there is none."""
         return bisect.bisect_right(self.frames, frame) - 1
 
-    def page_at(self, frame: int) -> Rows:
+    def get_page_at(self, frame: int) -> Rows:
         """Return the page decoded at the end of a frame, or a blank page before the first page."""
-        number = self.number_at(frame)
+        number = self.find_page_number_at(frame)
         blank: Rows = BLANK_PAGE
         return self.pages[number] if number >= 0 else blank
 
-    def state_at(self, frame: int) -> ReceiverState:
+    def get_state_at(self, frame: int) -> ReceiverState:
         """Return the receiver's state at the end of a frame."""
         return self.states[bisect.bisect_right(self.state_frames, frame)]
 
-    def state_after(self, number: int) -> ReceiverState:
+    def get_state_after(self, number: int) -> ReceiverState:
         """Return the receiver's state after a PES packet."""
         return self.states[bisect.bisect_right(self.state_packets, number)]
 
-    def page_numbers(self, begin: int, end: int) -> Iterator[int]:
+    def list_page_numbers(self, begin: int, end: int) -> Iterator[int]:
         """Yield the indexes of the pages decoded from frame `begin` up to `end`, exclusive."""
-        number = max(self.number_at(begin), 0)
+        number = max(self.find_page_number_at(begin), 0)
         while number < len(self.frames) and self.frames[number] < end:
             yield number
             number += 1
 
-    def page_span(self, number: int) -> Span:
+    def get_page_span(self, number: int) -> Span:
         """Return the frames during which page `number` is decoded."""
         is_last = number + 1 == len(self.frames)
         return Span(self.frames[number], self.last if is_last else self.frames[number + 1] - 1)
@@ -357,19 +362,21 @@ def is_of_page(run: PacketRun) -> bool:
     return HEADER in run.flags or CLOSED in run.flags
 
 
-def decode_near(packets: Packets, page: Page, origin: int, within: int, span: Span, every: int,
-                inside: Range | None = None, lost: Iterable[Span] = ()) -> Timeline:
+def decode_pages_around(packets: Packets, page: Page, origin: int, within: int, span: Span,
+                        every: int, inside: Range | None = None,
+                        lost: Iterable[Span] = ()) -> Timeline:
     """Decode the pages of a span, and of at least 250 frames before and after it, or `every` frames
     if that is more. `lost` are frames with losses."""
-    more = max(LEAST, every)
-    cut = find_range(packets, max(span.first - more, 0), min(span.last + more, FRAMES_OF_A_DAY - 1),
-                     origin, None, within, inside)
-    return Timeline(packets, page, origin, within, cut.range or NO_RANGE, span.first,
-                    NO_FRAME if cut.first_packet_frame is None else cut.first_packet_frame,
-                    lost=lost)
+    more = max(MIN_FRAMES, every)
+    packet_range = find_range(packets, max(span.first - more, 0),
+                              min(span.last + more, FRAMES_OF_A_DAY - 1), origin, None,
+                              within, inside)
+    return Timeline(packets, page, origin, within, packet_range.range or NO_RANGE, span.first,
+                    NO_FRAME if packet_range.first_packet_frame is None
+                    else packet_range.first_packet_frame, lost=lost)
 
 
-def full_page(texts: Texts, is_erased: bool) -> Rows:
+def complete_page(texts: Texts, is_erased: bool) -> Rows:
     """Return a page with the rows `texts`. All other rows are blank if `is_erased`, or else not yet
     received."""
     blank: Rows = BLANK_PAGE if is_erased else OLD_PAGE

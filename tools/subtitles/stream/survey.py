@@ -7,7 +7,7 @@ import sys
 from typing import Callable, Iterable, Iterator, NamedTuple
 
 from ..common.command_line import (
-    ProgramInterrupted, decode_page, escape_hidden, format_pid, stream_options)
+    ProgramInterrupted, decode_page, escape_hidden, format_pid, make_stream_options)
 from ..formats.teletext import Page, page_name
 from .packets import GapMarker, PCRStep, PES, PacketRun, Packets, PageChange, Texts
 from .pictures import VideoLead
@@ -22,7 +22,7 @@ KINDS = {1: "initial page", 2: "subtitles", 3: "additional information", 4: "pro
          5: "subtitles for the hard of hearing"}
 MAX_PCR_PIDS = 8  # maximum number of PCR PIDs of a programme to remember
 HIT = b"\xa0"  # a space whose byte had even parity
-NO_LETTERS = bytes(range(0x21))
+NO_CHARACTERS = bytes(range(0x21))
 
 
 class Announced(NamedTuple):
@@ -60,7 +60,7 @@ class Video:
     form: str = ""  # closed, open or unknown group of pictures; empty if it was not printed
 
 
-def pid_line(packets: Packets, programmes: Iterable[ProgramMap]) -> str:
+def describe_pid(packets: Packets, programmes: Iterable[ProgramMap]) -> str:
     """Return a line with the pages that are announced and sent on a PID."""
     announced = dict.fromkeys(f"{page.line()} in programme {program_map.number}"
                               for program_map in programmes
@@ -71,7 +71,7 @@ def pid_line(packets: Packets, programmes: Iterable[ProgramMap]) -> str:
         f"subtitle pages sent: {' '.join(pages[:MAX_PAGES] + more) or 'none'}"
 
 
-def optional_number(word: str) -> int | None:
+def parse_optional_number(word: str) -> int | None:
     return None if word == "-" else int(word)
 
 
@@ -79,7 +79,7 @@ def parse_rows(word: str) -> Texts:
     """Parse rows such as `22:2020..,23:..`; `-` means no rows."""
     return () if word == "-" else tuple(
         (int(row), bytes.fromhex(cells)) for row, _, cells in (
-            one.partition(":") for one in word.split(",")))
+            item.partition(":") for item in word.split(",")))
 
 
 class Survey:
@@ -112,14 +112,14 @@ class Survey:
         if version != VERSION:
             self.unexpected_line = f"survey {version}"
 
-    def parse_fault(self, *words: str) -> None:
-        self.unexpected_line = " ".join(("fault", *words))
+    def parse_fault(self, *args: str) -> None:
+        self.unexpected_line = " ".join(("fault", *args))
 
-    def parse_usage(self, *words: str) -> None:
-        self.unexpected_line = " ".join(("usage", *words))
+    def parse_usage(self, *args: str) -> None:
+        self.unexpected_line = " ".join(("usage", *args))
 
-    def parse_refused(self, *words: str) -> None:
-        self.unexpected_line = " ".join(("refused", *words))
+    def parse_refused(self, *args: str) -> None:
+        self.unexpected_line = " ".join(("refused", *args))
 
     def parse_head(self, data: str = "", *_: str) -> None:
         self.head = bytes.fromhex(data)
@@ -154,7 +154,8 @@ class Survey:
     def parse_pes(self, pid: str, first: str, count: str, pts: str, step: str, actions: str,
                   units: str, fault: str, *_: str) -> None:
         flags, control = map(sys.intern, actions.split("/"))  # most of these strings are equal
-        self.get_packets(pid).runs.append(PacketRun(int(first), int(count), optional_number(pts),
+        self.get_packets(pid).runs.append(PacketRun(int(first), int(count),
+                                                    parse_optional_number(pts),
                                                    int(step), flags,
                                                    control, int(units), int(fault)))
 
@@ -166,10 +167,10 @@ class Survey:
         plain = tuple((row, cells) for row, cells in (
             (row, cells.replace(HIT, b" ")) for row, cells in texts) if cells.strip(b" "))
         if not packets.changes or packets.changes[-1].rows != plain:
-            letters = b"".join(cells for _, cells in plain).translate(None, NO_LETTERS)
+            letters = b"".join(cells for _, cells in plain).translate(None, NO_CHARACTERS)
             # If the rows are equal, keep only one object.
-            rows_held = texts if plain == texts else plain
-            packets.changes.append(PageChange(pts, letters, behind, rows_held))
+            stored_rows = texts if plain == texts else plain
+            packets.changes.append(PageChange(pts, letters, behind, stored_rows))
 
     def parse_strays(self, pid: str, number: str, rows: str, *_: str) -> None:
         self.get_packets(pid).stray_rows.append((int(number), parse_rows(rows)))
@@ -183,8 +184,8 @@ class Survey:
     def parse_clock(self, pid: str, before: str, after: str, ticks: str, packets: str, usual: str,
                     usual_packets: str, counters: str, *_: str) -> None:
         self.get_packets(pid).pcr_steps.append(PCRStep(
-            optional_number(before), optional_number(after), int(ticks), int(packets), int(usual),
-            int(usual_packets), counters))
+            parse_optional_number(before), parse_optional_number(after), int(ticks), int(packets),
+            int(usual), int(usual_packets), counters))
 
     def parse_ahead(self, pid: str, pts: str, ticks: str, *_: str) -> None:
         self.get_packets(pid).samples.append((int(pts), int(ticks)))
@@ -196,14 +197,14 @@ class Survey:
     def parse_set(self, pid: str, number: str, designation: str, region: str, option: str,
                   *_: str) -> None:
         self.get_packets(pid).character_sets.append((int(number), int(designation),
-                                                    optional_number(region),
-                                                    optional_number(option)))
+                                                    parse_optional_number(region),
+                                                    parse_optional_number(option)))
 
     def parse_video(self, pid: str, passed: str, *_: str) -> None:
         self.videos[int(pid)] = Video(int(passed))
 
     def parse_picture(self, pid: str, pts: str, *_: str) -> None:
-        self.videos[int(pid)].pictures.append(optional_number(pts))
+        self.videos[int(pid)].pictures.append(parse_optional_number(pts))
 
     def parse_seam(self, pid: str, number: str, *_: str) -> None:
         self.get_packets(pid).counter_jumps.append(int(number))
@@ -221,32 +222,33 @@ class Survey:
         video.lost, video.scrambled = int(lost), int(scrambled)
         video.is_cut = passed != ""
 
-    def parse_damaged(self, pid: str, number: str, why: str, *_: str) -> None:
+    def parse_damaged(self, pid: str, number: str, reason: str, *_: str) -> None:
         self.get_packets(pid).damage = f"PES packet {number} " + {
-            "start": "does not begin with 00 00 01 BD", "cut": "is incomplete"}[why]
+            "start": "does not begin with 00 00 01 BD", "cut": "is incomplete"}[reason]
 
     def parse_end(self, pid: str, *numbers: str) -> None:
-        of_pid = self.get_packets(pid)
+        pid_packets = self.get_packets(pid)
         packets, scrambled, refusal, cut, begun = numbers[2:7]
-        of_pid.packets, of_pid.scrambled = int(packets), int(scrambled)
-        of_pid.refusal = int(refusal)
-        of_pid.is_cut, of_pid.last_pts = cut == "1", optional_number(begun)
+        pid_packets.packets, pid_packets.scrambled = int(packets), int(scrambled)
+        pid_packets.refusal = int(refusal)
+        pid_packets.is_cut, pid_packets.last_pts = cut == "1", parse_optional_number(begun)
 
     def parse_over(self, skipped: str, *_: str) -> None:
         self.skipped, self.is_complete = int(skipped), True
 
-    def programmes_of(self, pid: int) -> list[ProgramMap]:
+    def find_programmes(self, pid: int) -> list[ProgramMap]:
         """Return the PMTs that contain a PID."""
         return [program_map for program_map in self.programmes if pid in program_map.kinds]
 
-    def clock_of(self, pid: int) -> tuple[int, int] | None:
+    def get_pcr_range(self, pid: int) -> tuple[int, int] | None:
         """Return the first and last PCR of the programme of a PID, if they are known."""
-        known = self.programmes_of(pid)
+        known = self.find_programmes(pid)
         return self.clocks.get(known[-1].pcr_pid) if known else None
 
     def lines(self) -> list[str]:
         """Return a line for each PID with Teletext."""
-        return [pid_line(self.by_pid[pid], self.programmes_of(pid)) for pid in sorted(self.by_pid)]
+        return [describe_pid(self.by_pid[pid], self.find_programmes(pid))
+                for pid in sorted(self.by_pid)]
 
     def refuse(self, status: int) -> None:
         """Raise `ProgramInterrupted` if the output is incomplete or the exit status is not 0."""
@@ -268,7 +270,7 @@ def read_lines(answer: Survey, program: str, name: str, page: Page, pid: int | N
         -> Iterator[None]:
     """Run `survey` on a recording and read its output into `answer`. Yield after each line. Raise
     `ProgramInterrupted` if the output is incomplete."""
-    words = [program, "survey", "--page", page_name(*page), *stream_options(pid), "--", name]
+    words = [program, "survey", "--page", page_name(*page), *make_stream_options(pid), "--", name]
     with subprocess.Popen(words, stdout=subprocess.PIPE, encoding="ascii",
                           errors="replace") as process:
         assert process.stdout
@@ -313,10 +315,10 @@ CODES = {
     0x6B: "hin", 0x6C: "heb", 0x70: "ell gre", 0x71: "kat geo", 0x75: "zho chi", 0x77: "bul",
     0x78: "ben", 0x79: "bel", 0x7D: "hye arm", 0x7E: "ara",
 }
-ANY = {"und", "mul"}  # codes for an undefined language and for several languages
+ANY_LANGUAGE_CODES = {"und", "mul"}  # codes for an undefined language and for several languages
 
 
-def language_names(code: str) -> list[str]:
+def list_language_codes(code: str) -> list[str]:
     """Return the language codes of a PMT for an LC of two hexadecimal digits. Return an empty list
     if the LC is unknown."""
     try:
