@@ -34,8 +34,7 @@ WORD = make_named_shape("word", OneOf(*STATUSES))
 FILE_AT_START = Record(
     "file_at_start", "",
     Member("size", COUNT),
-    Member("modified", Text(r"[0-9-]{10,20}T[0-9:]{8}[.][0-9]{9}Z"),
-           "The time of the last change in UTC."))
+    Member("modified", Text(r"[0-9-]{10,20}T[0-9:]{8}[.][0-9]{9}Z"), "The time is in UTC."))
 
 FILE = Record(
     "file", "",
@@ -83,12 +82,12 @@ FAULT = Record(
     Member("file", OneOf("stl", "pes"), "`stl` for the subtitle file, `pes` for the recording."),
     Member("block", Maybe(COUNT), "The number of the TTI block, from 1; 0 means the GSI block."),
     Member("subtitle", Maybe(SUBTITLE),
-           "The subtitle of the block, or the expected subtitle at the frame."),
+           "The subtitle that contains the block, or that is expected in the frame."),
     Member("byte", Maybe(Text(r"[0-9A-F]{2}")), "The refused byte of faults 50 and 51, in "
            "hexadecimal."),
-    Member("character", Maybe(Text()), "The character of this byte."),
+    Member("character", Maybe(Text())),
     Member("text_offset", Maybe(COUNT), "The offset of this byte in the text or, for faults 52 to "
-           "55, the number of the line; both from 0."),
+           "55, the number of the line. Both count from 0."),
     Member("pes", Maybe(COUNT), "The number of the PES packet, from 0 (in a feed: from the start "
            "of the judged part); null if the fault is between PES packets."),
     Member("pes_pts", Maybe(PTS)),
@@ -155,8 +154,8 @@ JUDGED_PART = Record(
     Member("pid", Maybe(PID), getter=lambda of: (of.part.stream or (None, None))[0]),
     Member("packet_size", OneOf(*PACKET_SIZES, None),
            getter=lambda of: (of.part.stream or (None, None))[1]),
-    Member("pes", Maybe(Text(r"[0-9]+-[0-9]+", 40)), "The judged PES packets, as for --pes; null "
-           "if all of a feed was judged.", lambda of: of.part.pes_argument),
+    Member("pes", Maybe(Text(r"[0-9]+-[0-9]+", 40)), "The judged PES packets, in the form that "
+           "`--pes` takes; null if all of a feed was judged.", lambda of: of.part.pes_argument),
     Member("pace", Maybe(Integer(1, MAX_EVERY)),
            getter=lambda of: of.part.request.pace),
     Member("judged_file", Maybe(FILE), "The judged PES packets of a feed."),
@@ -169,10 +168,11 @@ LOSS = Record(
     Member("to", Maybe(TIME), AROUND_LOSS, lambda gap: gap.before),
     Member("from_pts", Maybe(PTS), AROUND_LOSS, lambda gap: gap.place.before),
     Member("to_pts", Maybe(PTS), AROUND_LOSS, lambda gap: gap.place.after),
-    Member("gap_marker", Maybe(COUNT), "The number of the gap marker among the PES packets.",
+    Member("gap_marker", Maybe(COUNT), "The number of the gap marker, counted together with the "
+           "PES packets.",
            lambda gap: gap.place.gap_marker),
-    Member("lost_ts_packets", COUNT, "The continuity counters do not show a loss of 16 packets or "
-           "a multiple of 16.",
+    Member("lost_ts_packets", COUNT, "The number may be too small, since a continuity counter has "
+           "only 4 bits.",
            lambda gap: gap.place.lost),
     Member("scrambled_ts_packets", COUNT, getter=lambda gap: gap.place.scrambled),
     Member("missing_ticks", COUNT, "The length in 90 kHz ticks; 0 if the PCR does not show the "
@@ -186,7 +186,7 @@ WARNING = Record(
         "pts_behind", "pts_early", "pts_changed", "page", "type", "language", "option",
         "character_set", "repeat", "clock_jump", "pause", "blocks", "subtitles", "cut", "hidden")),
     Member("line", Text()),
-    Member("time", Maybe(TIME), "The time of the first occurrence."))
+    Member("time", Maybe(TIME)))
 
 TRUSTED = Record("trusted_frames", "", Member("part", PART),
                  Member("from", TIME), Member("to", TIME, "The last trusted frame."))
@@ -207,7 +207,7 @@ CUE = Record(
            "the page."),
     Member("delay_in", DELAY, "The delay in frames; negative if the in-cue is early."),
     Member("delay_out", DELAY),
-    Member("expected_text", Maybe(Text()), "A slash separates the rows."),
+    Member("expected_text", Maybe(Text())),
     Member("decoded_text", Maybe(Text())),
     Member("verdict", OneOf(RIGHT, WRONG, WAIVED, NOT_KNOWN), "right, wrong, waived (all faults "
            "are warnings) or not known (it could not be judged)."),
@@ -358,7 +358,7 @@ VERDICT = Record(
     Member("reason", Maybe(Text()), "The reason why the pair was not judged.",
            lambda known: known.verdict.unjudged_reason),
     Member("scope", OneOf("transmission", "subtitle file"),
-           "subtitle file if no recording was judged, otherwise transmission.",
+           "`subtitle file` if no recording was judged, otherwise `transmission`.",
            lambda known: "subtitle file" if known.verdict.request.recording is None
            else "transmission"),
     Member("frames", Maybe(COUNT), getter=lambda known: sum_parts(known, "frames")),
@@ -372,13 +372,12 @@ VERDICT = Record(
     Member("inputs", INPUTS, getter=lambda known: known.verdict),
     Member("program", PROGRAM),
     Member("date", DATE, getter=lambda known: known.verdict.date),
-    Member("seconds", Number(MAX_SECONDS), "The duration of judging.",
+    Member("seconds", Number(MAX_SECONDS), "The time that judging took.",
            lambda known: known.verdict.seconds),
-    Member("cause_counts", CAUSE_COUNTS, "The number of causes with each name.",
-           lambda known: count_causes(
-               part.causes for part in known.verdict.parts if part.causes)),
+    Member("cause_counts", CAUSE_COUNTS, getter=lambda known: count_causes(
+        part.causes for part in known.verdict.parts if part.causes)),
     Member("complete_after", Maybe(DELAY_SPREAD),
-           "The number of frames after which subtitles were complete.",
+           "The number of frames from the TCI until a subtitle was complete.",
            lambda known: known.verdict.delays),
     *LISTS,
     Member("omitted", OMITTED),
