@@ -86,7 +86,7 @@ FAULT = Record(
     Member("byte", Maybe(Text(r"[0-9A-F]{2}")), "The refused byte of faults 50 and 51, in "
            "hexadecimal."),
     Member("character", Maybe(Text())),
-    Member("text_offset", Maybe(COUNT), "The offset of this byte in the text or, for faults 52 to "
+    Member("text_offset", Maybe(COUNT), "The offset of `byte` in the text or, for faults 52 to "
            "55, the number of the line. Both count from 0."),
     Member("pes", Maybe(COUNT), "The number of the PES packet, from 0 (in a feed: from the start "
            "of the judged part); null if the fault is between PES packets."),
