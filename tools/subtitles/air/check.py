@@ -1,5 +1,5 @@
-"""Judge a programme from a continuous part of the feed, as `qc STL RECORDING` does. A forked
-process does this, so that after a crash or a hang the programme is judged again."""
+"""Judge a programme from a continuous part of the feed, as `qc STL RECORDING` does. The judging
+runs in a forked process. If that process crashes or hangs, the programme is judged again."""
 from __future__ import annotations
 
 import contextlib
@@ -29,7 +29,7 @@ MIN_SECONDS, BYTES_PER_SECOND = 60.0, 2_000_000  # time limit: 60 s, plus 1 s fo
 WORK = ".work-"  # prefix of the temporary folder in which a programme is judged
 HEAD_FILE = "head.ts"  # file in the temporary folder with the beginning of the recording
 SPARE_BYTES = 1 << 20  # bytes of disk space to leave free
-MAX_PMT_SECONDS = 1.0  # maximum seconds until the next PMT, which is needed to find PES packets
+MAX_PMT_SECONDS = 1.0  # maximum number of seconds between PMTs
 PTS_SECOND = FRAMES_A_SECOND * TICKS
 CORRECT_VERDICTS = {ACCEPTED, WAIVED, RELATIVE}  # verdicts without errors
 # Exit statuses of the judging process besides qc's 0 to 3. FAILED: a system error occurred.
@@ -40,8 +40,8 @@ FAILED, UNFINISHED = 101, 102
 class Outcome(NamedTuple):
     """The outcome of one attempt to judge a programme."""
 
-    result: dict[str, Any] | None  # its JSON result, or `None` after a system error
-    # The system error, the reason why it was not judged, or the line with the verdict
+    result: dict[str, Any] | None  # JSON result of the pair, or `None` after a system error
+    # The system error, the reason why the pair was not judged, or the line with the verdict
     reason: str
     # False if a refusal may only mean that the programme continues after the recorded part
     is_finished: bool = True
@@ -71,9 +71,9 @@ class BeginCheck(NamedTuple):
     count_packets_until: Callable[[float], Mapping[int, int]]
 
     def examine(self, verdict: Verdict) -> None:
-        """Add a note to the verdict if the programme began in time. Raise `Unclear` if the
-        programme began later, or if the pair is refused and the recording may lack the beginning of
-        the programme."""
+        """Add a note to the verdict if the programme began within `margin` seconds of its air time.
+        Raise `Unclear` if it began later, or if the pair is refused and the recording may lack the
+        beginning of the programme."""
         if not verdict.parts or verdict.word == NOT_JUDGED:
             return
         part, words = verdict.parts[0], f"{self.margin:g} s of {single.now(self.air_time)}"
@@ -101,7 +101,7 @@ def begin_number(part: Part) -> int:
 
 
 def count_seconds_before_first(part: Part) -> float:
-    """Return the seconds from the first TCI to the page's first PES packet."""
+    """Return the number of seconds from the first TCI to the first PES packet of the page."""
     recording, alignment = part.judged_recording
     begin = pts_of(alignment.begin, alignment.origin)
     first = next(recording.packets.pts(alignment.packets), begin)
@@ -120,8 +120,8 @@ def exit_status(verdict: Verdict) -> int:
 
 @dataclasses.dataclass
 class Checker:
-    """Judges programmes in a temporary folder `work`. Each attempt uses a new folder in `place`, so
-    that a process left by an earlier run can't interfere. Reports refer to the folder `out`."""
+    """Judges programmes. Each attempt creates a new folder `work` in `place`, so that a process
+    left by an earlier run can't interfere. Reports refer to the folder `out`."""
 
     program: str | None
     program_name: str

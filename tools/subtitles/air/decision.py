@@ -21,7 +21,7 @@ class Window(NamedTuple):
 
     begin: float
     end: float
-    length: float  # duration of its subtitle file in seconds
+    length: float  # duration of the programme's subtitle file in seconds
     margin: float
     more: float = 0.0  # extra seconds for a programme that began in time but has not ended yet
 
@@ -57,7 +57,7 @@ def decide(name: str, outcomes: Sequence[Outcome], gaps: Sequence[str], has_pass
     final_outcome = failed or next((outcome for outcome in outcomes if outcome.is_final), None)
     if final_outcome or not has_passed:
         return final_outcome
-    if outcomes and not gaps:  # the complete window was recorded
+    if outcomes and not gaps:  # the feed was recorded during the whole window
         return outcomes[0]
     gap_text = ", ".join(gaps[:MAX_GAPS]) or "some seconds"
     more = f" and {len(gaps) - MAX_GAPS} more" if len(gaps) > MAX_GAPS else ""
@@ -68,6 +68,6 @@ def decide(name: str, outcomes: Sequence[Outcome], gaps: Sequence[str], has_pass
 
 
 def compute_retry_delay(window: Window, now: float) -> float:
-    """Return the seconds until the next attempt to judge a programme that may still be on air. The
-    time since its scheduled end doubles with each attempt, until the window has passed."""
+    """Return the seconds until the next attempt to judge a programme that may still be on air. Each
+    attempt doubles the time since the scheduled end, until the search window has passed."""
     return min(max(now - window.end, RECORDER_LAG), max(window.last + RECORDER_LAG - now, 0.0))

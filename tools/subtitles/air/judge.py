@@ -23,7 +23,7 @@ from .state import Monitor, write_state
 
 # minimum and maximum delay in seconds after a system error
 RETRY_SECONDS, MAX_RETRY_SECONDS = 2.0, 60.0
-SHARE = 10  # failing programmes get at most a tenth of the time
+SHARE = 10  # failing programmes get at most a tenth of the judging time
 HOOK_SECONDS = 10  # time limit of the command of --on-result
 
 
@@ -93,7 +93,7 @@ class Judge:
                 return False
             outcome = self.judge(programme, window, now)
             if outcome and outcome.result and not outcome.is_finished:
-                window = window._replace(more=window.length)  # breaks may delay its end
+                window = window._replace(more=window.length)  # breaks may delay the programme's end
                 outcome = self.judge(programme, window, now)
             if outcome is None:
                 attempts.next = now + compute_retry_delay(window, now)
@@ -107,7 +107,7 @@ class Judge:
 
     def window(self, programme: Programme) -> Window:
         """Return the window in which to search for a programme. Its length is 0 if the subtitle
-        file is missing. An END earlier than the end of the subtitle file is ignored."""
+        file is missing. A scheduled end before the end of the subtitle file is ignored."""
         length = 0.0
         with contextlib.suppress(OSError):
             length = measure_length(programme.request)
@@ -143,7 +143,7 @@ class Judge:
         self.monitor.last_error = f"{programme.name}: {reason}"
 
     def publish(self, name: str, outcome: Outcome) -> None:
-        """Store the result files, the JSON result last, since it marks the programme as judged."""
+        """Store the result files. The JSON result comes last, since it marks the end of judging."""
         assert outcome.result is not None
         work, main = self.checker.work, name + ENDING
         files = sorted(os.listdir(work)) if "request" in outcome.result else []
@@ -170,7 +170,7 @@ class Judge:
 
 
 def judge_schedule(args: argparse.Namespace, program_name: str) -> int:
-    """Judge the programmes of a schedule, once or until a signal. Return the exit status."""
+    """Judge a schedule's programmes, once or until a signal arrives. Return the exit status."""
     handle_signals()
     os.makedirs(args.work or args.out, exist_ok=True)
     with hold_lock(args.out, "air", "another run of air is judging into "):

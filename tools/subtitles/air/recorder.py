@@ -14,7 +14,7 @@ from ..cli.single import hold_lock
 from ..common.command_line import print_stderr
 from .segments import list_segment_names, make_segment_name
 
-MAX_READ_BYTES = 1 << 18  # maximum bytes per read
+MAX_READ_BYTES = 1 << 18  # maximum number of bytes per read
 PIPE_SIZE = 1 << 20  # pipe buffer in bytes: 0.2 seconds at 40 Mbit/s
 # Seconds between writes to a full disk, and seconds after which unwritten bytes are dropped.
 WRITE_RETRY, WRITE_PATIENCE = 0.1, 5.0
@@ -37,7 +37,7 @@ class Recorder:
         self.folder, self.limits = folder, limits
         self.file: int | None = None
         self.is_new = True  # data before the next segment may be missing
-        self.segment_begin = self.latest = 0.0  # start of the segment, by the clock and by its name
+        self.segment_begin = self.latest = 0.0  # segment start: real time, and time in its name
 
     def take(self, data: bytes) -> None:
         """Write bytes. If the disk is full, delete the oldest segments. Bytes that still can't be
@@ -116,7 +116,7 @@ def store_and_close(file: int) -> None:
 
 def record(source: int, folder: str, limits: Limits) -> None:
     """Record a feed until it ends."""
-    with contextlib.suppress(OSError):  # not a pipe
+    with contextlib.suppress(OSError):  # the source may not be a pipe
         fcntl.fcntl(source, getattr(fcntl, "F_SETPIPE_SZ", 1031), PIPE_SIZE)
     with hold_lock(folder, "recorder", "another feed is being recorded in "):
         recorder = Recorder(folder, limits)

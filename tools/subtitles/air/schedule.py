@@ -110,15 +110,14 @@ def parse_line(line: Line, folder: str, options: argparse.Namespace) -> Programm
 
 
 def measure_length(request: Request) -> float:
-    """Return the seconds from the first TCI to the last TCO. Return 0 if the subtitle file can't be
-    read, since `check` will refuse it. Raise `OSError` if there is no such file."""
+    """Return the number of seconds from the first TCI to the last TCO. Return 0 if the subtitle
+    file can't be read, since `check` will refuse it. Raise `OSError` if there is no such file."""
     info = os.stat(request.stl)
     return measure_cached_length(request.stl, info.st_mtime_ns, info.st_size, request.between)
 
 
 @functools.lru_cache(maxsize=10_000)
 def measure_cached_length(path: str, _modified: int, _size: int, between: FrameRange) -> float:
-    """Return the length of a subtitle file in seconds, cached until the file changes."""
     times = list[tuple[int, int]]()
     with contextlib.suppress(DamagedFile, Stop):
         for subtitle in read_stored_subtitles(read_stl(path)):

@@ -16,7 +16,7 @@ from ..common.times import subtract_pts
 # Names such as 20261129T201500.250Z.ts, news-20261129-201500.ts, feed_2026-11-29_20-15-00.ts.
 NAME = re.compile(r"(?:.*\D)?(\d{4})-?(\d\d)-?(\d\d)[T_-]?(\d\d)[-.:]?(\d\d)[-.:]?(\d\d)"
                   r"(\.\d{1,6})?Z?(?:-new)?\.(?:ts|m2ts|mts|trp)", re.ASCII | re.DOTALL)
-NEW = "-new.ts"  # end of a segment's name if data before the segment may be missing
+NEW = "-new.ts"  # suffix of a segment's name if data before the segment may be missing
 BLOCK = 1 << 19  # bytes per read, and bytes to compare on each side of a segment boundary
 PACKET_SIZES, SYNC = (188, 192, 204), 0x47
 MIN_SYNC_PACKETS = 5  # number of sync bytes needed to find where TS packets begin
@@ -41,7 +41,7 @@ class Segment(NamedTuple):
 
 
 def make_segment_name(time: float, is_new: bool = False) -> str:
-    """Return the name of a segment that begins at a time."""
+    """Return the name of a segment that begins at `time`, in seconds since the epoch."""
     date = datetime.datetime.fromtimestamp(round(time, 3), datetime.timezone.utc)
     return f"{date:%Y%m%dT%H%M%S}.{date.microsecond // 1000:03}Z{NEW if is_new else '.ts'}"
 
@@ -102,7 +102,7 @@ class UnbrokenRun(NamedTuple):
 
     def read(self, begin: float, end: float) -> Iterator[bytes]:
         """Yield the bytes between two times. Skip the first byte if the data begins like a PES
-        packet, since the copy would then be read as PES packets instead of TS packets."""
+        packet, since the program would otherwise read the bytes as a PES file."""
         data = (block for segment in self.segments if segment.begin < end and segment.end > begin
                 for block in read_range(segment.path, segment.find_offset(begin),
                                         segment.find_offset(end)))
@@ -168,7 +168,7 @@ def find_unbroken_runs(segments: Iterable[Segment], longest_pause: float) -> Ite
     """Divide segments into continuous parts of the feed. A part ends where TS packets are missing.
     It also ends where a segment's name or a pause of more than `longest_pause` seconds shows a gap,
     unless the TS packets clearly continue. If only the TS packets show the gap, the segment before
-    it was cut, and is omitted."""
+    the gap is incomplete, and is omitted."""
     stretch = list[Segment]()
     for segment in segments:
         is_continuation = is_continued(stretch[-1], segment) if stretch else None

@@ -89,7 +89,7 @@ def format_date_or_none(time: float) -> str | None:
 
 
 def count_free_bytes(folder: str) -> int:
-    """Return the free disk space of a folder in bytes, or 0 if the folder does not exist."""
+    """Return the number of free bytes on the disk of a folder, or 0 if there is no such folder."""
     with contextlib.suppress(OSError):
         info = os.statvfs(folder)
         return info.f_bavail * info.f_frsize

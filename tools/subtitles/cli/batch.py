@@ -1,4 +1,4 @@
-"""Judge the pairs of a folder, a list, or a watched folder, each in its own process."""
+"""Judge the pairs of a folder, list or watched folder. A separate process judges each pair."""
 from __future__ import annotations
 
 import argparse
@@ -146,7 +146,7 @@ def run_and_exit(function: Callable[[], int], errors_file: int, pipe_end: int) -
         finally:
             os._exit(status)
     finally:
-        os._exit(2)  # if a signal interrupted the inner block
+        os._exit(2)  # reached only if a signal interrupted the inner block
 
 
 def redirect_files(errors_file: int, pipe_end: int) -> None:
@@ -173,12 +173,12 @@ def wait_for_any(calls: Collection[ForkedProcess], seconds: float) -> list[Forke
 
 POLL_SECONDS = 0.2
 MIN_SECONDS, BYTES_PER_SECOND = 60, 10_000_000
-GRACE_SECONDS = 10  # seconds from SIGTERM to SIGKILL, so that a process can write its result
+GRACE_SECONDS = 10  # seconds between SIGTERM and SIGKILL, in which a process can write its result
 
 
 def compute_default_limit(files: Mapping[str, Any]) -> int:
-    """Return the CPU time limit of a pair in seconds, from the sizes of its files. RLIMIT_CPU would
-    not show which limit ended a program."""
+    """Return the CPU time limit of a pair in seconds, computed from the sizes of its files. qc does
+    not use RLIMIT_CPU, since RLIMIT_CPU would not show which limit ended a program."""
     size: int = sum(info["size"] for info in files.values() if info)
     return MIN_SECONDS + size // BYTES_PER_SECOND
 
@@ -215,8 +215,8 @@ class PairRunner:
         return os.path.join(self.out or self.folder, item.name + ENDING)
 
     def start(self, item: BatchItem) -> Row | None:
-        """Start judging a pair. Return its row at once if the pair can't be judged: its results
-        would replace input files or foreign files, or another run of qc is writing them."""
+        """Start judging a pair. If its results would replace input files or files that qc did not
+        write, or if another run of qc is writing them, return the table row of the pair at once."""
         self.unwritten_results.pop(item.name, None)
         self.names_in_use.discard(item.name)
         pair_lock = contextlib.ExitStack()
@@ -336,7 +336,7 @@ def judge_batch(args: argparse.Namespace, program_name: str) -> int:
 
 
 def read_resumed_rows(calls: PairRunner, items: list[BatchItem]) -> dict[str, Row]:
-    """Return the rows of the pairs whose earlier results are up to date."""
+    """Return the table row of each pair whose earlier result is up to date."""
     program, rows = describe_program(calls.command_paths.program_path), {}
     for item in items:
         path = calls.get_result_path(item)
@@ -392,7 +392,7 @@ def judge_next_items(calls: PairRunner, waiting: collections.deque[BatchItem],
 # A watched folder is judged like a batch that is resumed repeatedly. A pair is judged when both of
 # its files are complete.
 
-SCAN_SECONDS = 1.0  # between scans; notifications would miss files written by other machines
+SCAN_SECONDS = 1.0  # seconds between scans; notifications would miss files from other machines
 DONE_SUFFIX = ".done"  # suffix of a file that marks both files of a pair as complete
 
 
@@ -414,8 +414,8 @@ class FolderWatch:
         self.handled_states: dict[str, object] = {}
 
     def find_ready_items(self, items: Iterable[BatchItem]) -> list[BatchItem]:
-        """Return the complete pairs that are new or changed. If files are not a valid pair, print
-        the reason once."""
+        """Return the complete pairs that are new or changed. If files do not form a valid pair,
+        print the reason once."""
         now, ready = time.monotonic(), []
         for item in items:
             file_state = describe_inputs(item.request) if item.request else item.reason
@@ -454,8 +454,8 @@ def refuse_folders(args: argparse.Namespace) -> None:
 
 
 def watch(args: argparse.Namespace, program_name: str) -> int:
-    """Judge pairs as they arrive, until a signal. Return status 2. Pairs that were being judged at
-    the signal have no result, and are judged after a restart."""
+    """Judge pairs as they arrive, until a signal is received. Return status 2. A pair that was
+    being judged at that time has no result, and is judged after a restart."""
     refuse_folders(args)
     command_paths = CommandPaths(program_name, args.program)
     calls = PairRunner(command_paths, args.out, args.out, args.is_kept, args.limit)

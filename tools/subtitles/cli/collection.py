@@ -92,7 +92,7 @@ def make_index_page(folder: str, rows: Sequence[Row], date: str) -> bytes:
 
 
 def make_cause_totals(rows: Sequence[Row]) -> Markup:
-    """Return a paragraph with the totals for each cause: its subtitles or faults, and its pairs."""
+    """Return a paragraph with the number of subtitles or faults and of pairs for each cause."""
     causes, pairs = collections.Counter[str](), collections.Counter[str]()
     for row in rows:
         causes.update(row.causes)
@@ -165,9 +165,9 @@ def collect(args: argparse.Namespace) -> int:
 
 def write_collection(args: argparse.Namespace, rows: Sequence[Row], sources: Sequence[ResultSource],
                      is_stopped: bool = False, folder: str | None = None) -> int:
-    """Write the page and the output files, and print the table. Return the exit status, which is 2
-    if pairs are missing or a file could not be written. The JSON file is written last, since it
-    contains the status."""
+    """Write the index page and the output files, and print the table of results. Return the exit
+    status, which is 2 if pairs are missing or a file could not be written. The JSON file is written
+    last, since it contains the status."""
     date, failed = now(), list[str]()
 
     def status() -> int:
@@ -219,7 +219,7 @@ class FolderRows:
                                          if key in result}
 
     def add(self, row: Row) -> None:
-        """Print the verdict on a pair, and add its row to the page."""
+        """Print the verdict on a pair, and add its row to the index page."""
         self.rows[row.name], self.is_page_outdated = row, True
         line = worst_fault(row)
         time_text = time.strftime("%Y-%m-%d %H:%M:%S")
@@ -241,8 +241,8 @@ class FolderRows:
 
 def refuse_output_names(args: argparse.Namespace, inputs: Inputs = NO_INPUTS,
                         folder: str | None = None) -> None:
-    """Raise `Stop` if an output file can't be written or is an input, or if the index page or lock
-    file of `folder` would replace such a file."""
+    """Raise `Stop` if an output file can't be written. Also raise it if an output file, or the
+    index page or lock file of `folder`, would replace an input file."""
     for path in (args.json, args.csv, args.junit):
         if path is not None:
             refuse_output_name(path)
@@ -290,7 +290,7 @@ def format_progress(rows: dict[str, Row], count: int, kept_count: int, start_tim
 
 
 def worst_fault(row: Row) -> str:
-    """Describe the worst fault of a pair with its hint, or why the pair was not judged."""
+    """Return the worst fault of a pair and its hint, or the reason why the pair was not judged."""
     if row.verdict == ACCEPTED or not row.line:
         return ""
     if row.verdict == RELATIVE and not row.faults:

@@ -135,7 +135,7 @@ def main(text: str, program_name: str, line: list[str]) -> int:
 
 
 def write_unjudged(name: str, paths: dict[str, str | None], reason: str) -> None:
-    """Write each requested file with a result `not judged`."""
+    """Write each requested output file with the verdict `not judged`."""
     result = files.make_unjudged(name, reason)
     for option, path in paths.items():
         with contextlib.suppress(Stop, OSError):

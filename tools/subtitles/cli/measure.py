@@ -46,7 +46,7 @@ GOOD_STATUSES = {0, 3}  # exit statuses for the verdicts accepted and relative
 
 
 class Finding(NamedTuple):
-    """A proposed option, or an empty string, and lines with the evidence."""
+    """The proposed option (empty if there is none), and lines with the evidence."""
 
     text: str
     lines: Sequence[str]
@@ -59,8 +59,8 @@ class Finding(NamedTuple):
 
 
 class ReceivedSubtitle(NamedTuple):
-    """A subtitle of the file `stl`, and the page with the subtitle's text that was sent while the
-    subtitle was expected."""
+    """A subtitle of the file `stl`, and the page that was sent with the text of the subtitle at the
+    expected time."""
 
     stl: str
     subtitle: Subtitle
@@ -193,9 +193,9 @@ def find_text_end(held: Timeline, subtitle: Subtitle, letters: bytes, first: int
 
 def propose_lateness(several: Sequence[Delays], names_without_clock: Sequence[str],
                off_frame: tuple[int, int] = (0, 0)) -> Iterator[Finding]:
-    """Propose --within and --late from the recordings whose clock was given. `names_without_clock`
-    are the recordings without a clock. `off_frame` has the number of PTS that are not at the start
-    of a frame, and the number of all PTS. If such PTS are not rare, --within is at least 1."""
+    """Propose --within and --late from the recordings with a given clock. `off_frame` gives the
+    number of PTS that are not at the start of a frame, and the number of all PTS. Propose --within
+    1 or more unless PTS off the frame start are rare."""
     off, count = off_frame
     least = int(off * RARE_SHARE >= count > 0)
     lines = [f"within: {off} of {count} PTS differ from their frames, which check "
@@ -291,8 +291,8 @@ def propose_layout(sendings: Sequence[ReceivedSubtitle], option: NationalOption)
 
 
 def list_omitted_items(choice: LayoutChoice) -> list[str]:
-    """Return a line for each item with which more subtitles would be drawn as sent. The line has
-    the reason why the item is not proposed."""
+    """Return a line for each item that the proposed layout omits. The line says how many more
+    subtitles the layout would draw exactly as sent with the item, and why the item is omitted."""
     return [f"{left.text} would draw {left.more} more of {choice.total}: "
             f"{explain_omission(left.whole)}" for left in choice.left]
 
@@ -353,7 +353,7 @@ KINDS: Sequence[tuple[str, Callable[[SentSubtitle, LayoutChoice, NationalOption]
 def find_decoded_subtitles(stl: str, subtitles: Iterable[Subtitle], held: Timeline,
                            option: NationalOption) \
         -> list[ReceivedSubtitle]:
-    """Return the subtitles whose text was decoded at their time, each with the decoded page."""
+    """Return each subtitle whose text was decoded while it was expected, with the decoded page."""
     return [ReceivedSubtitle(stl, subtitle, sent) for subtitle in subtitles
             for sent in find_sent_subtitles([subtitle], held, option)]
 
@@ -396,11 +396,11 @@ class MeasuredRecording(NamedTuple):
     """Measurements of one recording."""
 
     pid: str | None
-    lines: Sequence[str]  # explain the choice of the PID
-    repeats: Sequence[Repeats]  # intervals of page headers
-    paces: Sequence[Pace]  # intervals of PES packets
+    lines: Sequence[str]  # reasons for the choice of the PID
+    repeats: Sequence[Repeats]  # intervals between page headers
+    paces: Sequence[Pace]  # intervals between PES packets
     delays: Sequence[Delays]
-    headers: tuple[int, int]  # number of all headers, and of headers that keep the page
+    headers: tuple[int, int]  # number of all headers, and of headers that do not erase the page
     is_alone: bool  # whether no header has a wrong control bit other than C4
     options: set[str]
     sendings: Sequence[ReceivedSubtitle]

@@ -118,8 +118,8 @@ def lock_folder(folder: str | None) -> contextlib.AbstractContextManager[None]:
 
 @contextlib.contextmanager
 def hold_lock(folder: str | None, name: str, refusal: str) -> Iterator[None]:
-    """Create a folder unless it is `None`, and hold a lock in it. Raise `FilesInUse` with the
-    message `refusal` if another process holds the lock."""
+    """If `folder` is not `None`, create the folder and hold a lock in it. Raise `FilesInUse` with
+    the message `refusal` if another process holds the lock."""
     if folder is None:
         yield
         return
@@ -186,7 +186,7 @@ class PairOptions(NamedTuple):
     csv: str | None = None
     junit: str | None = None
     name: str | None = None  # overrides the name from the subtitle file
-    staging_folder: str | None = None  # where to write files that the caller moves later
+    staging_folder: str | None = None  # folder for files that the caller moves later
     is_claimed: bool = False  # whether the caller has locked the files
     is_quiet: bool = False
     # Called with the verdict before it is written. If it raises `Unclear`, the pair is not judged.
@@ -345,8 +345,8 @@ def print_verdict(verdict: Verdict, printer: Printer, page: str | None = None) -
 
 
 def format_reference(verdict: Verdict, page: str | None) -> str:
-    """Return a sentence that refers the reader of a refusal to the report, or else to the manual's
-    text about the first reported number."""
+    """Return a sentence that refers the reader to the report or, if there is no report, to the
+    manual's section about the worst fault. Return an empty string if there is no fault."""
     if verdict.word == ACCEPTED or verdict.word == RELATIVE and not verdict.fault_count:
         return ""
     if page:
@@ -362,13 +362,13 @@ class Output(NamedTuple):
 
     path: str
     make_chunks: Callable[[], Iterator[bytes]]
-    is_result: bool = False  # whether it is in the output folder
+    is_result: bool = False  # whether the file is in the output folder
     is_json: bool = False
-    is_raw: bool = False  # whether it does not contain the verdict
+    is_raw: bool = False  # whether the file lacks the verdict
 
     @property
     def is_replaced(self) -> bool:
-        """Return whether the output can be replaced, so that it can be written again."""
+        """Return whether the file can be written again. A pipe or a device can't."""
         return self.is_result or is_replaced(self.path)
 
 
@@ -392,9 +392,9 @@ class OutputFiles:
         return bool(self.call.out or self.call.json or self.call.csv)
 
     def write(self, recording: Recording | None = None) -> None:
-        """Write all outputs. If an output can't be written, the verdict becomes `not judged`, and
-        earlier outputs are written again if possible. The JSON result in the folder is written
-        last, except for outputs that are written again."""
+        """Write all outputs. If an output can't be written, change the verdict to `not judged`, and
+        write the earlier outputs again if possible. Until then the JSON result in the output folder
+        comes last."""
         for output in sorted(self.list_outputs(recording), key=lambda item: not item.is_replaced):
             self.find_changes()
             if self.try_to_write(output):
@@ -497,5 +497,5 @@ def encode_text(text: str) -> bytes:
 
 
 def make_pair_title(request: Request) -> str:
-    """Return the title of a pair in tables, which consists of the names of its files."""
+    """Return the title that tables show for a pair: the names of its files."""
     return " ".join([request.stl, *([request.recording] if request.recording else [])])

@@ -46,8 +46,8 @@ def version() -> str:
 
 
 class ToolParser(argparse.ArgumentParser):
-    """An argument parser that raises `Stop` for wrong arguments. Its help begins with `text`. If
-    `text` is `None`, as for a line of a list, there is no --help."""
+    """An argument parser that raises `Stop` for wrong arguments. `text` is the beginning of its
+    help. The parser for a line of a list has no `text` and no --help."""
 
     def __init__(self, text: str | None) -> None:
         self.fields: dict[str, str] = {}  # names of the fields, by option
@@ -110,7 +110,7 @@ def parse_page(text: str) -> tuple[int, int]:
 
 
 def parse_time(text: str) -> int:
-    """Parse a time of day HH:MM:SS:FF. Return its frame."""
+    """Parse a time of day HH:MM:SS:FF and return its frame number."""
     frame = parse_frame(text)
     if frame is None:
         raise argparse.ArgumentTypeError(
@@ -134,7 +134,7 @@ def parse_origin(text: str) -> int:
 
 
 def parse_packet_range(text: str) -> tuple[int, int]:
-    """Parse a range of PES packets such as 0-99. Return the numbers of the first and the last."""
+    """Parse a range of PES packets such as 0-99. Return its first and last packet number."""
     found = re.fullmatch(r"(\d{1,12})-(\d{1,12})", text, re.ASCII)
     if not found or int(found[1]) > int(found[2]):
         raise argparse.ArgumentTypeError(f"{text} is not a range of PES packets: give it as 0-99")
@@ -173,7 +173,7 @@ def parse_start(text: str) -> str:
 
 
 def parse_pid(text: str) -> int:
-    """Parse a PID in decimal, or in hexadecimal as 0x101."""
+    """Parse a PID given in decimal or in hexadecimal, such as 0x101."""
     try:
         pid = int(text, 0)
     except ValueError:
@@ -214,7 +214,7 @@ class Lateness(NamedTuple):
 
 
 def parse_lateness(text: str) -> Lateness:
-    """Parse a value of --late such as `0:31,1:40/0:100`: in-cues, then out-cues."""
+    """Parse a value of --late such as `0:31,1:40/0:100`. The slash precedes the out-cues."""
     kinds = text.split("/")
     if len(kinds) != 2:
         raise argparse.ArgumentTypeError(
@@ -258,7 +258,7 @@ def add_program(parser: ToolParser) -> None:
 
 
 def add_verbose(parser: ToolParser) -> None:
-    """Add the option -v, which prints a line for each test, also if it passed."""
+    """Add the option -v, which prints a line for each test, even if it passed."""
     parser.add_argument("-v", dest="is_verbose", action="store_true",
                         help="print a line for each, also if it passed")
 
@@ -312,7 +312,7 @@ def print_stderr(line: str) -> None:
     """Print a line on standard error, after all earlier output. Ignore errors, since standard error
     may be closed or on a full disk."""
     with contextlib.suppress(OSError, AttributeError):  # standard output is closed
-        sys.stdout.flush()  # `run_main` reports an error
+        sys.stdout.flush()  # if this fails, `run_main` reports the error
     try:
         sys.stderr.write(f"{os.path.basename(sys.argv[0])}: {escape_hidden(line)}\n")
         sys.stderr.flush()
@@ -323,7 +323,7 @@ def print_stderr(line: str) -> None:
 def run(main: Callable[[list[str]], int]) -> NoReturn:
     """Call `main` with the command-line arguments and exit with its status."""
     status = 2
-    with contextlib.suppress(KeyboardInterrupt):  # from a second signal
+    with contextlib.suppress(KeyboardInterrupt):  # a second signal may raise it
         status = run_main(main, sys.argv[1:])
         signal.signal(signal.SIGINT, signal.SIG_IGN)  # a signal must not change the exit status
     sys.exit(status)
@@ -338,7 +338,7 @@ def run_main(main: Callable[[list[str]], int], words: Sequence[str]) -> int:
         sys.stdout.flush()
     except (Exception, KeyboardInterrupt) as reason:
         status = 2
-        with contextlib.suppress(KeyboardInterrupt):  # from a second signal
+        with contextlib.suppress(KeyboardInterrupt):  # a second signal may raise it
             print_stderr(format_error(reason))
         with contextlib.suppress(KeyboardInterrupt):
             discard_output(sys.stdout)

@@ -85,9 +85,9 @@ def describe_kind(mode: int) -> str | None:
 
 
 class File(Input):
-    """A regular file to read, or a pipe if that is allowed. Anything else is refused. The file is
-    opened without blocking and then checked, since its name may come to refer to another file at
-    any time. If it is a pipe, wait until a program writes to it."""
+    """A regular file to read, or a pipe if that is allowed. Other kinds of files are refused. The
+    file is opened without blocking and checked afterwards, because another file can take its name
+    at any time. If the file is a pipe, wait until a program writes to it."""
 
     def __init__(self, name: str, may_be_pipe: bool = False, is_followed: bool = True) -> None:
         self.flags = os.O_RDONLY | os.O_NONBLOCK | os.O_NOCTTY | os.O_CLOEXEC

@@ -18,7 +18,7 @@ TOP = os.path.realpath(os.path.join(os.path.dirname(__file__), "..", "..", "..")
 
 
 def sources() -> str:
-    """Return the checksum line of the program's sources from `tools/sources`."""
+    """Return the line in which `tools/sources` prints the checksum of the program's sources."""
     process = subprocess.run([os.path.join(TOP, "tools", "sources")], stdin=subprocess.DEVNULL,
                              stdout=subprocess.PIPE, check=False)
     if process.returncode:
@@ -46,7 +46,7 @@ def find_built_program(path: str | None = None) -> str:
 
 
 def resolve_script(path: str) -> str:
-    """Return the program that the script ./subttx of a repository runs; otherwise return `path`."""
+    """Return the program that a script ./subttx at `path` runs, or `path` for another file."""
     top = os.path.dirname(os.path.realpath(path))
     with open(path, "rb") as file:
         is_script = file.read(2) == b"#!"
@@ -63,7 +63,7 @@ def read(path: str) -> str | None:
         return file.read()
 
 
-PROVED = "PROVED"  # file next to the program, or in the folder above if it is installed
+PROVED = "PROVED"  # file next to the program, or in the folder above if the program is installed
 PROVED_LINE = re.compile(r"crate subttx \S+ (logic=proved .*)")
 
 

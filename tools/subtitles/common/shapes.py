@@ -35,7 +35,7 @@ class Shape:
         return iter(())
 
     def make_reference(self) -> Schema:
-        """Return a schema that refers to this type, or its own schema if it has no name."""
+        """Return a schema that refers to this type, or the type's schema if it has no name."""
         return {"$ref": f"#/definitions/{self.name}"} if self.name else self.schema()
 
 
@@ -160,8 +160,8 @@ class ListOf(Shape):
 
 
 class Member(NamedTuple):
-    """A member of a JSON object: its name, type and meaning. `getter` extracts the member from the
-    object to write. By default it is the attribute or item of the same name."""
+    """A member of a JSON object: its name, type and meaning. `getter` returns the member's value
+    from the object to write. By default the value is the attribute or item of the same name."""
 
     name: str
     shape: Shape
@@ -225,12 +225,12 @@ class Record(Shape):
 
 
 class Rules(NamedTuple):
-    """Alternative types for some members of an object, of which at least one must fit."""
+    """Rows of types for some members of an object. A valid object matches at least one row."""
 
     rows: Sequence[dict[str, Shape | Rules]]
 
     def find_misfit(self, value: Any) -> str | None:
-        """Return `None` if any of the rows fits, else the path of the first member in `rows`."""
+        """Return `None` if the value matches any row, else the path of the first row's member."""
         is_valid = any(all(shape.find_misfit(value[name]) is None for name, shape in row.items())
                        for row in self.rows)
         return None if is_valid else f".{next(iter(self.rows[0]))}"
@@ -248,7 +248,7 @@ def make_named_shape(name: str, shape: Shape, meaning: str = "") -> Shape:
 
 
 def make_definitions(shapes: Sequence[Shape]) -> Schema:
-    """Return the schemas of all named types among `shapes` and the types that they contain."""
+    """Return the schemas of the named types in `shapes`, and of all named types inside them."""
     known: Schema = {}
     waiting = [*shapes]
     while waiting:

@@ -18,7 +18,7 @@ FRAMES_OF_A_DAY = 2_160_000
 CLOCK = 2**33  # number of ticks after which a PTS of 33 bits wraps around
 TICKS = 3600  # 90 kHz ticks in a frame
 NO_FRAME = -1  # result for a PTS that belongs to no frame; less than every frame
-EARLY_TICKS = TICKS // 4  # maximum ticks by which a PTS may be early, with --within 1 or more
+EARLY_TICKS = TICKS // 4  # number of ticks by which a PTS may be early unless --within is 0
 
 
 class FrameRange(NamedTuple):
@@ -85,9 +85,9 @@ def subtract_pts(first: int, second: int) -> int:
 
 
 def subtract_pts_within(first: int, length: int, pts: int) -> int:
-    """Return the ticks from the PTS `first` to another PTS, or a negative number if that is
-    earlier. A PTS up to `length` ticks after `first` is later, even if that is more than half of
-    the clock's range."""
+    """Return the number of ticks from the PTS `first` to `pts`, negative if `pts` is earlier. A PTS
+    up to `length` ticks after `first` counts as later, even if `length` is more than half of the
+    clock's range."""
     before = (CLOCK - length) // 2
     return wrap_pts(pts - first + before) - before
 
@@ -104,8 +104,8 @@ def pts_of(frame: int, origin: int) -> int:
 
 
 def compute_frame(pts: int, origin: int, within: int = 0) -> int:
-    """Return the frame of the day that contains a PTS, even after the end of the day. `origin` is
-    the PTS of frame 0. If `within` is not 0, frames begin a quarter of a frame earlier."""
+    """Return the number of the frame that contains a PTS. `origin` is the PTS of frame 0. The
+    number may exceed a day. If `within` is not 0, frames begin a quarter of a frame earlier."""
     return wrap_pts(pts - origin + EARLY_TICKS * (within > 0)) // TICKS
 
 
@@ -162,7 +162,7 @@ def count_until(items: Sequence[Item], is_later: Callable[[Item], bool]) -> int:
 
 
 class Span(NamedTuple):
-    """The numbers of the first and the last of some consecutive frames or PES packets."""
+    """A range of consecutive frames or PES packets: its first and last number."""
 
     first: int
     last: int

@@ -1,6 +1,6 @@
-"""Layouts of `--layout TEXT`: how an inserter draws a subtitle's text in rows of a page.
+"""Layouts of `--layout TEXT`: how an inserter places a subtitle's text in rows of a page.
 
-These functions are used to search for a layout. The verdict depends only on the program's drawing.
+qc uses these functions to search for a layout. To judge, `check` computes the rows itself.
 """
 from __future__ import annotations
 
@@ -202,7 +202,7 @@ def prepare_line(cells: bytes, layout: Layout) -> bytes:
 
 
 def find_start_column(cells: bytes, justify: int, layout: Layout) -> int:
-    """Return the start column of a line of 1 to 40 cells. It may be outside the row."""
+    """Return the start column of a line of 1 to 40 cells. The column may lie outside the row."""
     skipped, width = 0, len(cells)
     if layout.text:
         skipped, width = count_leading_codes(cells), len(cells.strip(CODES))
@@ -220,7 +220,7 @@ def find_column(cells: bytes, justify: int, layout: Layout) -> int:
 
 
 def assign_rows(lines: Sequence[bytes], first: int, layout: Layout) -> list[int]:
-    """Return the row of each prepared line. `first` is the vertical position (VP)."""
+    """Return the row of each line of a subtitle. `first` is the vertical position (VP)."""
     places, place = [], 0
     for number, line in enumerate(lines):
         places.append(place if layout.pack else number)

@@ -33,10 +33,10 @@ EMPTY = 60  # there is no PES packet
 DISPLAY = 13  # fault of the display standard code (DSC)
 EMPTY_TIME, OUT_OF_ORDER = 21, 56  # empty or decreasing times in a subtitle file
 OFF_FRAME, GAP = 61, 73
-# Fault of frames next to refused subtitles, where the expected page is unknown
+# Number of the fault in frames next to refused subtitles, where the expected page is unknown
 UNDECIDED = 78
 STL_FAULTS = {*range(10, 26), *range(50, 58)}
-SKIPPED_PACKETS = {*range(33, 41), 45, 61}  # PES packets that are unreadable or have no frame
+SKIPPED_PACKETS = {*range(33, 41), 45, 61}  # faults of unreadable packets, or without a frame
 ENDS_READING = {30, 31, 32, 44}  # faults after which `check` stops reading the recording
 # Faults after which `check` stops reading the subtitle file
 ENDS_FILE = {*range(10, 16), 17, *range(22, 26)}
@@ -67,7 +67,7 @@ class FaultLine(NamedTuple):
 
     @property
     def frame(self) -> int | None:
-        """Return the frame of the time in the line, or `None` if there is no time."""
+        """Return the frame number of the line's time, or `None` if the line has no time."""
         frame: int | None = parse_frame(self.time) if self.time else None
         return frame
 
@@ -120,7 +120,7 @@ def parse_trusted_line(line: str) -> Trusted | None:
 
 
 def parse_count_line(line: str) -> int | None:
-    """Parse the last line of a list, which has the number of faults."""
+    """Return the number of faults from the last line of a list, or `None` for any other line."""
     match = COUNT.fullmatch(line)
     return int(match[1]) if match else None
 
@@ -153,7 +153,7 @@ def parse_place_time(time: str) -> int:
 # Faults that only qc finds. They have names instead of numbers.
 
 NEVER_SENT = "never sent"  # the PMT announces the page, but it was not sent
-PICTURES_LEFT = "pictures left"  # the video PTS jump, but not the subtitle PTS
+PICTURES_LEFT = "pictures left"  # the video PTS jump, but the subtitle PTS do not
 NOT_SHOWN = "not shown"  # no receiver shows a row of a subtitle
 FAULT_NAMES = (NEVER_SENT, PICTURES_LEFT, NOT_SHOWN)
 
@@ -204,7 +204,7 @@ def read_meanings() -> dict[int, Meaning]:
 
 
 def read_named_meanings() -> dict[str, Meaning]:
-    """Return the descriptions of faults without a number in the manual, by fault name."""
+    """Return the manual's descriptions of the faults that have no number, by fault name."""
     meaning_by_name: dict[str, Meaning] = {}
     if not os.path.isfile(REFUSALS_PATH):
         return meaning_by_name

@@ -19,7 +19,7 @@ from .teletext import ACCENTS, OPTION_BY_WORD, encode_line, decode_text
 
 GSI, TTI, TEXT = 1024, 128, 112  # sizes of the blocks and of a TTI block's text field
 USER_DATA, LAST_BLOCK = 0xFE, 0xFF  # extension block numbers (EBN)
-MAX_STL = GSI + TTI * 99_999 + 1  # in bytes; `check` refuses a larger file
+MAX_STL = GSI + TTI * 99_999 + 1  # number of bytes to read; `check` refuses such a file
 UNUSED, NEW_LINE = b"\x8f", b"\x8a"
 LAST_CONTINUED = 0xEF  # the highest EBN of a block that is not the last of its subtitle
 
@@ -107,8 +107,8 @@ CODE_PAGES = {"437", "850", "860", "863", "865"}
 
 
 def read_titles(path: str) -> list[str]:
-    """Return the original and the translated programme title of a subtitle file, omitting empty and
-    equal titles."""
+    """Return the original and the translated programme title of a subtitle file. Omit an empty
+    title. Return equal titles only once."""
     block = read_first_bytes(path, GSI)
     number = block[CODE_PAGE].decode("latin-1")
     code_page = f"cp{number}" if number in CODE_PAGES else "cp850"
@@ -217,7 +217,7 @@ class SubtitleList:
         return FRAMES_OF_A_DAY if is_last else self.begins[place + 1]
 
     def find_nearest(self, places: Sequence[int], frame: int) -> int:
-        """Return the index, one of `places`, of the subtitle that begins nearest to a frame."""
+        """Return the member of `places` whose subtitle begins nearest to a frame."""
         at = count_until(places, lambda place: self.begins[place] >= frame)
         return min(places[max(at - 1, 0):at + 1], key=lambda item: abs(self.begins[item] - frame))
 
@@ -249,7 +249,7 @@ class SubtitleFile:
                  left_out: Collection[int] = ()) -> None:
         self.between = between
         self.data = read_stl(path)
-        self.first_blocks = array.array("I", [0])  # first block of each block's subtitle
+        self.first_blocks = array.array("I", [0])  # for each block, the first block of its subtitle
         self.start_blocks = array.array("I")  # first block of each subtitle
         self.begins, self.blocks = array.array("I"), array.array("I")
         first, is_open = 0, False
@@ -292,7 +292,7 @@ class SubtitleFile:
         return len(self.first_blocks) - 1
 
     def count_ended(self) -> tuple[int, int]:
-        """Return the numbers of subtitles with a last block, without and with comments."""
+        """Return how many subtitles have a last block, first without comments, then with them."""
         own = sum(1 for _ in self.list_last_blocks())
         last_block_count = sum(self.block(number)[3] == LAST_BLOCK for number in
                                range(1, len(self.first_blocks)))
@@ -320,7 +320,7 @@ class SubtitleFile:
         return self.find_by_block(block) if end is not None and frame < end else None
 
     def text(self, block: int) -> bytes:
-        """Return the text of a subtitle up to the given block."""
+        """Return the text of a subtitle, up to and including the given block."""
         blocks = (self.block(item) for item in range(self.first_blocks[block], block + 1))
         return b"".join(item[16:].split(UNUSED)[0] for item in blocks
                         if item[3] != USER_DATA and item[15] != COMMENT)

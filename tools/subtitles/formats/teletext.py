@@ -21,7 +21,7 @@ CONTROL_BITS = {4: (3, 8), 5: (5, 4), 6: (5, 8), **{7 + bit: (6, 1 << bit) for b
                 **{11 + bit: (7, 1 << bit) for bit in range(4)}}
 ERASE, NEWSFLASH, SUBTITLE, SUPPRESS, INHIBIT = 4, 5, 6, 7, 10
 
-Page = tuple[int, int]  # magazine (0 is 8) and page number
+Page = tuple[int, int]  # magazine (0 stands for 8) and page number
 
 
 def is_odd(byte: int) -> bool:
@@ -30,14 +30,14 @@ def is_odd(byte: int) -> bool:
 
 
 def has_bit(header: bytes, bit: int) -> bool:
-    """Return whether a control bit, from C4 to C14, is set in a page header. `header` has its eight
-    four-bit values."""
+    """Return whether a control bit, from C4 to C14, is set in a page header. `header` contains the
+    eight four-bit values of the page header."""
     place, value = CONTROL_BITS[bit]
     return header[place] & value != 0
 
 
 def page_name(magazine: int, page: int) -> str:
-    """Format a page, for example as 888, from its magazine (0 is 8) and page number."""
+    """Return the full number of a page, such as 888. A magazine of 0 stands for 8."""
     return f"{magazine or 8}{page:02X}"
 
 
@@ -90,15 +90,15 @@ COMMON = (*range(0x01, 0x0E), 0x1C, 0x1D, *range(0x20, 0x23), *range(0x25, 0x40)
 
 
 class NationalOption(NamedTuple):
-    """A national option."""
+    """A national option: the characters that the control bits C12 to C14 select."""
 
     word: str
     name: str
     bits: int  # C12 + 2 C13 + 4 C14
     characters: str
-    cells: str  # bytes of a text for each of `NATIONAL_CODES`, or `-`
-    languages: str  # codes in a GSI block (LC)
-    tracks: str  # codes in a PMT
+    cells: str  # hexadecimal codes in a text for each of `NATIONAL_CODES`; `-` if there are none
+    languages: str  # language codes in a GSI block (LC)
+    tracks: str  # language codes in a PMT
 
 
 ENGLISH = NationalOption(
@@ -129,7 +129,7 @@ OPTION_WORDS = tuple(one.word for one in OPTIONS)
 OPTION_BY_WORD = {one.word: one for one in OPTIONS}
 OPTION_BY_BITS = {one.bits: one for one in OPTIONS}
 RESERVED = 7  # value of C12 to C14 that no option of the default region uses
-# Languages in a PMT whose characters are not in the default region.
+# Language codes in a PMT for languages that need characters outside the default region.
 OTHER_REGIONS = ("ara bul ell est gre heb hrv lit pol ron rum rus scc scr slv srp ukr").split()
 UNKNOWN_CHARACTER = "\u25a1"  # shown for a character of an unknown option
 ACCENT_BYTES = {byte for byte, mark in ACCENTS.items() if mark != " "}
@@ -141,7 +141,7 @@ def choose_language_option(language: bytes) -> NationalOption:
 
 
 def choose_track_option(language: str) -> NationalOption | None:
-    """Return the national option for the language of a PMT, if an option has this language."""
+    """Return the national option for the language code of a PMT, if an option has this code."""
     return next((option for option in OPTIONS if language.lower() in option.tracks.split()), None)
 
 
