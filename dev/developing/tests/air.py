@@ -73,12 +73,11 @@ class AirCase(Case):
         for name in ("segments", "out"):
             os.mkdir(self.path(name))
         for module, name in ((judge, "print_stdout"), (judge, "write_state"), (os, "fsync")):
-            patch = mock.patch.object(module, name)  # print nothing, do not wait for disks
+            patch = mock.patch.object(module, name)
             patch.start()
             self.addCleanup(patch.stop)
 
     def args(self, *more: str) -> argparse.Namespace:
-        """Return parsed arguments for `tools/air judge`."""
         line = [self.path("schedule"), self.path("segments"), "-o", self.path("out"), "--margin",
                 f"{MARGIN_SECONDS}", "-p", "/bin/true", *more]
         return read_options(main.make_judge_parser(), line, {}, {})
@@ -96,7 +95,6 @@ class AirCase(Case):
 
     def put_segment(self, begin: float, end: float, data: bytes = b"", is_new: bool = False
                     ) -> str:
-        """Write a segment that lasts from `begin` to `end`. Return its path."""
         path = self.path(f"segments/{make_segment_name(DAY + begin, is_new)}")
         with open(path, "wb") as file:
             file.write(data or b"." * max(int(end - begin), 1))
@@ -110,7 +108,6 @@ class AirCase(Case):
                 self.put_segment(at, min(at + LENGTH, end))
 
     def verdicts(self) -> dict[str, str]:
-        """Return the verdict of each result in the output folder, by the result's name."""
         names = (name[:-5] for name in os.listdir(self.path("out")) if name.endswith(".json"))
         return {name: str(self.result(name)["verdict"]) for name in names if name != "state"}
 

@@ -67,7 +67,6 @@ class Bench:
         return self.folder
 
     def make_folder(self, name: str) -> str:
-        """Create a folder for one test, and return its path."""
         result = os.path.join(self.make_project_copy(), name)
         os.mkdir(result)
         return result
@@ -113,23 +112,19 @@ class Case(unittest.TestCase):
                        f"({', '.join(map(repr, arguments))})", function(*arguments), expected)
 
     def path(self, name: str) -> str:
-        """Return the path of a file in the test's folder."""
         return os.path.join(self.folder, name)
 
     def write(self, name: str, data: bytes | bytearray) -> str:
-        """Write a file in the test's folder. Return its path."""
         with open(self.path(name), "wb") as file:
             file.write(data)
         return self.path(name)
 
     def write_program(self, name: str, text: str) -> str:
-        """Write an executable file in the test's folder. Return its path."""
         path = self.write(name, text.encode())
         os.chmod(path, 0o755)
         return path
 
     def read(self, name: str) -> bytes:
-        """Return the contents of a file in the test's folder."""
         with open(self.path(name), "rb") as file:
             return file.read()
 
@@ -171,14 +166,12 @@ class Case(unittest.TestCase):
 
 
 def get_tool_path(name: str) -> str:
-    """Return the path of a tool in tools/ if it exists there, and in dev/ otherwise."""
     path = os.path.join(TOP, "tools", name)
     return path if os.path.exists(path) else os.path.join(TOP, "dev", name)
 
 
 @functools.lru_cache(None)
 def is_python(path: str) -> bool:
-    """Return whether a file is a Python script in tools/ or dev/."""
     if os.path.dirname(path) not in (TOOLS, DEV):
         return False
     with open(path, "rb") as file:
@@ -220,7 +213,6 @@ def run_forked(command: Sequence[str]) -> NoReturn:
 
 
 def import_script(name: str) -> Any:
-    """Import a script in tools/ or dev/ as a module."""
     loader = importlib.machinery.SourceFileLoader(name, get_tool_path(name))
     spec = importlib.util.spec_from_loader(name, loader)
     assert spec
@@ -235,6 +227,5 @@ def get_example_path(name: str) -> str:
 
 
 def read_example_file(name: str) -> bytes:
-    """Return the contents of a file in examples/."""
     with open(get_example_path(name), "rb") as file:
         return file.read()

@@ -42,7 +42,6 @@ def shorten_lines(lines: list[str]) -> str:
 
 
 def list_lines(value: object) -> list[str]:
-    """Split a multi-line text into lines. Format other values with `pprint`."""
     return value.splitlines() if isinstance(value, str) and "\n" in value else \
         pprint.pformat(value, width=WIDTH, compact=True).splitlines()
 
@@ -97,6 +96,6 @@ def explain_condition(frame: FrameType, helper: str = "must") -> str:
                 return f"{text}\n" + (format_comparison(left, right) if kind else shorten_lines(
                     [f"  left:     {left!r}", f"  right:    {right!r}"]))
             return text
-    except Exception as error:  # raised when the condition is evaluated again
+    except Exception as error:
         return f"  not explained: {type(error).__name__}: {error}"
     return ""

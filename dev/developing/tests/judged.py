@@ -35,7 +35,7 @@ class LineRecorder(SilentPrinter):
 
 
 class JudgedPair(NamedTuple):
-    """A judged pair: verdict, output, JSON result, fault lines. Commands may name only `files`."""
+    """A judged pair. Printed commands may contain no files except `files`."""
 
     verdict: Verdict
     said: list[str]
@@ -49,9 +49,9 @@ class JudgedPair(NamedTuple):
         return decide(self.verdict.collect_grounds()._replace(has_clock=True)).word
 
     def is_timed(self) -> bool:
-        """Return whether a clock was known, or qc claimed nothing that needs a clock.
+        """Return whether a clock is known or the printed results need no clock.
 
-        Without a clock, qc must not print `accepted` or `waived`. Status 0 needs --relative.
+        Without a clock, qc must not print `accepted` or `waived`, and status 0 needs --relative.
         """
         request, printed = self.verdict.request, (
             self.verdict.word, self.result["verdict"], self.said[-1].split(" ")[0])
@@ -64,17 +64,16 @@ class JudgedPair(NamedTuple):
         return [line[2:] for line in self.said if line.startswith("! ")]
 
     def lines(self, begin: str) -> list[str]:
-        """Return what follows `begin` in each printed line that begins with it."""
+        """Return the printed lines with the prefix `begin`, without this prefix."""
         return [line[len(begin):] for line in self.said if line.startswith(begin)]
 
     def parts(self, *names: str) -> list[tuple[Any, ...]]:
-        """Return the given members of each part in the JSON result."""
         return [tuple(part[name] for name in names) for part in self.result["parts"]]
 
 
 def judge_files(case: Case, *args: str, by: str | None = None,
                 recorder: LineRecorder | None = None) -> JudgedPair:
-    """Judge a pair with these arguments for qc. Check that printed commands name only its files."""
+    """Run qc on a pair. Check that the printed commands contain only files of this pair."""
     result = judge_files_with(by or case.bench.program, *args, recorder=recorder)
     case.must("a clock", result.is_timed(), result.said)
     for line in result.verdict.commands:

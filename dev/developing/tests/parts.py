@@ -30,7 +30,6 @@ MEANINGS = {number: Meaning("", f"it means `{number}`", f"do {number}") for numb
 
 
 def parse_single_fault(line: str) -> FaultLine:
-    """Parse a valid fault line of `check --all`."""
     reported = parse_fault_line(line)
     assert reported, line
     return reported
@@ -80,7 +79,6 @@ def make_example_request(stl: str, recording: str | None, *args: str) -> Request
 
 
 def make_default_options(*args: str) -> argparse.Namespace:
-    """Parse options for qc; options that are not given have their defaults."""
     parser = ToolParser("")
     add_options(parser)
     return read_options(parser, args, {}, {})
@@ -93,26 +91,21 @@ def list_call_arguments(request: Request) -> list[str]:
 
 
 def run_qc(words: Sequence[str]) -> int:
-    """Run tools/qc in this process. Return its exit status."""
     return run_main(lambda line: main("", os.path.join(TOP, "tools", "qc"), line), words)
 
 
 def survey_packets(case: Case, data: bytes, page: Page = PAGE) -> Packets:
-    """Write PES packets to a file, and return the packets that `survey` finds in it."""
     return survey(case.bench.program, case.write("held.pes", data), page).by_pid.get(0, Packets(0))
 
 
 def decode_packets(case: Case, data: bytes, origin: int = 0, within: int = 0) -> Timeline:
-    """Return the timeline of the pages decoded from PES packets."""
     return Timeline(survey_packets(case, data), PAGE, origin, within)
 
 
 def markup_text(*values: Value) -> str:
-    """Format values as the HTML text of a report."""
     return join_markup(values).source
 
 
 def make_shell_script(lines: list[str], status: int) -> str:
-    """Return a shell command that prints lines, and exits with `status` or by signal `-status`."""
     printed = "".join(f"echo '{line}'; " for line in lines)
     return printed + (f"exit {status}" if status >= 0 else f"kill {status} $$")

@@ -38,8 +38,8 @@ class Inserter(NamedTuple):
     """A simulated inserter.
 
     `begins` and `ends` contain possible delays of in-cues and out-cues in frames. A page is
-    repeated after `every` frames, with headers that keep the page if `keeps` is true. `each` PES
-    packets are sent per frame, except in frames that `is_left_out` selects.
+    repeated after `every` frames. If `keeps` is true, the headers of repeated pages do not erase
+    the page. `each` PES packets are sent per frame, except in frames that `is_left_out` selects.
     """
 
     name: str
@@ -62,7 +62,6 @@ class Inserter(NamedTuple):
 
 
 def is_rare_choice(chance: random.Random) -> bool:
-    """Return true with a probability of 1/20."""
     return chance.randrange(20) == 0
 
 
@@ -101,7 +100,6 @@ class Programme:
         self.fault: Fault | None = None
 
     def choose_random_times(self, count: int) -> list[tuple[int, int]]:
-        """Return random start and end frames for `count` subtitles, some of them adjoining."""
         frame, times = FIRST_TCI + self.chance.randrange(5000), list[tuple[int, int]]()
         for _ in range(count):
             end = frame + self.chance.randrange(30, 90)
@@ -110,7 +108,6 @@ class Programme:
         return times
 
     def make_random_text_at(self, at: int) -> bytes:
-        """Return a random text of one or two lines, usually with the number `at`."""
         lines = [" ".join(self.chance.sample(WORDS, self.chance.randrange(1, 4)))
                  for _ in range(self.chance.choice((1, 1, 2)))]
         lines[0] = f"{at} {lines[0]}" if self.chance.randrange(10) else lines[0]
@@ -207,7 +204,6 @@ class Programme:
                              rf'(, ".*",)? {SENTENCES[fault.kind]}\b', sentence))
 
     def time(self, place: int) -> str:
-        """Return the TCI of the subtitle with the index `place` as a time code."""
         return format_frame(self.times[place][0])
 
 
@@ -241,7 +237,6 @@ KINDS = (*SENTENCES, EXCHANGED_TEXT)
 
 
 def plant_fault(case: Case, number: int) -> Programme:
-    """Return the random programme with the seed `number`, and plant a fault in it."""
     chance = random.Random(number)
     programme = Programme(case, number, chance.choice(INSERTERS))
     assert programme.place_fault(chance.choice(KINDS))

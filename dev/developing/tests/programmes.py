@@ -41,7 +41,6 @@ def repeat_last_page(data: bytes, pts: int, count: int, step: int = SECOND) -> b
 
 
 def wait_until(condition: Callable[[], object]) -> bool:
-    """Wait until a condition is true. Return whether this happened before the time limit."""
     end = time.monotonic() + SECONDS
     while not condition() and time.monotonic() < end:
         time.sleep(0.02)

@@ -76,7 +76,6 @@ def replace_volatile_text(text: str, program: str) -> str:
 
 
 def run_random_call(number: int, program: str) -> CallOutput:
-    """Run qc on the random pair with the seed `number` in a temporary folder. Return its output."""
     with use_temporary_folder():
         scenario = (Scenario if number < WIDER else WiderScenario)(number, program)
         words = scenario.call()
@@ -95,7 +94,7 @@ def measure_pair(recording: str, program: str) -> str:
     return f"measured {status}\n{out}{reported}"
 
 
-# Named runs use pairs in the folder `in`. Before the run `claimed`, another process claims a pair.
+# The random pairs in the folder `in`: name, subtitle file and recording.
 PAIRS = [("a", "hello", "hello.pes"), ("b", "story", "five-faults.pes"),
          ("c", "accent", "hello.pes"), ("d", "hello", "recording.ts")]
 TEXTS = {"house": "--every 25\n--within 1 # frame\n", "wrong": "--every 25\n--every 50\n",
@@ -155,9 +154,10 @@ def list_schema_violations(known: Any) -> list[str]:
 
 def run_call(words: list[str], program: str, more: Sequence[str] = ("-p", "PROGRAM"),
            wrong: Callable[[Any], list[str]] = list_all_violations) -> CallOutput:
-    """Run qc, and return its output with fixed texts instead of dates and texts of the manual.
+    """Run qc, and return its output.
 
-    `wrong` is a function that returns the schema violations in a JSON result.
+    Dates and the fault explanations of the manual are replaced by fixed texts. `wrong` is a
+    function that returns the schema violations in a JSON result.
     """
     others: list[tuple[Any, str, object]] = [
         *((module, "read_meanings", lambda: MEANINGS) for module in (subtitles, faults, report))]

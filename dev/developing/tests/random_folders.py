@@ -48,12 +48,10 @@ class Folder:
         self.write_list()
 
     def choose_options(self) -> list[str]:
-        """Return up to two random options, which occasionally contradict each other."""
         result = self.chance.sample(OPTIONS, self.chance.choice((0, 0, 1, 1, 2)))
         return [word for item in result for word in item.split()]
 
     def write_random_pair(self, name: str) -> None:
-        """Add a subtitle file or a recording or both, and occasionally a second recording."""
         stl, recording = self.chance.choice(PAIRS)
         for source in filter(None, (stl, recording)):
             ending = source.rpartition(".")[2]
@@ -69,7 +67,6 @@ class Folder:
                 file.write(self.chance.choice(texts))
 
     def write_list(self) -> None:
-        """Write a list of pairs with random options. Sometimes add an invalid line."""
         there, lines = sorted(os.listdir("in")) or ["none"], list[str]()
         for _ in range(self.chance.choice((1, 2, 3, 4))):
             stl, recording = (self.chance.choice(there) for _ in range(2))
@@ -94,7 +91,6 @@ class Folder:
         does()
 
     def change_file(self) -> None:
-        """Delete, replace or truncate a random input file, or change its modification time."""
         path = os.path.join("in", self.chance.choice(sorted(os.listdir("in")) or ["none"]))
         kind = self.chance.randrange(4)
         with contextlib.suppress(OSError):
@@ -109,7 +105,6 @@ class Folder:
                 os.utime(path, (1_700_000_000, 1_700_000_000))
 
     def change_result(self) -> None:
-        """Delete, truncate or replace a random file in the output folder."""
         there = sorted(os.listdir("out")) if os.path.isdir("out") else []
         if not there:
             return
@@ -117,13 +112,12 @@ class Folder:
         if kind == 0:
             os.unlink(path)
         elif kind == 1:
-            os.truncate(path, min(os.path.getsize(path), 200))  # cut before the date
+            os.truncate(path, min(os.path.getsize(path), 200))  # before the date in the file
         else:
             with open(path, "w", encoding="utf-8") as file:
                 file.write((json.dumps(OLD), "somebody's own", "{}")[kind - 2])
 
     def call(self) -> CallOutput:
-        """Run qc with random arguments. Return its output, with new and changed files."""
         chance, out = self.chance, ["-o", "out"] * (self.chance.randrange(5) > 0)
         expected = [word for option, name in (("--json", "one.json"), ("--csv", "one.csv"),
                                               ("--junit", "one.xml")) if chance.randrange(2)

@@ -115,13 +115,16 @@ def list_inner_violations(value: Any, known: dict[str, Any], at: str) -> Iterato
 
 
 def is_of_kind(value: Any, kind: str) -> bool:
-    """Return whether a value has the JSON type with this name."""
     is_bool = isinstance(value, bool)
     return isinstance(value, KINDS[kind]) and is_bool == (kind == "boolean")
 
 
 def list_choice_errors(known: dict[str, Any], lines: Sequence[str]) -> Iterator[object]:
-    """Yield choices that qc did not print or list, and choices of options that the user gave."""
+    """Yield the errors in the choices that a result lists.
+
+    A choice must be printed, each value chosen by qc must be listed, and an option of the user must
+    not be listed.
+    """
     printed = {line.removeprefix("qc: ").removeprefix("! ") for line in lines}
     chosen = {(item["option"], item["value"]) for item in known["choices"]}
     own = {(item["option"], item["value"], item["part"]) for item in known["choices"]}
@@ -153,18 +156,12 @@ def make_second_validator() -> Any:
 
 
 def list_all_violations(value: Any) -> list[str]:
-    """Return the schema violations that two validators find in a result.
-
-    They are `list_violations` and the slow python3-jsonschema, which gets only samples of long
-    lists.
-    """
     reader = make_second_validator()
     others = [error.message for error in reader.iter_errors(make_sample(value))] if reader else []
     return [*list_violations(value, schema()), *others]
 
 
 def make_sample(value: dict[str, Any]) -> dict[str, Any]:
-    """Return a result in which long lists are replaced by samples of them."""
     lists = {item.name: [*value[item.name][:SOME], *value[item.name][SOME::50]]
              for item in LISTS if item.name in value}
     return {**value, **lists, **({"pairs": list(map(make_sample, value["pairs"]))}
@@ -172,13 +169,11 @@ def make_sample(value: dict[str, Any]) -> dict[str, Any]:
 
 
 def row(name: str, verdict: str, line: str = "", hint: str = "", faults: int = 0) -> Row:
-    """Return a row in the table of collected results."""
     result = make_row(make_result(verdict, fault_count=faults), name)
     return result._replace(line=line, hint=hint)
 
 
 def check_schema(case: Case, verdict: Any, name: str = "the schema") -> None:
-    """Check a JSON value against the schema with both validators."""
     over = "a second reader of docs/verdict.schema.json, since there is no python3-jsonschema"
     if make_second_validator() is None and over not in case.bench.over:
         case.bench.over.append(over)

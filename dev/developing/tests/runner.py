@@ -39,7 +39,6 @@ class Counts(unittest.TestResult):
         self.names_with_subtests: set[str] = set()  # names of tests with subtests
 
     def count(self, test: unittest.TestCase, error: Error | None) -> None:
-        """Count the result of a test or subtest, and print a failure."""
         self.passed += error is None
         self.failed += error is not None
         if error is not None:
@@ -100,7 +99,6 @@ def find_tests(names: Sequence[str]) -> list[unittest.TestCase]:
 
 
 def has_fixture(kind: Type[unittest.TestCase]) -> bool:
-    """Return whether a test class has a class fixture (`setUpClass`)."""
     return "setUpClass" in kind.__dict__
 
 
@@ -114,7 +112,7 @@ def group_tests(tests: SeveralTests) -> Iterator[SeveralTests]:
 
 
 class TestProcess:
-    """A forked process that runs tests, whose patches and crashes thus affect no other tests."""
+    """A forked process that runs tests. Patches and crashes in it do not affect other tests."""
 
     def __init__(self, several: SeveralTests, is_verbose: bool) -> None:
         self.name = get_test_name(several[0])

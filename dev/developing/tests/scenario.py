@@ -60,7 +60,6 @@ class Scenario:
         return self.chance.randrange(100) < percent
 
     def choose_random_times(self) -> list[tuple[int, int]]:
-        """Return random start and end frames of subtitles, some of them adjoining."""
         frame = self.chance.choice((100, 900_000, 900_000, FRAMES_OF_A_DAY - 2500))
         result = []
         for _ in range(24 if self.has_break else self.chance.choice((2, 3, 4, 5, 7, 9, 12))):
@@ -73,7 +72,6 @@ class Scenario:
         return make_box_line(self.chance.choice(TEXTS), self.chance.choice((b"", b"", b"\x03")))
 
     def write_random_subtitles(self) -> list[WrittenSubtitle]:
-        """Return random subtitles. A few have an unsupported character, or a TCO equal to TCI."""
         chance, result = self.chance, list[WrittenSubtitle]()
         # Subtitle numbers that the file usually does not have.
         of_none, empty = (chance.randrange(200) for _ in range(2))
@@ -132,7 +130,6 @@ class Scenario:
             return [(decode_pts(pes_packet), pes_packet) for pes_packet in read_pes_packets(file)]
 
     def add_fault(self, sent: SentPackets) -> SentPackets:
-        """Return the transmission with one more random fault."""
         chance = self.chance
         first = chance.randrange(len(sent))
         last = min(len(sent), first + chance.choice((1, 1, 2, 5, 1000)))
@@ -186,7 +183,6 @@ class Scenario:
         return result
 
     def add_break(self, sent: SentPackets) -> SentPackets:
-        """Insert a break before the 13th subtitle by adding an offset to all later PTS."""
         middle = self.origin + TICKS * (self.times[12][0] - 2)
         later = self.chance.choice((300, 700, 700, -5000)) * TICKS
         self.words += ["--breaks", "1"] if self.has_chance(90) else []
@@ -223,7 +219,6 @@ class Scenario:
         return change_packet_size(data, 192) if self.has_chance(15) else data
 
     def write_recording(self) -> str:
-        """Write the recording to a file or pipe, and return its name."""
         sent = self.schedule_transmission("sent.pes")
         sent = self.add_break(sent) if self.has_break else sent
         several = (0, 0, 1) if self.has_break else (0, 1, 1, 1, 2)

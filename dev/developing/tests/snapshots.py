@@ -35,7 +35,7 @@ def compute_short_hash(text: str) -> str:
 
 
 def shorten_lines(lines: Iterable[str], head: int = HEAD) -> list[str]:
-    """Replace the middle of a long list with a line that gives its number of lines and its hash."""
+    """Replace the middle of a long list with one line that gives its length and its hash."""
     lines = [part if len(part) <= WIDTH else f"{part[:WIDTH]}.. {compute_short_hash(part)}"
              for line in lines for part in line.splitlines()]
     between = lines[head:-TAIL]
@@ -163,7 +163,7 @@ def change_of(before: str, after: str) -> Change:
 def changes_in(before: list[str], after: list[str]) -> Iterator[tuple[Change, str, str]]:
     """Yield each change between two texts, with the old and the new line.
 
-    The old line of an added line, and the new line of a deleted line, is an empty string.
+    The missing line of an addition or a deletion is an empty string.
     """
     matcher = difflib.SequenceMatcher(None, before, after, autojunk=False)
     for kind, first, end, start, stop in matcher.get_opcodes():
@@ -189,7 +189,7 @@ def crop_line(line: str, change: str) -> str:
 
 
 def summary(changed: dict[str, list[tuple[Change, str, str]]]) -> list[str]:
-    """Format each different change once, with the number of affected runs and the first of them."""
+    """Return each distinct change once, with the number of runs and the first run that has it."""
     calls: dict[Change, list[str]] = {}
     lines: dict[Change, tuple[str, str]] = {}
     for name, changes in changed.items():

@@ -68,7 +68,6 @@ def make_program_association(pmt_pids: Iterable[tuple[int, int]]) -> bytes:
 
 
 def program_map(number: int, components: Iterable[Component], pcr_pid: int) -> bytes:
-    """Return the PMT section of a programme."""
     return make_section(2, number, (0xE000 | pcr_pid).to_bytes(2, "big") + b"\xf0\0" + b"".join(
         bytes([kind]) + (0xE000 | pid).to_bytes(2, "big")
         + (0xF000 | len(more)).to_bytes(2, "big") + more for pid, kind, more in components))
@@ -95,7 +94,6 @@ class StreamMaker:
         return result
 
     def list_taken_packets(self, pid: int) -> list[Packet]:
-        """Return the TS packets made since the last call, each with the PID `pid`."""
         return [Packet(pid, item) for item in self.taken()]
 
     def put_tables(self) -> None:
@@ -213,7 +211,8 @@ def multiplex_frames(pes: list[bytes], begin: int, count: int, rounds: int = 66,
               page: int = 0x88) -> Iterator[bytes]:
     """Yield the frames of a transport stream.
 
-    Each frame has a PCR, PES packets, and 16 * `rounds` video packets. 66 rounds are 40 Mbit/s.
+    Each frame has a PCR, PES packets, and 16 * `rounds` video packets. If `rounds` is 66, the bit
+    rate is 40 Mbit/s.
     """
     maker = StreamMaker(make_components(descriptor=make_teletext_descriptor(page=page)))
     filler = b"".join(make_packet_header(VIDEO_PID, 0, PAYLOAD | counter) + b"\x55" * (PACKET - 4)
@@ -247,7 +246,7 @@ class Packet(NamedTuple):
 def make_teletext_stream(pes: list[bytes], begin: int, end: int, rate: int = 200,
                          pid: int = TELETEXT_PID,
                          before: StreamMaker | None = None) -> tuple[list[Packet], StreamMaker]:
-    """Return the packets of a transport stream from PTS `begin` to `end`, and their maker.
+    """Return the packets of a transport stream from PTS `begin` to `end`, and their `Maker`.
 
     The stream has PES packets of Teletext, `rate` video and audio packets per second, a PCR every
     40 ms, and tables twice a second. It continues the continuity counters of `before`.
@@ -366,7 +365,8 @@ def delete_between(result: list[Packet], first: int, count: int) -> list[Packet]
 
 
 OLD, NEW = TELETEXT_PID, 0x111
-# A function that returns the PES packets, with their PIDs, sent in place of a PES packet.
+# A function that takes the index of a PES packet. It returns the PES packets to send instead, each
+# with its PID.
 CarriedPackets = Callable[[int], Sequence[tuple[int, bytes]]]
 
 
@@ -394,7 +394,6 @@ def make_planned_stream(pes: Sequence[bytes], plan: Sequence[tuple[int, int]],
 
 def make_stream_with_video(pes: bytes, descriptor: bytes = make_teletext_descriptor(),
                  ahead: int = PTS_AHEAD) -> bytes:
-    """Make a transport stream of Teletext PES packets, with PCRs on the video PID."""
     return make_planned_stream(packets(pes), [(0, TELETEXT_PID)], None, descriptor, ahead)
 
 

@@ -22,14 +22,14 @@ class CalledFunctions(NamedTuple):
 
 
 def rows() -> dict[str, list[str]]:
-    """Read the table, and return the test classes for each module or script."""
+    """Read tests.tsv. Return the test classes for each module or script."""
     with open(PATH, encoding="utf-8") as file:
         result = [line.rstrip("\n").split("\t") for line in file if not line.startswith("#")]
     return {module: tests.split() for module, tests in result}
 
 
 def get_module_path(name: str) -> str:
-    """Return the name in the table, such as `stream/gaps.py`, for a path or a dotted name."""
+    """Return a module's name in tests.tsv, such as `stream/gaps.py`, from a path or dotted name."""
     path = name.removeprefix("tools/").removeprefix(PACKAGE).removeprefix("subtitles.")
     is_path = "/" in path or path.endswith(".py") or "." not in path
     return path if is_path else path.replace(".", "/") + ".py"
@@ -41,11 +41,10 @@ def list_tests_of(name: str) -> list[str]:
 
 def chosen(functions: Collection[str], classes: Mapping[str, CalledFunctions],
            near: Collection[str] = (), standing: Collection[str] = ()) -> list[str]:
-    """Choose test classes so that `TIMES` of them call each function.
+    """Choose test classes so that `TIMES` of them call each function, or all that call it.
 
-    If fewer classes call a function, choose all of these. The classes in `standing` are always
-    chosen. Others are chosen one by one, first from `near`, until no function is missing: always
-    the class that calls the largest number of missing functions for its run time.
+    Choose all classes in `standing`, then classes from `near`, then any other classes. Always
+    choose the class that covers the largest number of missing functions per second of run time.
     """
     expected = {name: min(TIMES, sum(name in item.functions for item in classes.values()))
                 for name in functions}
@@ -69,11 +68,11 @@ def chosen(functions: Collection[str], classes: Mapping[str, CalledFunctions],
 
 def lines(classes: Mapping[str, CalledFunctions], kinds: Collection[Type[object]],
           before: Mapping[str, Sequence[str]]) -> Iterator[str]:
-    """Yield the new lines of the table.
+    """Yield the new lines of tests.tsv.
 
-    A module keeps its existing test classes, since some test it in another process. Further classes
-    are chosen because they call the module's functions, preferably classes that import it. A
-    script's tests are found by its name in their source.
+    Keep the existing test classes of a module, since some classes run the module in another
+    process. Add classes that call the module's functions; prefer classes that import the module.
+    The tests of a script are the classes whose source contains its name.
     """
     names = {get_type_name(item) for item in kinds}
     standing = {module: {*tests} & names for module, tests in before.items()}
@@ -98,5 +97,4 @@ def lines(classes: Mapping[str, CalledFunctions], kinds: Collection[Type[object]
 
 
 def get_type_name(kind: Type[object]) -> str:
-    """Return the name of a test class as `module.class`."""
     return f"{kind.__module__.rpartition('.')[2]}.{kind.__name__}"

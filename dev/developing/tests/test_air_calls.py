@@ -26,11 +26,10 @@ ALL = LEAD_SECONDS + LASTS + TAIL_SECONDS
 
 
 class RecordingCase(NamedTuple):
-    """A test case: what is recorded of the feed, and the expected verdict.
+    """A test case of `judged`.
 
-    `recorded` contains seconds of the feed. If `is_wrong` is true, two PES packets are missing.
-    `air` is the air time. `is_final` means that the verdict is final. `reason` is the start of the
-    expected reason.
+    `recorded` contains the first and last recorded second of the feed. `air` is the air time in
+    seconds.
     """
 
     recorded: tuple[int, int]
@@ -67,7 +66,6 @@ class Feeds(AirCase):
     """A test case with a feed that transmits one programme."""
 
     def feed(self, is_wrong: bool = False) -> list[bytes]:
-        """Return the frames of the feed; if `is_wrong`, two PES packets are missing."""
         programme = make_programme(self, "one", 1_000_000, "Alpha Beta Gamma Delta",
                                    BEGIN + SECOND * LEAD_SECONDS)
         pes = packets(programme + repeat_last_page(programme, BEGIN
@@ -153,7 +151,6 @@ class Calls(Feeds):
         self.check("record", (process.status, process.told), (0, []))
 
     def start_recorder(self, begin: float, *options: str) -> None:
-        """Write a schedule with the programme at this time."""
         date = datetime.datetime.fromtimestamp(begin, datetime.timezone.utc)
         self.write_schedule(" ".join([f"{date:%Y-%m-%dT%H:%M:%SZ}", "one.stl", *options]))
 
@@ -162,7 +159,7 @@ class Calls(Feeds):
                 self.path("out"), "-p", self.bench.program, *args]
 
     def write_feed(self, begin: float, end: float) -> None:
-        """Rename the segments so that the first begins at `begin`. Set their times to `end`."""
+        """Rename the segments so that the first begins at `begin`. Set their mtimes to `end`."""
         names = sorted(name for name in os.listdir(self.path("segments")) if name.endswith(".ts"))
         for number, name in enumerate(names):
             path = self.path(f"segments/{make_segment_name(begin + number)}")
@@ -214,7 +211,6 @@ class Calls(Feeds):
 
     @staticmethod
     def start(source: int, *args: str) -> subprocess.Popen[bytes]:
-        """Start tools/air in the background with the given standard input."""
         return subprocess.Popen([sys.executable, get_tool_path("air"), *args], stdin=source,
                                 stdout=subprocess.DEVNULL, stderr=subprocess.DEVNULL)
 

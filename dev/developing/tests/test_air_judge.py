@@ -17,15 +17,16 @@ from .air import AirCase, DAY, FakeChecker, MARGIN_SECONDS, SentProgramme, outco
 from .bench import read_example_file
 from .transmissions import write_subtitle_file
 
-NAME = "20261201T081000Z-one"  # scheduled from second 600 to 660
+NAME = "20261201T081000Z-one"
 BEGIN, END = 600, 660
 OTHER_NAME = NAME.replace("one", "two")
 
 
 class AirCaseRow(NamedTuple):
-    """A test case: what is recorded and sent, and the expected verdict with its reason.
+    """A test case of the judge.
 
-    `missing` is not recorded. The verdict is due `after` seconds after the scheduled end.
+    `recorded` and `missing` are intervals in seconds. The verdict is expected `after` seconds after
+    the scheduled end.
     """
 
     recorded: tuple[int, int]

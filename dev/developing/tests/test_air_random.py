@@ -34,7 +34,6 @@ class Day(NamedTuple):
 
 
 def date(second: int) -> str:
-    """Format a number of seconds after `DAY` as a date and time."""
     return time.strftime("%Y-%m-%dT%H:%M:%SZ", time.gmtime(DAY + second))
 
 
@@ -66,7 +65,7 @@ def list_possible_verdicts(sent: SentProgramme, time: int, lost: LostFrames,
         return {"not judged"}
     # A loss just before or after a programme may hide the cause of a fault.
     is_near = any(first <= sent.end and last >= sent.begin for first, last in lost)
-    # If the programme begins at the end of its margin, a loss makes its end uncertain.
+    # A loss hides where the programme ends if the programme begins as late as --margin allows.
     is_last = sent.begin == time + MARGIN_SECONDS and bool(lost)
     deserved = "relative" if sent.is_right else "refused"
     is_open = is_deleted or (is_near or is_last) and not sent.is_right
@@ -123,7 +122,6 @@ class RandomDays(AirCase):
                     first <= begin and end <= last for first, last in gaps), gaps)
 
     def delete_segment(self, begin: int) -> None:
-        """Delete the segment that begins at the second `begin`, if it exists."""
         for is_new in (False, True):
             path = self.path(f"segments/{make_segment_name(DAY + begin, is_new)}")
             if os.path.exists(path):

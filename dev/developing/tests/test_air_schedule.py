@@ -55,7 +55,6 @@ LENGTHS = {
 
 
 def shown(time: float | None) -> str:
-    """Format a time as seconds after `DAY`."""
     return "None" if time is None else f"{time - DAY:g}"
 
 

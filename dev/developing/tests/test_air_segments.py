@@ -45,8 +45,8 @@ RUN_CASES = {
     "new ones": ("!0-10 10-20 !20-30 30-40", 2, "0-20 20-40"),
 }
 
-# Two segments of one feed: the end of the first and the start of the second in TS packets; the
-# times of all segments, as above; and the expected intervals without losses.
+# Pairs of segments of one feed: in TS packets, where the first segment ends and the second begins;
+# the times of all segments, in the notation above; and the expected intervals without losses.
 JOINT_CASES = {
     "it goes on, without a PCR": (900.5, 900.5, "0-10 10-20", "0-20"),
     "the recorder stalled": (900.5, 900.5, "0-10 18-20", "0-20"),
@@ -63,7 +63,8 @@ JOINT_CASES = {
     "the first is too short to tell": (3.5, 3.5, "0-10 18-20", "0-10 18-20"),
 }
 
-# Times in seconds, and the expected offsets in a segment of 100 bytes from second 10 to 20.
+# Times in seconds, and the expected offsets in a segment of 100 bytes that lasts from 10 to 20
+# seconds.
 OFFSETS = {"before it": (5, 0), "its beginning": (10, 0), "a tenth": (11, 10), "half": (15, 50),
            "its end": (20, 100), "after it": (99, 100)}
 

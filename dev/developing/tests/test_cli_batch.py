@@ -255,8 +255,7 @@ class ForkedPairs(Case):
             words = [f"--name={call.name}", *["--claimed"] * call.is_claimed, *kept,
                      *["--keep"] * call.is_kept, "-p", call.program or "",
                      *list_call_arguments(request)]
-            # The parent process detects the end of this process by a file descriptor that it
-            # inherits.
+            # The parent process waits until the child closes an inherited file descriptor.
             for file in os.listdir("/proc/self/fd"):
                 with contextlib.suppress(OSError):
                     os.set_inheritable(int(file), True)

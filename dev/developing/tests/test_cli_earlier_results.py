@@ -31,7 +31,7 @@ from .parts import make_example_request, make_default_options
 from .results import FAULT, make_result, row
 
 PROGRAM = ProgramInfo("1", "ab" * 32, None)
-# A value for each option that differs from the value in the earlier run.
+# For each option, a value that differs from the value in the earlier run.
 OTHERS: dict[str, object] = {
     "page": (0, 0x87), "every": 25, "option": "german", "origin": 5, "is_complete": False,
     "pid": 257, "is_loss_allowed": True, "breaks": 1, "pes": (1, 2), "start": "10:00:00:00",

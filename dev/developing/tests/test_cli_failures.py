@@ -36,8 +36,8 @@ case "$*" in
 esac
 """
 EMPTY = ["refused 60 Empty", "1 faults"]
-# Output of `check`, and how the script must end to make this output valid, for a subtitle file
-# alone and for a recording. `None` means that no end makes the output valid.
+# Output of `check`, and how the script must end so that qc takes this output as valid: first if the
+# script checks a subtitle file, then if it checks a recording. `None` means never.
 ANSWERS: dict[str, tuple[list[str], str | None, str | None]] = {
     "accepted": ([ACCEPTED], None, "exit 0"), "no PES packet": (EMPTY, "exit 1", "exit 1"),
     "a fault of the subtitle file": (["refused 50 Character block 1 at 0", "1 faults"], "exit 1",
@@ -128,7 +128,6 @@ class Programs(CallCase):
                 self.fake_program(*lines, then=end), "--json", "one.json"))
 
     def check_judged(self, name: str, status: int, ended: EndedCall) -> None:
-        """Check that a run of qc has this exit status, and that its JSON result agrees."""
         known = self.object()
         with self.subTest(name):
             self.assertEqual((ended.status, known["status"], known["line"] is None),

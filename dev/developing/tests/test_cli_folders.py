@@ -26,7 +26,6 @@ FULL = "64k"  # size of the file system that is filled
 
 
 def find_control_bytes(data: bytes) -> list[int]:
-    """Return the control characters in a text, except new lines."""
     return [byte for byte in data if byte < 0x20 and byte != 0x0A or byte == 0x7F]
 
 

@@ -66,7 +66,7 @@ def get_proof_file(case: Case) -> str:
 
 
 def is_compiled(folder: str) -> bool:
-    """Return whether all modules in a folder have compiled files that Python uses unchecked."""
+    """Return whether each module in a folder has a .pyc file that Python loads unchecked."""
     for place, _, names in os.walk(folder):
         for name in names:
             if not name.endswith(".py"):
@@ -76,7 +76,7 @@ def is_compiled(folder: str) -> bool:
             if not os.path.exists(result):
                 return False
             with open(result, "rb") as file:
-                if file.read(8)[4:] != bytes([1, 0, 0, 0]):  # not an unchecked hash-based .pyc
+                if file.read(8)[4:] != bytes([1, 0, 0, 0]):  # flags of an unchecked hash-based .pyc
                     return False
     return True
 
@@ -239,7 +239,7 @@ class Installation(Case):
             self.bench.over.append("the package by lintian, which is not there")
 
 
-SETTLED_SECONDS = 2  # seconds without change after which a file is judged
+SETTLED_SECONDS = 2  # a file is judged after this number of seconds without a change
 HOSTILE_NAMES = [b"\xff\xfe", b"caf\xe9", "caf\u00e9".encode(), b"-o", b"--help", b"=1+2",
                  b"\x1b[31mred", b"two\nlines", b"tab\there", b" leading", b"trailing ", b"a  b",
                  b"$(date)", b"`date`",
@@ -278,7 +278,6 @@ def blocking_program(case: Case, count: int) -> str:
 
 
 def count_judged(case: Case) -> int:
-    """Return the number of pairs for which the script of `blocking_program` has been called."""
     return len(case.read("checked").splitlines())
 
 
@@ -438,7 +437,7 @@ class StoppedCalls(Case):
         slow = self.make_program_with_exception("*check*",
                                                 f"touch '{self.path('begun')}'; exec sleep "
                                                 f"{SECONDS}")
-        # A signal no longer stops a pair after its line has been printed.
+        # A signal does not stop a pair whose line has already been printed.
         for program, expected, words_in in ((slow, "begun", b""),
                                             (self.bench.program, "said", b"relative")):
             words = [get_tool_path("qc"), "--watch", "in", "-o", "out", "-p", program]

@@ -232,7 +232,7 @@ class Profiles(Case):
             self.measure(seed)
 
     def measure(self, seed: int) -> bool:
-        """Measure one or two random programmes. Return whether their profile accepts them."""
+        """Return whether the profile measured from one or two random programmes accepts them."""
         chance = random.Random(seed)
         inserter = chance.choice(INSERTERS)
         programmes = [Programme(self, 10 * seed + number, inserter)

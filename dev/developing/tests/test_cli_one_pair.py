@@ -57,7 +57,6 @@ class LastLines(Case):
         return result
 
     def said(self, verdict: Verdict) -> list[str]:
-        """Return the lines that qc prints for a verdict."""
         heard = LineRecorder()
         print_verdict(verdict, heard)
         return heard.lines
@@ -168,7 +167,6 @@ class OutputFilesOfPair(Case):
         return OutputFiles(known, verdict, CommandPaths("tools/qc", self.bench.program), names)
 
     def part(self, number: int = 1, lines: Sequence[str] = REFUSED) -> Part:
-        """Return a refused part with these lines of `check --all`."""
         said = CheckOutput(self.path(f"list{number}"))
         for line in lines:
             said.read_line(line)
@@ -394,7 +392,6 @@ class OutputFilesOfPair(Case):
 
 class Pages(Case):
     def several(self) -> Verdict:
-        """Return a verdict on a recording with three parts."""
         verdict = Verdict(make_example_request(get_example_path("story.stl"), "one.pes"),
                           Severity(None), "2026-01-02T03:04:05Z")
         verdict.parts = [make_part(0, 9, 7), make_part(50, 99, 9, make_answer(REFUSED), 2),

@@ -35,7 +35,6 @@ NO_CELL = {"code": "00", "character": ""}
 
 
 def fault(number: int, **more: Any) -> dict[str, Any]:
-    """Return a fault of a JSON result with the members `more`. Most other members are null."""
     return {**FAULT, "number": number, "line": f"refused {number}", **more}
 
 
@@ -56,7 +55,6 @@ OBJECTS: list[dict[str, Any]] = [
 
 class Tables(unittest.TestCase):
     def rows(self, objects: list[dict[str, Any]]) -> list[dict[str, str]]:
-        """Return the CSV rows for JSON results, each as a dictionary."""
         text = b"".join(csv_of(objects)).decode()
         return list(csv.DictReader(io.StringIO(text)))
 

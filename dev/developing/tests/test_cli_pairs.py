@@ -33,7 +33,6 @@ def split_output_lines(process: CompletedCall) -> list[str]:
 
 
 def stream(case: Case, name: str, pes: bytes, pid: str = "0x101", page: str = "888") -> bytes:
-    """Convert PES packets to a transport stream with dev/pes2ts."""
     process = case.tool("pes2ts", case.write(name + ".in.pes", pes), pid, "--page", page)
     assert process.status == 0, process
     return process.out
@@ -219,7 +218,7 @@ class SubtitlePipes(Case):
             name = self.write("one.stl", data)
             of_file = self.qc(name, *words, "-o", self.path("out"))
             known = json.loads(self.read("x.json"))
-            pipe = self.path("pipe/one.stl")  # has the same name as the file
+            pipe = self.path("pipe/one.stl")  # the pipe has the same file name as in/one.stl
             shutil.rmtree(os.path.dirname(pipe), ignore_errors=True)
             os.mkdir(os.path.dirname(pipe))
             write_pipe(self, data, pipe)

@@ -1,6 +1,7 @@
-"""Test with random pairs and options that qc accepts no pair without a clock.
+"""Test that qc accepts no pair without a clock.
 
-From dev/, `python3 -m developing.tests.test_cli_relative PROGRAM FIRST LAST` tries other seeds.
+The pairs and options are random. From dev/, `python3 -m developing.tests.test_cli_relative PROGRAM
+FIRST LAST` tries other seeds.
 """
 from __future__ import annotations
 
@@ -43,7 +44,6 @@ class GivenClock(NamedTuple):
     is_allowed: bool
 
     def is_possible_verdict(self, verdict: str, status: int) -> bool:
-        """Return whether the options allow a verdict and a status."""
         return self.has_clock or verdict not in GOOD and (status != 0 or self.is_allowed)
 
 
@@ -53,7 +53,6 @@ class Clocks(Feeds):
             self.check_seed(seed)
 
     def check_seed(self, seed: int) -> None:
-        """Run qc in two random modes on the random pairs of a seed."""
         chance = random.Random(seed)
         given = self.make_pairs(chance)
         kinds = {"single": self.single, "folder": self.folder_call, "list": self.list_call,
@@ -64,7 +63,7 @@ class Clocks(Feeds):
         self.air(f"{seed}, air", chance) if seed % 3 == 0 else None
 
     def make_pairs(self, chance: random.Random) -> dict[str, int]:
-        """Write random pairs to the folder `in`. Return their origins by their names."""
+        """Write random pairs to the folder `in`. Return the origin of each pair by its name."""
         shutil.rmtree(self.path("in"), ignore_errors=True)
         os.mkdir(self.path("in"))
         self.write("severity", b"others warning\n")
@@ -91,7 +90,6 @@ class Clocks(Feeds):
                 for word in [*words, *clock, *allowed]], given
 
     def paths(self, name: str) -> list[str]:
-        """Return the paths of a pair's files, the subtitle file first."""
         return [self.path(f"in/{item}") for item in sorted(os.listdir(self.path("in")), key=lambda
                 item: not item.endswith(".stl")) if item.startswith(f"{name}.")]
 
@@ -115,12 +113,10 @@ class Clocks(Feeds):
         self.check_lines(f"{name}: rows", self.read("all.csv").decode().splitlines(), given)
 
     def check_status(self, name: str, status: int, given: dict[str, GivenClock]) -> None:
-        """Check that the status is 0 only if each pair has a clock or --relative."""
         is_zero_allowed = all(item.has_clock or item.is_allowed for item in given.values())
         self.must(f"{name}: status", status != 0 or is_zero_allowed, given)
 
     def check_lines(self, name: str, lines: list[str], given: dict[str, GivenClock]) -> None:
-        """Check that no line calls a pair without a clock `accepted` or `waived`."""
         self.check(name, [line for line in lines for item, some in given.items()
                           if re.search(rf"\b{item}(  |,|\.(stl|pes|ts),)", line)
                           and re.search(r"\b(accepted|(?<!relative, )waived)\b", line)
@@ -149,7 +145,6 @@ class Clocks(Feeds):
         self.check_results(name, several)
 
     def list_call(self, name: str, chance: random.Random, origins: dict[str, int]) -> None:
-        """Judge a list with different options for each pair, and check the results."""
         lines, given = list[str](), dict[str, GivenClock]()
         common = ["--relative"] * (chance.random() < .2)
         for item, origin in origins.items():

@@ -81,7 +81,7 @@ class UnjudgedPairs(Case):
                                 make_example_request(self.path("one.stl"), self.path("one.ts")),
                                 None), \
             self.make_runner()
-        for does in (signal.pause, time.tzset):  # wait for a signal, or return
+        for does in (signal.pause, time.tzset):
             with mock.patch.object(batch, "judge_forked_pair", lambda *_: does() or 2):
                 self.must("begun", calls.start(item) is None)
             other = self.make_runner()

@@ -153,7 +153,6 @@ class UntrustedResults(Case):
                       "'", "\n"]
 
     def page(self, number: int) -> str:
-        """Write an index page with random texts. Return its path."""
         chance = random.Random(number)
 
         def text() -> str:

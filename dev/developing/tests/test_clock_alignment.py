@@ -91,7 +91,7 @@ class RepeatedPages(Case):
             self.must("some", [*base.copy_between(cues, 100, 160).changes] == frames[1:-1])
 
 
-Inserter = Callable[[random.Random, bool], int]  # delay of an in-cue or out-cue
+Inserter = Callable[[random.Random, bool], int]  # returns the delay of an in-cue or out-cue
 # Correct inserters: the tolerance that accepts them, and a function that returns random delays.
 INSERTERS: dict[str, tuple[int, Inserter]] = {
     "on time": (1, lambda chance, is_begin: 0),
@@ -113,7 +113,6 @@ def measure_inserter_delays(inserter: Inserter) -> Lateness:
 
 
 def do_all_agree(origin: OriginEstimate) -> bool:
-    """Return whether all cues in the first part match."""
     return any(part.matches == part.total for part in origin.parts[:1])
 
 
@@ -131,7 +130,7 @@ class EstimatedClocks(unittest.TestCase):
     def estimate_clock_delay(self, delays: Sequence[int], within: int,
                              shares: Lateness | None = None
               ) -> tuple[int, EarlyCues | None]:
-        """Return by how many frames the clock is later than the first cue, and the early cues."""
+        """Choose a clock. Return its delay after the first cue in frames, and the early cues."""
         frames = [100 * at + at * at for at in range(1, len(delays) + 1)]
         cues = [ExpectedCue(frame, b"%d" % at, True) for at, frame in enumerate(frames)]
         base = find_time_bases([],
@@ -334,7 +333,7 @@ class JudgedPairs(Case):
                                                    "twice"), item.said)
 
 
-# Ticks added to all PTS: none, or numbers after which PTS wrap.
+# Ticks added to all PTS: none, or amounts that make the PTS wrap.
 SHIFTS = (0, CLOCK - 150 * TICKS, CLOCK - 10 * TICKS, CLOCK - TICKS // 2, CLOCK - 1, 5 * TICKS)
 
 

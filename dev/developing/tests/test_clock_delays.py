@@ -261,8 +261,8 @@ class FirstPictures(Case):
     def test_is_not_judged_if_first_pictures_are_lost(self) -> None:
         ts_packets = add_pictures(read_example_file("story.pes"), FIRST_PTS,
                                   picture=make_mpeg_2_picture() + SLICES).packets
-        # After two tables, each picture takes two TS packets; a group of 14 pictures follows three
-        # skipped pictures.
+        # Each stream has two tables, then three skipped pictures, then a group of 14 pictures. Each
+        # picture has two TS packets.
         for at, words in ((2 + 2 * 2 + 1, ""), (2 + 2 * 3 + 1, "lost"), (2 + 2 * 10 + 1, "lost"),
                           (2 + 2 * 16 + 1, "lost"), (2 + 2 * 18 + 1, "")):
             lost = b"".join(ts_packets[:at] + ts_packets[at + 1:])
@@ -307,8 +307,8 @@ ENCODERS = {"mpeg2video": ["-bf", "2", "-g", "15"],
 def compare_with_ffprobe(case: Case, name: str, stl: str, data: bytes, is_closed: bool) -> None:
     """Compare the PTS of the first picture of a stream with the output of ffprobe.
 
-    The expected PTS is that of the first key frame, or the smallest PTS in its group if the group
-    is closed or unknown.
+    In an open group, this is the PTS of the first key frame. Otherwise it is the smallest PTS in
+    the group of this frame.
     """
     path = case.write("cut.ts", data)
     process = qc(case, stl, path, "--start", "00:00:00:00")
@@ -333,7 +333,6 @@ def compare_with_ffprobe(case: Case, name: str, stl: str, data: bytes, is_closed
 
 
 def read_ffprobe_rows(case: Case, path: str, entries: str) -> list[list[str]]:
-    """Run ffprobe on the video, and return the values of these entries in rows."""
     process = subprocess.run(["ffprobe", "-v", "quiet", "-select_streams", "v", "-show_entries",
                               entries, "-of", "csv=p=0", path], stdout=subprocess.PIPE, check=False)
     rows = [line.split(",") for line in process.stdout.decode().split("\n")]

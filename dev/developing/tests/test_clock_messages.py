@@ -1,4 +1,4 @@
-"""Test messages about the origin and the first picture, and about pages of the next programme."""
+"""Test the messages about the origin, the first picture, and pages of the next programme."""
 from __future__ import annotations
 
 import itertools
@@ -230,7 +230,7 @@ class OriginLines(unittest.TestCase):
         self.assertEqual(list(format_breaks(parts[:1])), [])
 
     def shift_texts(self, *frames: int, bases: tuple[int, ...] = ()) -> list[str]:
-        """Return the lines printed about programme parts of a minute that have these delays."""
+        """Return the lines printed for one-minute parts with these delays in frames."""
         parts = [make_part_at(item, 1500 * at, (*bases, *[0] * 99)[at])
                  for at, item in enumerate(frames)]
         cues = [SimpleNamespace(frame=1500 * at) for at in range(len(parts))]
@@ -267,7 +267,6 @@ GROUP = [2, 0, 1, 5, 3, 4, 8, 6, 7]
 
 
 def list_programme_lines(*streams: tuple[int, int]) -> list[str]:
-    """Return the lines of `survey` for a PMT with Teletext and these streams."""
     return [f"programme 1 {VIDEO}", f"stream {TELETEXT} 6",
             *(f"stream {pid} {kind}" for pid, kind in streams)]
 
@@ -282,9 +281,9 @@ def survey_lines(lines: Sequence[str], is_whole: bool = True) -> Survey:
 
 def make_picture_lines(frames: Sequence[int | None], end: str = "0 0",
                        passed: int = 3) -> list[str]:
-    """Return the lines of `survey` for pictures at these frames, whose PTS wrap.
+    """Return the lines of `survey` for pictures at these frames.
 
-    `passed` is the number of pictures before the first group.
+    The PTS wrap between the pictures. `passed` is the number of pictures before the first group.
     """
     pts = ["-" if item is None else (CLOCK - 5 + TICKS * item) % CLOCK for item in frames]
     return [*list_programme_lines((VIDEO, MPEG_2)), f"video {VIDEO} {passed}",

@@ -37,7 +37,6 @@ def make_even_times(count: int, step: int, lasts: int, text: bytes = b"Number %d
 
 class Origins(Case):
     def stl(self, times: Sequence[ShownSubtitle], name: str = "one.stl") -> str:
-        """Write a subtitle file with boxed texts. Return its path."""
         return write_subtitle_file(self, [(begin, end, make_box_line(text)) for begin, end,
                                           text in times],
                                    name, 0, 20)
@@ -309,7 +308,6 @@ class Tracks(unittest.TestCase):
     cues = find_expected_cues([Due(100 * at, 100 * at + 50, at, b"%d" % at) for at in range(1, 7)])
 
     def base(self, changes: dict[int, bytes], within: int = 0) -> TimeBase:
-        """Return a time base in which the page changes to these texts at these frames."""
         return TimeBase(self.cues, [PageChange(TICKS * frame, letters, frame, ((20, letters),))
                                     for frame, letters in sorted(changes.items())],
                         0, 1000 * TICKS, (0, 999), within)
@@ -412,7 +410,7 @@ class Tracks(unittest.TestCase):
                 (first[2], [0] * 7 + [3] * 5, 7), ([3] * 7 + [0] * 5, second, 6),
                 ([3] * 5 + [0, 1] + [0] * 5, [0] * 5 + [3, 0] + [3] * 5, 5)):
             self.assertEqual(row((0, 0, before), (0, -40, own)), [(0, end), (-40, 12)], own)
-        # A change to another track must gain more than four points, and the next cue must be later.
+        # A change to another track must gain more than four points, and must not go back in time.
         half, rest = [3] * 7 + [0] * 5, [0] * 7 + [3] * 5
         for before, place, expected in (
                 ([3] * 8 + [2] * 4, (0, -40), [(0, 12)]), ([3] * 7 + [2] * 5, (0, -40), [

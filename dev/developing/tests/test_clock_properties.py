@@ -20,7 +20,6 @@ Sending = tuple[int, bytes]  # unwrapped PTS and text of a page transmission
 
 
 def make_random_cues(chance: random.Random, count: int | None = None) -> list[ExpectedSubtitle]:
-    """Return random subtitles, some of them adjoining or with a repeated text."""
     frame, result = chance.randrange(FRAMES_OF_A_DAY // 2), []
     for number in range(count or chance.choice((6, 12, 30))):
         frame += chance.choice((0, MAX_ERASED_FRAMES + 1,
@@ -83,7 +82,7 @@ class OriginProperties(unittest.TestCase):
             chance = random.Random(seed)
             shown = make_random_cues(chance)
             cues = find_expected_cues(shown)
-            near = -TICKS * cues[len(cues) // 2].frame % CLOCK  # PTS wrap at the middle cue
+            near = -TICKS * cues[len(cues) // 2].frame % CLOCK  # the PTS wraps at the middle cue
             result.append((chance, shown, cues, chance.choice((0, near, chance.randrange(CLOCK)))))
         return result
 
@@ -281,7 +280,7 @@ def find_range_by_rule(packets: Packets, frames: Sequence[int], begin: int, end:
     if blank and not (is_shown and own[0] in changed):
         first = blank[-1]
     elif is_shown and own[0] not in changed and "h" in does[own[0]] and headers:
-        first = headers[-1]  # repeats a text that was sent before
+        first = headers[-1]
     else:
         first = next((at for at in own if "h" in does[at]), -1)
     if first < 0:

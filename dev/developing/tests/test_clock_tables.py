@@ -31,7 +31,7 @@ def changes_at(several: Sequence[tuple[int, bytes]], shift: int = 0) -> list[Pag
 
 def make_time_base(cues: Sequence[ExpectedCue], several: Sequence[tuple[int, bytes]],
                    length: int = 9999, within: int = 0, shift: int = 0) -> TimeBase:
-    """Return a time base of `length` frames with these page changes."""
+    """Return a time base that lasts `length` frames and has the page changes `several`."""
     return TimeBase(cues, changes_at(several, shift), shift, (shift + TICKS * length) % CLOCK,
                     (0, 99), within)
 
@@ -93,9 +93,9 @@ class TimeBases(unittest.TestCase):
 
     def test_selects_the_time_bases_with_the_most_changes(self) -> None:
         def bases(counts: Sequence[int], inside: tuple[int, int]) -> list[tuple[int, int, int]]:
-            """Return the selected time bases, each with its start, end and number of changes.
+            """Return the start, end and number of page changes of each selected time base.
 
-            `counts` contains the numbers of changes. Each time base has four PES packets.
+            `counts` contains the number of page changes in each time base.
             """
             packets = Packets(0, [PacketRun(4 * at, 4, 10 ** 9 - at * 10 ** 6, TICKS, "h", "")
                                   for at in range(len(counts))])
@@ -137,7 +137,7 @@ class Fits(unittest.TestCase):
 
     def fit(self, sent: Sequence[tuple[int, bytes]], offs: Sequence[int] = (0,) * 9,
                length: int = 50, within: int = 0, shift: int = 0, start: int = 10) -> Any:
-        """Return the match of cues with page changes if the programme starts at frame `start`."""
+        """Match the cues with the page changes of a programme that starts at frame `start`."""
         return make_time_base(self.cues,
                               [(TICKS * frame + off, letters) for (frame, letters), off in
                                zip(sent, offs)], length, within, shift).compare(start)

@@ -83,7 +83,6 @@ class PtsWraps(Case):
                 if item[0] != item[1]])
 
     def multiplex(self, size: int = 3) -> list[Packet]:
-        """Return a transport stream with PES packets of `size` TS packets."""
         return make_multiplex([enlarge_pes_packets(join_pes_packets([item]), size)
                                for item in self.sent], Shape(200))
 

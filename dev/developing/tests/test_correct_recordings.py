@@ -33,7 +33,7 @@ GATE = 8  # the tests judge every eighth recording of a kind
 
 
 class DelayBound(NamedTuple):
-    """Limits for a kind of recording: how many may be refused, and how many not judged."""
+    """The number of recordings of a kind, and how many of them may be refused or not judged."""
 
     recordings: int
     refused: int
@@ -101,7 +101,7 @@ def make_late_inserter(kind: str, count: int, is_adjoining: bool) -> Callable[[C
 
 
 def list_inserters() -> Iterator[Recording]:
-    """Yield recordings of three lengths by each inserter. They are judged without a clock."""
+    """Yield three recordings of each inserter, with different lengths. They have no clock."""
     for kind, (begins, ends) in SHARES.items():
         within = max([1, *begins, *ends])
         for count in (12, 24, 80):
@@ -112,7 +112,6 @@ def list_inserters() -> Iterator[Recording]:
 
 
 def list_all_except(left_out: Callable[[int], bool]) -> Callable[[random.Random, int], list[int]]:
-    """Return a function that selects all frames except those for which `left_out` is true."""
     return lambda chance, frames: [at for at in range(frames) if not left_out(at)]
 
 
@@ -151,7 +150,7 @@ CUE_DISTANCES: dict[str, Callable[[random.Random, int], list[int]]] = {
 def make_paced_programme(case: Case, name: str, count: int, each: int) -> tuple[str, SentPes]:
     """Return a subtitle file and its transmission.
 
-    `each` PES packets are sent in each frame that has a page or is selected by the kind `name`.
+    `each` PES packets are sent in each frame that has a page or that `CUE_DISTANCES[name]` selects.
     """
     chance, times = random.Random(f"{name} {count}"), list_even_times(count)
     stl = write_programme(case, times)
@@ -176,7 +175,6 @@ def make_paced_case(name: str, count: int, each: int) -> Callable[[Case], tuple[
 
 
 def paces() -> Iterator[Recording]:
-    """Yield recordings with one or two PES packets in the frames that DISTANCES selects."""
     for kind, each, names in ((ONE_A_FRAME, 1, [*CUE_DISTANCES, "alone"]),
                               (TWO_A_FRAME, 2, [*CUE_DISTANCES])):
         for name in names:
@@ -194,7 +192,6 @@ class Service(NamedTuple):
 
 
 def make_service_tables(services: Sequence[Service]) -> list[tuple[int, bytes]]:
-    """Return the PAT and the PMT of each programme, all with the same PCR PID."""
     pids = [PMT_PID if not at else LATER_PMT + at for at in range(len(services))]
     result = [(0,
                make_program_association([(item.number, pid) for item, pid in zip(services, pids)]))]
@@ -211,10 +208,10 @@ OWN_SERVICE = Service(1, [(TELETEXT_PID, 2, 0x88)])
 def make_service_stream(sent: SentPes,
                         plan: Sequence[tuple[int, Sequence[Service]]] = ((0, (OWN_SERVICE,)),),
                         beside: Sequence[int] = ()) -> bytes:
-    """Return a transport stream with PES packets, each after a PCR.
+    """Return a transport stream with a PCR before each PES packet.
 
-    `plan` contains indexes of PES packets, each with the programmes announced from this packet on.
-    The PIDs `beside` carry PES packets without Teletext.
+    `plan` contains indexes of PES packets, each with the programmes that are announced from this
+    PES packet on. Each PID in `beside` carries PES packets without Teletext.
     """
     maker = StreamMaker([])
     for number, (pts, some) in enumerate(sent):
@@ -293,9 +290,10 @@ def make_recording_with_tail(count: int) -> Callable[[Case], tuple[str, str]]:
 
 
 def make_short_subtitle_case(count: int, is_before: bool) -> Callable[[Case], tuple[str, str]]:
-    """Return a function that writes a programme next to short subtitles of another programme.
+    """Return a function that writes a programme and many short subtitles of another programme.
 
-    The short subtitles last six minutes. The programme is before them if `is_before` is true.
+    The short subtitles last six minutes. They precede the programme if `is_before` is true, and
+    otherwise follow it.
     """
     def made(case: Case) -> tuple[str, str]:
         quick = [(FIRST_TCI + 20 * at, FIRST_TCI + 20 * at + 15) for at in range(450)]
@@ -404,7 +402,6 @@ def remove_single_packets(sent: SentPes, each: int) -> bytes:
 
 
 def is_bounded(kind: str, words: Sequence[str]) -> bool:
-    """Return whether the numbers of refused and of unjudged recordings are within their limits."""
     bound = LOST[kind]
     refused = sum(word not in ("accepted", "not judged") for word in words)
     return refused <= bound.refused and \

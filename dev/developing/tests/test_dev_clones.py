@@ -25,7 +25,7 @@ NEITHER, PASSED, FAILED = (b"\n%d passed, %d failed\n" % it for it in ((0, 0), (
 NEEDED_PATHS = ["subttx", "crates.txt", "HANDLES", "tools", "dev", "crates"]
 
 
-COPIED_FILES = {"lib.rt", "parity.rt", "Lib.antt"}  # names of the files that a copied crate has
+COPIED_FILES = {"lib.rt", "parity.rt", "Lib.antt"}  # names of files that are copied with a crate
 
 
 def left_out(folder: str, names: list[str]) -> set[str]:
@@ -57,7 +57,6 @@ class Clone:
         return os.path.join(self.top, *names)
 
     def tool(self, name: str, *args: str) -> list[str]:
-        """Run a tool in the copied repository. Return its output lines."""
         return self.case.call([self.path("tools", name), *args]).out.decode().splitlines()
 
     def put(self, folder: str, program: str, line: str = LINE) -> None:
@@ -90,12 +89,11 @@ class Clone:
         self.case.write_program(self.path("bin", name), text)
 
     def write_toolchain(self, text: str = TOOLCHAIN) -> str:
-        """Write the script `rt` to the copied repository. Return a PATH with its folder."""
+        """Write the script `rt`. Return a PATH that contains its folder."""
         self.give("rt", text)
         return os.pathsep.join([self.path("bin"), remove_rt_from_path()])
 
     def call(self, command: list[str], path: str, user: int | None = None) -> CompletedCall:
-        """Run a command with this PATH, as another user if `user` is given."""
         process = subprocess.run(command, cwd=self.case.folder, env={**os.environ, "PATH": path},
                                  user=user, stdin=subprocess.DEVNULL, stdout=subprocess.PIPE,
                                  stderr=subprocess.PIPE, timeout=SECONDS, check=False)
@@ -326,7 +324,7 @@ SLEEP_COMMAND = "echo $$ >>'PIDS'; exec sleep 600"
 
 
 class BareClone(Clone):
-    """A copy of the repository that has a fake toolchain, but no PROVED for its program."""
+    """A copy of the repository with a fake toolchain and without the file PROVED."""
 
     def __init__(self, case: Case, fails: str = "", first: str = "") -> None:
         super().__init__(case)
@@ -341,7 +339,6 @@ class BareClone(Clone):
         self.give("rattle", text.replace("CALLED", self.called))
 
     def start(self) -> CompletedCall:
-        """Run ./subttx with the fake toolchain on the PATH."""
         return self.call([self.path("subttx"), *PACKET], self.environment)
 
     def prove(self, *args: str) -> list[str]:

@@ -42,7 +42,6 @@ def list_anchors(text: str) -> set[str]:
 
 
 def sources() -> str:
-    """Return the text of all specifications and sources in crates/."""
     paths = [*glob.glob(os.path.join(TOP, "crates", "*", "specs", "**", "*.antt"), recursive=True),
              *glob.glob(os.path.join(TOP, "crates", "*", "src", "**", "*.rt"), recursive=True)]
     return "\n".join(read(path) or "" for path in sorted(paths))
@@ -202,12 +201,12 @@ PACKAGES = [*(os.path.join("tools", "subtitles", name)
               for name in ("common", "formats", "request", "stream", "clock", "recording",
                            "judging", "results", "report", "cli", "air")),
             os.path.join("dev", "developing"), os.path.join("dev", "developing", "every_place")]
-SCRIPT = re.compile(r"`([a-z][\w.-]*/?)`")  # name of a script or folder in these lists
+SCRIPT = re.compile(r"`([a-z][\w.-]*/?)`")
 LINE = re.compile(r"^([a-z_]+) +\S", re.M)  # line of the module list in __init__.py
 
 
 def list_folder_entries(folder: str) -> list[str]:
-    """Return the names in a folder, modules without extension and folders with a slash."""
+    """Return the names in a folder. Remove the extension of modules, and add a slash to folders."""
     return sorted(name.removesuffix(".py") + "/" * os.path.isdir(os.path.join(folder, name))
                   for name in os.listdir(folder) if not name.startswith("__"))
 
@@ -273,7 +272,7 @@ class ModuleLists(Case):
 
 
 STORED_FILE = "dev/bodies-to-read.txt"
-# First lines of the functions and impls in STORED, which make system calls without a contract.
+# First lines of functions and impls in STORED. They make system calls that have no contract.
 HELD = [
     "fn main(rt: HostRuntime)",
     "impl<'a, R: Files + Eprint> FileSystem for SystemFiles<'a, R>",
@@ -329,7 +328,6 @@ def read_document(name: str) -> str:
 
 
 def read_source_texts() -> list[str]:
-    """Return the paths of the source files of all crates."""
     crates = os.path.join(TOP, "crates")
     return [os.path.relpath(os.path.join(place, name), TOP)
             for crate in sorted(os.listdir(crates))

@@ -1,4 +1,4 @@
-"""Test shell scripts, the job scripts in the manual, and which tests .ci/run selects."""
+"""Test shell scripts, the job scripts in the manual, and the selection of tests by .ci/run."""
 from __future__ import annotations
 
 import glob
@@ -57,7 +57,7 @@ class JobScripts(Case):
         self.env = {**os.environ, "PATH": f"{self.path('bin')}:{os.environ['PATH']}"}
 
     def check_results(self, name: str) -> None:
-        """Check that each line of the list has a result, and that no text in it was executed."""
+        """Check that each line of the list has a result, and that none of its text was executed."""
         os.makedirs(self.path("out"), exist_ok=True)
         result = {path.removesuffix(".json"): (read_result(self.path(f"out/{path}")) or
                                                {})["verdict"]

@@ -206,7 +206,6 @@ PACKAGES = [os.path.join(TOOLS, "subtitles"), os.path.join(DEV, "developing")]
 
 
 def is_python(path: str) -> bool:
-    """Return whether a file is a Python script, judged by its first line."""
     if not os.path.isfile(path):
         return False
     with open(path, "rb") as file:
@@ -225,7 +224,6 @@ def modules(folder: str) -> list[str]:
 
 
 def scripts() -> list[str]:
-    """Return the paths of all Python scripts in tools/, dev/ and bench/."""
     paths = (os.path.join(folder, name) for folder in (TOOLS, DEV, BENCH)
              for name in sorted(os.listdir(folder)))
     return list(filter(is_python, paths))
@@ -233,10 +231,9 @@ def scripts() -> list[str]:
 
 @contextlib.contextmanager
 def open_mypy_cache(case: Case) -> Iterator[str]:
-    """Return a context manager for mypy's cache folder.
+    """Return a context manager that yields a cache folder for mypy.
 
-    It is the user's folder, or an empty folder if another process uses the user's folder or CI is
-    set.
+    This is the user's folder. If another process uses it, or if CI is set, it is an empty folder.
     """
     home = os.environ.get("XDG_CACHE_HOME") or os.path.expanduser("~/.cache")
     kept = os.path.join(home, "subttx-mypy")

@@ -34,7 +34,6 @@ NATIONAL_FOLDER = os.path.join(TOP, "dev", "vectors", "national")
 
 
 def read_vector_rows(name: str) -> Iterator[dict[str, str]]:
-    """Yield the rows of a table in dev/vectors/national/."""
     with open(os.path.join(NATIONAL_FOLDER, name), encoding="utf-8", newline="") as file:
         yield from csv.DictReader(file, delimiter="\t", quoting=csv.QUOTE_NONE)
 
@@ -77,7 +76,7 @@ class NationalOptions(unittest.TestCase):
                     whole = encode_line(text, option)
                     if (option.word, text) not in known and len(whole) == 1:
                         self.assertEqual(whole, [None], (option.word, text))
-                    if (option.word, text) not in known:  # here each byte has its own cell
+                    if (option.word, text) not in known:  # each byte has its own cell
                         self.assertEqual(whole, [code for byte in text for code in encode_line(
                             bytes([byte]), option)], (option.word, text))
 
@@ -132,7 +131,7 @@ class Advice(unittest.TestCase):
             self.assertEqual(read_character_bytes(text, at), letter, text)
 
 
-# Compare transmissions in each national option with dev/vectors/national/ and with libzvbi.
+# Tests that compare transmissions in each national option with dev/vectors/national/ and libzvbi
 
 FIRST_TCI, LENGTH = 90_000, 25  # first TCI and subtitle duration, in frames
 ACCENT_BYTES = range(0xC0, 0xD0)  # diacritical marks
@@ -151,7 +150,7 @@ class Text(NamedTuple):
 
 
 def list_character_texts(option: NationalOption) -> list[tuple[Text, str]]:
-    """Return a text for each character of a national option, with the character."""
+    """Return pairs of a character of a national option and a text that contains it."""
     return [(Text(bytes.fromhex(line["stl"]), 5, 0, (
         START_BOX * 2 + bytes([int(line["cell"], 16)]) + END_BOX * 2).ljust(40)),
         chr(int(line["unicode"][2:], 16)))
@@ -230,7 +229,7 @@ class Transmissions(Case):
                             option.word)[1][-1]
 
     def transmit(self, option: NationalOption, several: list[Text]) -> list[list[bytes]]:
-        """Return the Teletext packets sent for each text, none if it repeats the previous page."""
+        """Return the Teletext packets of each text; a repeated text has none."""
         line = self.schedule_texts(option, several)
         self.must(f"{option.word}: a schedule", line.startswith("written "), line)
         line = self.program("check", "a.stl", "a.pes", "--every", "1500", "--option",
@@ -330,7 +329,7 @@ def flip_header_bits(data: bytes, *bits: int) -> bytes:
 
 
 def check_warnings(case: Case, name: str, process: CompletedCall, kinds: list[str]) -> list[Any]:
-    """Check the kinds of the warnings in one.json, and that all are reported. Return them."""
+    """Check the kinds of the warnings in one.json, and that all were printed. Return them."""
     verdict = json.loads(case.read("one.json"))
     check_schema(case, verdict, f"{name}: the schema")
     result: list[Any] = verdict["warnings"]

@@ -23,7 +23,6 @@ GSI = 1024
 
 
 def refusal(call: Callable[[], object], error: type[Exception] = Stop) -> str:
-    """Return the message of the error that a function raises, or an empty string."""
     try:
         call()
     except error as reason:

@@ -1,4 +1,4 @@
-"""Test parsing the output of `check --all`, and judging changing files and stored recordings."""
+"""Test the parsing of the output of `check --all`, files that change, and stored recordings."""
 from __future__ import annotations
 
 import contextlib

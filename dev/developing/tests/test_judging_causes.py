@@ -29,7 +29,6 @@ TIMES = [(BEGIN + 100 * at, BEGIN + 100 * at + 50) for at in range(6)]
 
 
 def insert_page(sent: SentPes, frame: int, *rows: bytes) -> SentPes:
-    """Replace the Teletext packets in a frame with a page that has these rows."""
     pts = frame * TICKS
     return sorted([*(item for item in sent if item[0] != pts), (pts, [HEADER, *rows, CLOSING])])
 
@@ -151,7 +150,6 @@ def make_page_named(name: str) -> Rows:
 
 
 def empty(within: int = 0) -> Timeline:
-    """Return a timeline without any decoded page."""
     return Timeline(Packets(0), PAGE, 0, within)
 
 
@@ -161,14 +159,14 @@ def steady(decoded: Timeline) -> None:
 
 
 def fake_answer(spans: list[tuple[int, int]], *edges: tuple[int, int]) -> Any:
-    """Return output of `check` with refused content in the frames `spans`, and other faults."""
+    """Return output of `check` with fault 72 in the frames `spans` and the first faults `edges`."""
     firsts = {number: parse_fault_line(f"refused {number} Edge frame {format_frame(frame)}")
               for number, frame in edges}
     return SimpleNamespace(first_faults=firsts, fault_spans={72: Spans(spans)})
 
 
 class RandomRow:
-    """A row of dev/vectors/causes.tsv from a seed: a random programme and its decoded pages."""
+    """A row of dev/vectors/causes.tsv: a random programme and its decoded pages."""
 
     def __init__(self, number: int) -> None:
         self.chance = chance = random.Random(number)
@@ -295,12 +293,13 @@ ROWS_BY_HAND: list[tuple[str, str, list[tuple[int, str, int | None, int | None, 
         (0, "never sent", None, None, None), (1, "another subtitle's text", None, 0, "a")]),
     ("100-150 a;200-250 b;300-350 c", "0:- 100:a 150:- 200:c 250:- 300:c 350:-", [
         (1, "another subtitle's text", None, 2, "c")]),
-    # A subtitle is searched for from 250 frames before its TCI to 250 frames after it.
+    # The page of a subtitle is searched for in the 250 frames before and the 250 frames after its
+    # TCI.
     ("100-150 a;300-340 b", "0:- 300:b 340:- 350:a 380:-", [(0, "late", 250, None, "a")]),
     ("100-150 a;300-340 b", "0:- 300:b 340:- 351:a 380:-", [
         (0, "never sent", None, None, None), (1, "unknown", None, None, "a")]),
-    # A text that is not in the file and overlaps two subtitles counts for the subtitle that it
-    # overlaps longer.
+    # A text that is not in the file and overlaps two subtitles is reported for the subtitle that it
+    # overlaps for more frames.
     ("100-203 a;203-260 b", "0:- 100:a 200:z 260:-", [(1, "wrong text", None, None, "z")]),
     ("100-190 a;203-260 b", "0:- 100:a 195:- 200:z 260:-", [
         (0, "not erased", None, None, "a"), (1, "wrong text", None, None, "z")]),
@@ -334,14 +333,14 @@ ROWS_BY_HAND: list[tuple[str, str, list[tuple[int, str, int | None, int | None, 
     ("100-150 a", "0:- 100:a 120:z 130:a 160:-", [(0, "wrong text", None, None, "z")]),
     ("50-60 c;100-150 a;300-350 b", "0:- 50:c 110:- 120:b 150:- 300:b 350:-", [
         (0, "not erased", None, None, "c"), (1, "another subtitle's text", None, 2, "b")]),
-    # A regular stream has a pause until the page changes, or until a few frames before.
+    # The pause ends when the page changes, or a few frames earlier.
     ("100-150 a", "0:- 100:a 161:- !148-160", [(0, "unknown", None, None, "a")]),
     ("100-150 a", "0:- 100:a 165:- !148-160", [(0, "not erased", None, None, "a")]),
     ("100-150 a", "0:- 111:a 150:- !95-110", [(0, "unknown", None, None, None)]),
     ("100-150 a", "0:- 112:a 150:- !95-110", [(0, "late", 12, None, "a")]),
     ("100-150 a", "0:- 160:- !95-149", [(0, "unknown", None, None, None)]),
     ("100-150 a", "0:- 160:- !95-148", [(0, "never sent", None, None, None)]),
-    # Rows are sent while the page is not open, before, within and after the subtitle's time.
+    # Rows are sent without a header before, during and after the subtitle's time.
     ("100-150 a", "0:- 160:- @99 @150", [(0, "never sent", None, None, None)]),
     ("100-150 a", "0:- 160:- @90 @120", [(0, "unknown", None, None, None)]),
     ("100-150 a", "0:- 160:- @149 @160", [(0, "unknown", None, None, None)]),

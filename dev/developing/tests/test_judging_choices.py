@@ -59,7 +59,6 @@ LANGUAGES = {b"08": ("german", "the language of the file (LC) is 08"),
 
 
 def list_choices_of(judged_pair: JudgedPair) -> list[tuple[Any, ...]]:
-    """Return the values that qc chose, in the order of CHOICES."""
     keys = ("option", "value", "matches", "total", "part", "line")
     return sorted((tuple(choice[key] for key in keys) for choice in judged_pair.result["choices"]),
                   key=lambda values: CHOICES.index(values[0]))
@@ -68,7 +67,6 @@ def list_choices_of(judged_pair: JudgedPair) -> list[tuple[Any, ...]]:
 class Choices(Case):
     def check_choices(self, name: str, judged_pair: JudgedPair,
                       expected: list[tuple[Any, ...]]) -> None:
-        """Check the values that qc chose, and check that it printed each of them."""
         wrong = [*list_choice_errors(judged_pair.result, judged_pair.said)]
         self.must(name, list_choices_of(judged_pair) == expected and not wrong,
                   (list_choices_of(judged_pair), wrong, judged_pair.said))
@@ -191,7 +189,7 @@ class ForeignPackets(ProgrammeCase):
         self.pes += [make_pes_packet(last + 90_000 * at, blank) for at in range(1, 5)]
 
     def make_stream(self, first: int, number: int) -> bytes:
-        """Return a stream with wrong stream_ids (31) or lengths (32) from PES packet `first` on."""
+        """Return a stream with the fault `number` (31 or 32) in all PES packets from `first` on."""
         def list_carried_packets(at: int) -> list[tuple[int, bytes]]:
             item = self.pes[at]
             if at >= first:
@@ -231,7 +229,6 @@ CLOCK_WORDS = ["--start", format_frame(FIRST_TCI - 50)]
 
 
 def make_number_text(number: int, end: str = "") -> bytes:
-    """Return a text with two lines of different lengths."""
     both = [f"{end}{number} {LINES[(number + at) % len(LINES)]}{end}" for at in (0, 1)]
     return "\x8a\x8a".join(both).encode("latin-1")
 
@@ -252,7 +249,6 @@ class Profiles(Case):
         return process.out.decode().splitlines()
 
     def propose_options(self, *args: str) -> list[str]:
-        """Run `--measure`, and return the proposed options."""
         return [line for line in self.profile(*args) if not line.startswith("#")]
 
     def test_proposes_the_longest_pace_if_all_are_regular(self) -> None:

@@ -166,7 +166,6 @@ class Folders(Case):
 
 
 def subtitle(index: int, begin: int) -> Subtitle:
-    """Return a subtitle that lasts one frame."""
     return Subtitle(index, index, begin, begin + 1, 20, 2, b"text")
 
 

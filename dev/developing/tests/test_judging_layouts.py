@@ -37,7 +37,6 @@ FAULTS = [
     ("", "an empty word is an unknown item"), ("fit,", "an empty word is an unknown item"),
     ("up,after=0E", "after=0E is not valid: after takes up to 4 codes 01 to 0D"), ("fit,up", None)]
 def write_texts(case: Case, texts: list[tuple[bytes, int]], name: str, dsc: bytes = b"1") -> str:
-    """Write a subtitle file with these texts and justification codes. Return its path."""
     blocks = b"".join(make_subtitle_blocks(
         at, FIRST_TCI + DISTANCE * at, FIRST_TCI + DISTANCE * at + DURATION, 18, justify, text)
                       for at, (text, justify) in enumerate(texts))
@@ -59,7 +58,10 @@ def make_random_texts(chance: random.Random, has_codes: bool, between: bytes, co
 class OtherLayouts(Case):
     def judge(self, texts: list[tuple[bytes, int]], drawn: str, *args: str,
               sent: list[tuple[bytes, int]] | None = None) -> JudgedPair:
-        """Judge a file of `texts` with a recording of `sent`, by default `texts`, in a layout."""
+        """Judge a subtitle file of `texts` with a recording of `sent` in the layout `drawn`.
+
+        If `sent` is not given, the recording contains `texts`.
+        """
         number = str(len(os.listdir(self.folder)))
         stl = write_texts(self, texts, f"{number}.stl")
         other = write_texts(self, sent or texts, f"{number}.sent.stl")
@@ -173,7 +175,7 @@ FileText = tuple[bytes, int]  # subtitle text and justification code
 
 
 def alter_text(printed: FileText, kind: int) -> FileText:
-    """Return a text with a difference in codes, characters, lines or justification (`kind`)."""
+    """Return a copy of a text with other codes, characters, lines or justification."""
     text, justify = printed
     return [(b"\x03" + text, justify), (b"\x08" + text, justify), (b"\x0d" + text, justify),
             (b"  " + text, justify), (text.replace(b"\x8a", b"\x8a\x8a\x8a", 1), justify),
@@ -187,7 +189,7 @@ class Programme(NamedTuple):
     text: str
     file: list[FileText]
     sent: list[FileText]
-    step: int  # maximum number of frames between PES packets; if 0, only page changes send them
+    step: int  # maximum number of frames between PES packets; 0 means only at page changes
     place: int  # number of the first lost PES packet
     lost: int
     is_stream: bool
@@ -210,7 +212,6 @@ class Programme(NamedTuple):
         return lines if isinstance(lines, TextFault) else make_page_rows(lines)
 
     def is_right(self) -> bool:
-        """Return whether each page is sent as expected, and at the expected time."""
         pages = [(self.page(item), self.page(other)) for item, other in zip(self.file, self.sent)]
         return not self.has_wrong and self.early is None and self.missing is None and \
             all(item == other for item, other in pages)
@@ -236,7 +237,7 @@ def make_seeded_programme(seed: int) -> Programme:
         printed = alter_text(programme.file[at], kind)
         if not isinstance(programme.page(printed), TextFault):
             programme.file[at] = printed
-    # Draw these values last, so that each seed still makes the same programme as before.
+    # Draw these values last, so that the programme of a seed is the same as without them.
     kind = some.randrange(4)
     lost = programme.lost if kind == 0 else 0  # a programme has a loss or another fault, not both
     return programme._replace(
@@ -262,7 +263,6 @@ def insert_fault(programme: Programme, sent: SentPes) -> SentPes:
 
 
 def insert_empty_packets(sent: SentPes, step: int) -> SentPes:
-    """Insert PES packets without Teletext into every `step`-th frame."""
     if not step:
         return sent
     known = dict(sent)
@@ -284,7 +284,6 @@ def make_layout_recording(programme: Programme, sent: SentPes) -> bytes:
 
 
 def judge(case: Case, seed: int) -> tuple[Programme, JudgedPair]:
-    """Make the programme with this seed, judge it, and return the programme and the judged pair."""
     item = make_seeded_programme(seed)
     stl = write_texts(case, item.file, f"{seed}.stl")
     other = write_texts(case, item.sent, f"{seed}.sent.stl")

@@ -1,4 +1,4 @@
-"""Test that a loss of PES packets that may hide a wrong page is reported."""
+"""Test that a loss of PES packets is reported if it may hide a wrong page."""
 from __future__ import annotations
 
 import unittest
@@ -22,7 +22,6 @@ WRONG_PAGE_INDEX = WRONG_PAGE_FRAME - BEGIN  # index of the PES packet with the 
 
 
 def enlarge_pes_packets(data: bytes, count: int) -> bytes:
-    """Add stuffing to a PES packet so that it fills `count` TS packets."""
     result = data + STUFFING_UNIT * (4 * count - len(data) // 46)
     return result[:4] + (len(result) - 6).to_bytes(2, "big") + result[6:]
 

@@ -317,7 +317,7 @@ class Sentences(ProgrammeCase):
                   judged_pair.result)
         data = bytearray(read_example_file("hello.pes"))
         at = DATA + 4 + 2 + 7  # offset of C11 to C14 in the first header of the file
-        data[at:at + 1] = reverse_bits(b"\xd0")  # code word of 8, which selects German
+        data[at:at + 1] = reverse_bits(b"\xd0")  # Hamming 8/4 code of 8, which selects German
         judged_pair = judge_files(self, HELLO, self.write("one.pes", data))
         words = "the header is German, but --option is english"
         self.must("header", judged_pair.result["hints"] == [f"67: {words}"]

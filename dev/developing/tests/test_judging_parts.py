@@ -233,7 +233,6 @@ def spread_over_three_frames(sent: SentPes) -> SentPes:
 
 
 def add_jitter(sent: SentPes) -> SentPes:
-    """Return the transmission with each PTS shifted by a few milliseconds."""
     chance = random.Random(1)
     return [(pts + chance.randrange(-EARLY_TICKS // 2, EARLY_TICKS // 2), packets) for pts,
             packets in sent]

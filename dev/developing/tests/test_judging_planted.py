@@ -1,7 +1,7 @@
-"""Test that the sentence about a refused programme reports the fault that was planted in it.
+"""Test that qc names the fault that was planted in a refused programme.
 
 From dev/, `python3 -m developing.tests.test_judging_planted PROGRAM FIRST LAST` tries the seeds
-FIRST to LAST - 1 and prints each fault that the sentence does not report.
+FIRST to LAST - 1. It prints each planted fault that qc does not name.
 """
 from __future__ import annotations
 
@@ -21,7 +21,7 @@ ADVICE_OPTIONS = ("--within", "--keeping", "--no-complete", "--allow-lost", "--s
 
 
 def shift_pts_off_frames(sent: SentPes, every: int, first: int, ticks: int) -> SentPes:
-    """Shift the PTS of each `every`-th PES packet from packet `first` on by `ticks`."""
+    """Add `ticks` to the PTS of each `every`-th PES packet, beginning with the index `first`."""
     return [(pts + ticks * (at >= first and (at - first) % every == 0), some)
             for at, (pts, some) in enumerate(sent)]
 
@@ -117,11 +117,10 @@ class Advice(ProgrammeCase):
                        [item for item in ADVICE_OPTIONS if item in words and number != 79], [])
 
 
-COUNT, NAMED = 100, 95  # number of programmes, and minimum number of named faults
+COUNT, NAMED = 100, 95  # number of programmes, and minimum number of faults that qc must name
 
 
 def judge_for_sentence(case: Case, programme: Programme) -> str:
-    """Judge a programme with --origin, and return the sentence about its verdict."""
     path = case.write("planted.pes", join_pes_packets(programme.sent()))
     return judge_files(case, programme.stl, path, "--origin", "0",
                   *programme.inserter.options()).verdict.sentence
@@ -140,7 +139,7 @@ class PlantedFaults(Case):
 
 
 def main(program: str, first: int, last: int) -> None:
-    """Print each planted fault that qc does not report, and the numbers of faults."""
+    """Print each planted fault that qc does not name, and the numbers of faults of each kind."""
     BENCH.chosen = program
     case = PlantedFaults("test_finds_at_least_95_of_100_planted_faults")
     counts = collections.Counter[str]()

@@ -1,4 +1,4 @@
-"""Test the reported reasons for a verdict, and headers that keep the page."""
+"""Test the reported reasons for a verdict, and headers that do not erase the page."""
 from __future__ import annotations
 
 from typing import Sequence
@@ -206,12 +206,12 @@ CLEAR = "C4 (erase page) is clear"
 
 
 def change_subcode(header: bytes, digit: int) -> bytes:
-    """Return header values with another first digit of the subcode."""
+    """Return the header values with a different first digit of the subcode."""
     return header[:2] + bytes([digit]) + header[3:]
 
 
 def numbers(**places: int) -> bytes:
-    """Return the values of a header that keeps the page. `p5=1` changes the value at index 5."""
+    """Return the values of a header that does not erase the page, with `p5=1` as value 5."""
     result = bytearray(KEEPING_NUMBERS)
     for name, value in places.items():
         result[int(name[1:])] = value
@@ -312,7 +312,6 @@ class HeaderCounts(Case):
 
 
 def make_packets_at(frames: Sequence[tuple[int, list[bytes]]]) -> bytes:
-    """Return a PES file with the given Teletext packets in the given frames."""
     return b"".join(make_pes_packet(TICKS * frame, packets) for frame, packets in frames)
 
 
@@ -322,13 +321,11 @@ ONE_ROW_LESS, WITHOUT_ROWS = [KEEPING_HEADER, FIRST_ROW, CLOSING], [KEEPING_HEAD
 
 
 def make_frame_text(frame: int) -> str:
-    """Format a frame number as in a fault line."""
     return f"frame {format_frame(frame)}"
 
 
 class MissingRows(Case):
     def decode(self, *frames: tuple[int, list[bytes]], within: int = 0) -> tuple[Timeline, Rows]:
-        """Decode the given packets. Return the timeline and the page at the first frame."""
         packets = decode_packets(self, make_packets_at(frames), within=within)
         return packets, packets.get_page_at(frames[0][0])
 
@@ -406,10 +403,10 @@ class MissingRows(Case):
 
 
 def add_keeping_repeats(sent: SentPes, way: str = "", frames: int = 0) -> SentPes:
-    """Return the transmission with headers that keep the page in all repeated pages.
+    """Return the transmission with headers that do not erase the page in all repeated pages.
 
-    If `way` is `left out`, the first repeated page has no rows. If it is `subcode`, the subcode of
-    this page is different. `frames` delays all repeated rows.
+    If `way` is `left out`, the first repeated page has no rows. If `way` is `subcode`, the subcode
+    of this page is different. All repeated rows are sent `frames` frames later.
     """
     result: SentPes = []
     before: list[bytes] = []

@@ -1,5 +1,4 @@
-"""Test long inputs, and that correct subtitles are judged even if others in their file are refused.
-"""
+"""Test long inputs, and the judging of correct subtitles in files with refused subtitles."""
 from __future__ import annotations
 
 import csv
@@ -335,7 +334,6 @@ class ExpectedPages(unittest.TestCase):
 
 class RandomFiles(Case):
     def make_random_stl_file(self, chance: random.Random) -> bytes:
-        """Return a file of up to eight random subtitles, some overlapping, unordered or invalid."""
         blocks: list[ShownSubtitle] = []
         frame = chance.randrange(1, 1000)
         for number in range(chance.randrange(1, 9)):

@@ -155,7 +155,7 @@ CONTROL, CONTENT = "67 Control frame 10:00:01:00 packet 0", \
 
 
 def insert_two_faults(sent: SentPes) -> SentPes:
-    """Replace a header with a header that keeps the page, and send a wrong text later."""
+    """Replace a header with a header that does not erase the page, and send a wrong text later."""
     result = list(sent)
     result[1:2] = [(result[1][0], [KEEPING_HEADER, *result[1][1][1:]])]
     at = next(number for number, (_, some) in enumerate(sent) if b"3" in join_rows(some))
@@ -164,7 +164,6 @@ def insert_two_faults(sent: SentPes) -> SentPes:
 
 
 def join_rows(packets: list[bytes]) -> bytes:
-    """Return the text of the second packet, without parity bits."""
     return b"".join(bytes(byte & 0x7F for byte in packet[2:]) for packet in packets[1:2])
 
 
@@ -323,7 +322,7 @@ ROWS: tuple[tuple[bytes, Visibility, str], ...] = (
     (b"\x0b\x0b\x03\x1d\x04Hi", Visibility.ALL, ""),  # blue text on yellow
     (b"\x0b\x0b\x1d\x1cHi", Visibility.ALL, ""),  # white text on black
     (b"\x0b\x0b\x1d\x01Hi", Visibility.ALL, ""),  # red text on white
-    (b"\x0b\x0b\x1d\x11HI\x07", Visibility.ALL, ""),  # red mosaics, which show capital letters
+    (b"\x0b\x0b\x1d\x11HI\x07", Visibility.ALL, ""),  # mosaic mode still shows capital letters
     (b"Hi\x0b", Visibility.NONE, NO_BOX), (b"Hi\x0b\x0b", Visibility.NONE, NO_BOX),
     (b"\x0b\x0b\x0a\x0aHi", Visibility.NONE, NO_BOX), (b"Hi", Visibility.NONE, NO_BOX),
     (b"\x0b\x0b\x1dHi", Visibility.NONE, SAME_COLOUR),

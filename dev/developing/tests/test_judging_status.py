@@ -25,7 +25,7 @@ from subtitles.judging.status import (
 from .bench import Case
 from .parts import make_answer, make_part
 
-ERROR, WARNING, NUMBER = 72, 67, 38  # fault numbers; the severity NAMED makes WARNING a warning
+ERROR, WARNING, NUMBER = 72, 67, 38  # fault numbers; NAMED makes WARNING a warning
 ENDS_READING = (*range(10, 16), 17, *range(22, 26), 30, 31, 32, 44)
 LOST_PACKETS, SILENT = 45, 79
 RIGHT = {
@@ -113,7 +113,7 @@ class Decisions(unittest.TestCase):
 
     @staticmethod
     def decide_expected_word(names: Sequence[str]) -> str:
-        """Return the expected verdict on parts without losses, by the names of their outputs."""
+        """Return the expected verdict for parts without losses that have the named outputs."""
         if set(names) & WRONG.keys():
             return NOT_JUDGED
         if any(name.startswith("refused") for name in names):

@@ -239,7 +239,6 @@ class FrameGrids(Case):
 
 
 def make_page_with_rows(*rows: tuple[int, bytes]) -> tuple[bytes, ...]:
-    """Return a page that is blank except for these rows."""
     page = list(BLANK_PAGE)
     for number, text in rows:
         page[number - 1] = text.ljust(40)
@@ -315,7 +314,7 @@ class NamesOfFiles(Case):
                           "--pid", "0x101", "--origin", "7", "--within", "2", "--breaks", "1",
                           "--pes", "2-9", "--option", "german")
         whole = "tools/qc one.stl one.ts --page 150 --every 50 --option german --origin 7 " \
-            "--no-complete --pid 0x101 --breaks 1 --pes 2-9 --within 2"  # in the table's order
+            "--no-complete --pid 0x101 --breaks 1 --pes 2-9 --within 2"
         for more, expected in (((), whole), (("--page", "P"), whole.replace(" --page 150", "")
                                              + " --page P"),
                                (("--origin", "T"),

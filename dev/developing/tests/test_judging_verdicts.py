@@ -35,12 +35,10 @@ OTHER_LINES = ("refused 38 UnitLength pes 7", "refused 70 Repeat frame 00:00:09:
 
 
 def make_part_verdict(parts: Sequence[Part], severity: Severity | None = None) -> Verdict:
-    """Return a verdict on these parts, with the clock given by the user."""
     return Verdict(make_pair_request(), severity or Severity(None), "now", list(parts))
 
 
 def make_pair_request(*args: str) -> Request:
-    """Return the request for a pair, with --origin and more options."""
     return make_example_request("one.stl", "one.pes", "--origin", "0", *args)
 
 

@@ -30,7 +30,6 @@ FIRST_PID, SECOND_PID, THIRD_PID = 257, 258, 259
 
 
 def list_announcements(*lines: str) -> list[Announcement]:
-    """Return the announcements of page 888 in lines of `survey`."""
     return [*find_announcements(read_survey(*lines).programmes, PAGE)]
 
 
@@ -39,7 +38,6 @@ def compute_pcr_or_none(seconds: float | None) -> int | None:
 
 
 def make_pmt_lines(number: int, *pids: int, clock: int = 100, page: str = "888") -> list[str]:
-    """Return lines of `survey` about a PMT that announces a page."""
     return [f"programme {number} {clock}", *(line for pid in pids for line in (
         f"stream {pid} 6", f"announce {pid} {page} 656e67 2"))]
 
@@ -206,7 +204,6 @@ class JudgedStreams(ProgrammeCase):
         return [(OLD, self.pes[at])]
 
     def send_headers_only(self, at: int) -> Sequence[tuple[int, bytes]]:
-        """Return a PES packet on the PID NEW, without Teletext packets."""
         return [(NEW, make_pes_packet(decode_pts(self.pes[at]), []))]
 
     def check_never_sent(self, name: str, told: JudgedPair, words: str) -> None:
@@ -296,7 +293,7 @@ class SourcesWithoutPage(ProgrammeCase):
                 for pts, packets in self.sent]
 
     def exclude(self, last: int) -> SentPes:
-        """Return the transmission without rows, and up to frame `last` without Teletext packets."""
+        """Return PES packets with headers only. Up to frame `last` they have no headers either."""
         return [(pts, packets if pts // TICKS > last else []) for pts, packets in self.blank()]
 
     def test_refuses_headers_without_rows_if_a_subtitle_is_expected(self) -> None:

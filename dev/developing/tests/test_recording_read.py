@@ -1,4 +1,4 @@
-"""Test how a recording is read: the choice of its PID, the messages, the stored copy."""
+"""Test how a recording is read: the choice of its PID, the messages, and the stored copy."""
 from __future__ import annotations
 
 import itertools
@@ -26,7 +26,6 @@ FIRST_PID, SECOND_PID, THIRD_PID = 257, 258, 259
 
 def read_recording(survey: Survey, *args: str, name: str = "one.ts", kind: int = stat.S_IFREG,
              folder: str = "") -> Any:
-    """Return a recording made from lines of `survey`."""
     lines = list[str]()
     listener: Any = SimpleNamespace(lines=lines, print_line=lines.append,
                                     add_selection=lambda item: lines.append(item.line))
@@ -39,12 +38,10 @@ def read_recording(survey: Survey, *args: str, name: str = "one.ts", kind: int =
 
 
 def make_pes_line(pid: int, does: str = "heob", number: int = 0, pts: int = SECOND) -> str:
-    """Return a line of `survey` about a PES packet."""
     return f"pes {pid} {number} 1 {pts} 0 {does}/{'0' * ('h' in does)} 1 0"
 
 
 def make_pmt_lines(number: int, pid: int) -> list[str]:
-    """Return lines of `survey` for a recording of a minute with a PMT that announces page 888."""
     return ["pcr 100 0", f"programme {number} 100", f"stream {pid} 6",
             f"announce {pid} 888 656e67 2", f"pcr 100 {60 * SECOND}"]
 
@@ -132,7 +129,6 @@ class ChosenPids(Case):
 
 class Messages(Case):
     def check_lines(self, lines: Sequence[str], expected: Sequence[str]) -> None:
-        """Check that each line contains its expected text."""
         self.assertEqual(len(lines), len(expected), (lines, expected))
         self.assertTrue(all(map(str.__contains__, lines, expected)), (lines, expected))
 

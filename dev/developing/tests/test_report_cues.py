@@ -23,7 +23,6 @@ from .test_judging_status import make_severity
 
 
 def page(text: bytes) -> Rows:
-    """Return the rows of a page with a text in row 20."""
     return (*BLANK_PAGE[:19], text.ljust(40), *BLANK_PAGE[20:])
 
 

@@ -17,7 +17,6 @@ SUBTITLE_HEADER, PLAIN_HEADER = bytes([8, 8, 0, 8, 0, 8, 1, 0]), bytes([8, 8, 0,
 
 
 def page(**rows: bytes) -> Rows:
-    """Return the rows of a page; a keyword such as `r20` gives the cells of row 20."""
     return tuple(rows.get(f"r{number}", b"").ljust(40) for number in range(1, 25))
 
 

@@ -49,7 +49,6 @@ class RandomPair:
         self.stl = self.make_random_stl_file()
 
     def make_random_stl_file(self) -> bytes:
-        """Return a random subtitle file, sometimes with faults."""
         chance, frame, result = self.chance, self.begin, list[bytes]()
         count = chance.choice((60, 300)) if self.is_long else chance.choice((2, 1, 3, 3, 5, 8))
         gaps = (0, 20, 1000) if self.is_long else (0, 0, 5, 40, 120, 700)
@@ -72,14 +71,12 @@ class RandomPair:
         return head + b"".join(result)
 
     def damage_block(self, block: bytes) -> bytes:
-        """Return a TTI block in which up to two bytes have invalid values."""
         data = bytearray(block)
         for at in self.chance.choices(list(BYTES), k=self.chance.choice((0, 1, 1, 2))):
             data[at] = self.chance.choice(BYTES[at])
         return bytes(data)
 
     def transmission(self) -> bytes:
-        """Return the PES packets that `schedule` makes, with random faults."""
         words = ["--every", str(self.every), "--origin", str(self.origin), "--option", self.option,
                  "--page", page_name(*self.page)]
         subprocess.run([BENCH.program, "schedule", self.stl_path, self.pes_path, *words],
@@ -105,11 +102,10 @@ class RandomPair:
             pes[number] = pes[number][:byte] + b"\5" + pes[number][byte + 1:]
 
     def move_packet(self, pes: list[bytes], at: int) -> None:
-        """Shift the PTS of one PES packet by up to a frame."""
         self.shift(pes, at, self.chance.choice((-90, 5, 1800, TICKS)), 1)
 
     def delay_packets(self, pes: list[bytes], at: int) -> None:
-        """Move two PES packets, or all from the index `at` on, by a random number of frames."""
+        """Move two PES packets, or all from index `at` to the end, by a random number of frames."""
         self.shift(pes, at, TICKS * self.chance.choice((-2, 1, 3, 40)),
                    self.chance.choice((2, len(pes))))
 
@@ -139,12 +135,10 @@ class RandomPair:
         pes[at:at + 2] = pes[at:at + 2][::-1]
 
     def cut(self, pes: list[bytes], at: int) -> None:
-        """Truncate the transmission at a PES packet or within it."""
         pes[at:] = [item[:self.chance.choice((20, 100))] for item in pes[at:at + self.chance.choice(
             (0, 1))]]
 
     def words(self) -> list[str]:
-        """Write the files of the pair, and return the arguments for qc."""
         chance = self.chance
         with open(self.stl_path, "wb") as file:
             file.write(self.stl)
@@ -191,7 +185,6 @@ class CueRow(NamedTuple):
     cells: list[str]
 
     def frame(self, at: int) -> int | None:
-        """Return the frame of the time code in a cell, or `None` if it has no time code."""
         return parse_frame(self.cells[at])
 
 
@@ -223,9 +216,9 @@ class Reports(unittest.TestCase):
 
     def check_rows(self, judged_pair: JudgedPair, told: list[FaultLine],
                    rows: list[CueRow]) -> None:
-        """Check that each judged subtitle has a row, and that verdicts `right` are correct.
+        """Check that each judged subtitle has a row.
 
-        No fault may be reported while a subtitle with this verdict was expected.
+        If its verdict is `right`, no fault may be reported while the subtitle was expected.
         """
         part = judged_pair.verdict.parts[0]
         judged = [item.index for item in part.expected_pages().subtitles]
@@ -241,7 +234,6 @@ class Reports(unittest.TestCase):
             self.assertEqual(set[str]().union(*(row.classes for row in rows)), {"ok"})
 
     def check_counts(self, judged_pair: JudgedPair, page: tree.Element) -> None:
-        """Check that the report's table has each fault number with its count."""
         table = {row.get("id"): text_of(row[1]) for row in page.iter(HTML + "tr")
                  if re.fullmatch(r"n\d+", row.get("id", ""))}
         counts = judged_pair.verdict.parts[0].check_output.counts_by_number

@@ -11,7 +11,7 @@ from .bench import Case
 from .judged import JudgedPair, judge_files
 from .transmissions import schedule_pes, write_subtitle_file
 
-COUNT, SEEDS, EACH = 50, 20, 5  # subtitles in a programme, programmes, programmes in a test
+COUNT, SEEDS, EACH = 50, 20, 5  # subtitles per programme, all programmes, programmes per test
 ORIGIN = 900_000
 SYLLABLES = ("ba", "ke", "lo", "mi", "nu", "ra", "se", "to", "vi", "wo")
 
@@ -25,7 +25,6 @@ class TimedSubtitle(NamedTuple):
 
 
 def make_random_subtitles_at(chance: random.Random) -> list[TimedSubtitle]:
-    """Return random subtitles with different texts, some of them adjoining."""
     subtitles, begin = list[TimedSubtitle](), 900_050
     for _ in range(COUNT):
         end = begin + chance.randint(40, 90)
@@ -51,12 +50,10 @@ def edit_subtitles(subtitles: list[TimedSubtitle], chance: random.Random) -> lis
 
 class ActualTimes(Case):
     def sent(self, subtitles: list[TimedSubtitle]) -> list[bytes]:
-        """Return the PES packets in which `schedule` transmits the subtitles."""
         return schedule_pes(self, write_subtitle_file(self, subtitles, "sent.stl"), "--every", "25",
                          "--origin", str(ORIGIN))
 
     def judge(self, packets: list[bytes], expected: list[TimedSubtitle], *args: str) -> JudgedPair:
-        """Judge PES packets with a subtitle file that contains the expected subtitles."""
         return judge_files(self, write_subtitle_file(self, expected), self.write(
             "one.pes", b"".join(packets)), "--origin", str(ORIGIN), *args)
 

@@ -240,7 +240,6 @@ WRONG: dict[str, list[list[str]]] = {
 
 
 def list_tool_names() -> list[str]:
-    """Return the names of all executable files in tools/ and dev/."""
     listed = {name for folder in ("tools", "dev") for name in os.listdir(os.path.join(TOP, folder))}
     return [name for name in sorted(listed)
             if os.access(get_tool_path(name), os.X_OK) and os.path.isfile(get_tool_path(name))]
@@ -248,7 +247,6 @@ def list_tool_names() -> list[str]:
 
 @functools.lru_cache(None)
 def load_tool_module(name: str) -> Any:
-    """Import a Python tool as a module, and cache the module."""
     return import_script(name)
 
 

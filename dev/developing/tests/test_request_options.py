@@ -1,4 +1,4 @@
-"""Test the table of options, profiles, and options in the lines of a list."""
+"""Test profiles, the table of options, and options in a list of pairs."""
 from __future__ import annotations
 
 import argparse
@@ -82,7 +82,7 @@ print(json.dumps({
                  taken("--collect", "x", "--new-one", "5")],
     "line": REQUEST.to_json(make_line_request([*pair, *given], make_default_options()))}))
 """
-# Options, their values, and their values in a JSON result.
+# Options, their arguments, and the matching values in a JSON result.
 ROWS: list[tuple[str, str, Any]] = [
     ("--page", "8A1", "8A1"), ("--every", "7", 7), ("--option", "german", "german"),
     ("--origin", "0", 0), ("--pid", "0x101", 257), ("--severity", "a file", "a file"),
@@ -305,7 +305,6 @@ class ProfileFiles(Case):
 
 class Overrides(Case):
     def request(self, call: str, line: str | None) -> Request:
-        """Return the request made from arguments, or from a line in a list of pairs."""
         words = make_default_options(*call.split())
         return make_example_request("a.stl", "a.ts", *call.split()) if line is None else \
             make_line_request(["a.stl", "a.ts", *line.split()], words, self.folder)

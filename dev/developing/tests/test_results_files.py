@@ -101,7 +101,6 @@ class WrittenResults(Case):
         self.must("no more", find_misfit(result) == ".faults[0].new")
 
     def judge(self) -> dict[str, Any]:
-        """Judge a recording with faults, and return its JSON result."""
         stl = self.write("story.stl", read_example_file("story.stl"))
         return judge_files(self, stl,
                            self.write("x.pes", read_example_file("five-faults.pes"))).result
@@ -179,7 +178,6 @@ class UntrustedResults(Case):
         return judge_files(self, stl, ts, "--every", "25").result
 
     def words(self, **more: Any) -> argparse.Namespace:
-        """Return the parsed arguments for a folder of results."""
         for name in ("in", "out"):
             os.makedirs(self.path(name), exist_ok=True)
         words = argparse.Namespace(**vars(make_default_options()))

@@ -31,7 +31,7 @@ def pts_at(seconds: float | None, origin: int = 0) -> int | None:
 
 
 def make_packets_at(times: Sequence[float | None], origin: int = 0, does: str = "he") -> Packets:
-    """Return PES packets at these seconds after `origin`. A packet at `None` has no PTS."""
+    """Return PES packets with the PTS `times` in seconds after `origin` and the flags `does`."""
     return Packets(257, [PacketRun(number, 1, pts_at(item, origin), 0, does, "")
                          for number, item in enumerate(times)])
 
@@ -64,8 +64,8 @@ class Silences(unittest.TestCase):
                 lull = Silence(first, last, is_near)
                 self.assertEqual(select_idle_silences([lull], every, pauses),
                                  [lull] * (expected or is_near), (first, last, pauses))
-        # An interval without PES packets (a silence) at the end of a pause is idle if most pauses
-        # that are at least as long also end with a silence.
+        # An interval without PES packets at the end of a pause is normal if most other pauses with
+        # at least the same length also end with such an interval.
         silence = Silence(begin + 400, end, False)
         of_others: list[tuple[list[int], bool]] = [
             ([], True), ([500], False), ([499], True), ([499, 499], True), ([500, 499], False),

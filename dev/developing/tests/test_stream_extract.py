@@ -1,4 +1,4 @@
-"""Test transport streams written by dev/pes2ts, `extract`, and languages of subtitle files."""
+"""Test `extract`, the transport streams that dev/pes2ts writes, and languages of subtitle files."""
 from __future__ import annotations
 
 

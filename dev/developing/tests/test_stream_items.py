@@ -26,10 +26,11 @@ class SentText(NamedTuple):
 
 
 class Row(NamedTuple):
-    """A test case: a programme of 100 subtitles, and the layout that qc proposes for it.
+    """A test case with a programme of 100 subtitles.
 
-    `times` subtitles are transmitted like `one`. `taken` is the proposed layout. `left` is a layout
-    that qc does not propose, although it would draw `more` subtitles correctly.
+    `times` is the number of subtitles with the text and the transmitted text of `one`. `taken` is
+    the layout that qc proposes. `left` is a layout that qc does not propose, although it would draw
+    `more` further subtitles correctly.
     """
 
     name: str
@@ -46,8 +47,8 @@ SPACES, EMPTY = SentText(b"  Hi", b"Hi"), SentText(b"Hi\x8a\x8aHo", b"Hi\x8aHo")
 WHITE, FLASH_END_TEXT = SentText(b"\7Hi", b"Hi"), SentText(b"\x09Hi", b"Hi")
 NEW_BACKGROUND, BLACK = SentText(b"\x04\x1d\7Hi", b"\4\7Hi"), SentText(b"\x1cHi", b"Hi")
 NO_BOX = SentText(b"\x00Hi", b"Hi")  # the code 00 is never sent
-# Programmes in which some texts are transmitted without one of their control codes, spaces or empty
-# lines. A layout item can describe this.
+# In these programmes, some texts are transmitted without one of their control codes, without
+# spaces, or without empty lines. Each omission can be described by a layout item.
 ROWS = [
     *(Row(f"{name}, {count}", one, count, "", left, count)
       for name, one, left in (("colour", COLOUR, "strip=03"), ("flash", FLASH, "strip=08"),
@@ -62,7 +63,7 @@ ROWS = [
                               ("00", NO_BOX, "strip=00")) for count in (1, 9, 10)),
     Row("none", COLOUR, 0, ""),
 ]
-# Each layout with its items, and the layout without each item.
+# Layouts, and for each item of a layout the same layout without this item.
 ITEMS = [
     ("strip=0307", [("strip=03", "strip=07"), ("strip=07", "strip=03")]),
     ("before=0D*0B0B", [("before=0D*0B0B", ""), ("before=0D*0B0B", "before=0D0B0B")]),
@@ -71,8 +72,8 @@ ITEMS = [
     ("after=0A,fit,left=2", [("after=0A", "fit,left=2"), ("fit", "after=0A,left=2"),
                              ("left=2", "after=0A,fit")]),
     ("", [])]
-OVERRULING = (*range(0x01, 0x08), 0x09, 0x0C)  # codes that override the codes of a line
-# Layouts, each with those of its items that may hide text from viewers.
+OVERRULING = (*range(0x01, 0x08), 0x09, 0x0C)  # alphanumeric colours, steady, normal size
+# Layouts, and their items that may hide text from viewers.
 CHOSEN_ITEMS = [
     ("strip=0A0B", ""), ("strip=0D", "strip=0D"), ("strip=0D,before=0D0B0B", ""),
     ("strip=0D,before=0B0B*0D", ""), ("strip=0A0B,before=", "before=,strip=0B"),

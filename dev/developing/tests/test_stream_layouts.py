@@ -61,8 +61,8 @@ DRAWN = [
     ("0D Hi 8A 8A Ho", 20, 2, "", "20 16 0B0B0D4869 0A0A 22 17 0B0B486F 0A0A"),
     ("03 06 07", 22, 2, "text,before=,after=", "22 17 03 0607"), ("E6", 22, 2, "", "50 at 0")]
 WORDS = "the cat sat on a mat and then it went to see what was there Hi Ho no yes".split()
-# Layouts of inserters: whether the subtitle file has control codes, whether it leaves an empty
-# line for double height, and the layout.
+# For each inserter: whether the subtitle file has control codes, whether the file has an empty line
+# below text in double height, and the layout.
 BROADCASTER_LAYOUTS = [
     (False, False, "before=0D0B0B,double"), (True, True, ""), (False, False, "text"),
     (False, False, "last"), (False, False, "after=0A"), (False, False, "after="),
@@ -79,7 +79,7 @@ def encode_printed_text(printed: str) -> bytes:
 
 
 def draw_with_program(text: bytes, row: int, justify: int, layout: Layout) -> str:
-    """Return the rows that a layout draws, written as in DRAWN."""
+    """Return the rows that a layout draws, in the notation of DRAWN."""
     result = draw_text(text, row, justify, layout, ENGLISH)
     if isinstance(result, TextFault):
         return f"{result.number} at {result.at}"
@@ -88,7 +88,7 @@ def draw_with_program(text: bytes, row: int, justify: int, layout: Layout) -> st
 
 
 def line(chance: random.Random, has_codes: bool) -> bytes:
-    """Return a random line, with any control codes if `has_codes`, otherwise at most a colour."""
+    """Return a random line, with control codes if `has_codes`, or else with at most a colour."""
     text = " ".join(chance.choice(WORDS) for _ in range(chance.randrange(1, 5)))[:30].encode()
     colour = chance.choice([b"", b"", b"\3", b"\6"])
     return b"\x0d" + colour + b"\x0b\x0b" + text + b"\x0a\x0a" if has_codes else colour + text
@@ -96,7 +96,7 @@ def line(chance: random.Random, has_codes: bool) -> bytes:
 
 def programme(chance: random.Random, has_codes: bool, leaves_room: bool, layout: Layout,
               count: int = 120) -> list[SentSubtitle]:
-    """Return random subtitles, each with its transmission in a layout.
+    """Return random subtitles and their texts as transmitted in a layout.
 
     `has_codes` adds control codes to the lines. `leaves_room` puts an empty line between two lines.
     """

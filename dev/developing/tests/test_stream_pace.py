@@ -57,7 +57,6 @@ def make_two_silences(steps: int) -> list[int]:
 
 
 def repeat_steps(steps: Sequence[int], times: int) -> list[int]:
-    """Return frames whose intervals are `steps`, repeated `times` times."""
     result = [0]
     for step in [*steps] * times:
         result.append(result[-1] + step)
@@ -324,13 +323,13 @@ def fill_missing_frames(sent: SentPes) -> SentPes:
 
 
 def send_in_bursts(sent: SentPes, times: Sequence[tuple[int, int]]) -> SentPes:
-    """Keep only the PES packets in the second after each cue."""
+    """Keep only the PES packets that are sent within a second after a cue."""
     return [(pts, packets) for pts, packets in sent if any(
         edge * TICKS <= pts < (edge + 25) * TICKS for both in times for edge in both)]
 
 
 def remove_pid_packets(result: list[Packet], first: int, count: int) -> list[Packet]:
-    """Delete `count` TS packets of the Teletext PID, beginning with its packet `first`."""
+    """Delete `count` TS packets of the Teletext PID, beginning with the one at index `first`."""
     own = [at for at, item in enumerate(result) if item.pid == TELETEXT_PID][first:first + count]
     missing = {*own}
     return [item for at, item in enumerate(result) if at not in missing]

@@ -21,7 +21,7 @@ from .streams import Programme, TELETEXT_PID, multiplex_programmes
 from .transmissions import write_programme, schedule_pes, subtitle_times
 
 
-# Tables of `lead` lines of `survey`, and the jumps (departures) that are found in them.
+# Tests of `lead` lines of `survey`, and of the clock jumps that are found in them.
 
 PID, VIDEO = 0x101, 0x200
 SECOND = 25  # frames in a second
@@ -124,8 +124,8 @@ def survey_leads(steps: Sequence[tuple[float, int]], origin: int = 0, video: int
                  jitter: int = 0) -> list[str]:
     """Return `lead` lines for the frames 500 to 2500.
 
-    `steps` contains jumps: the number of frames, and the frame of the jump. `jitter` is subtracted
-    from the lead in odd frames.
+    `steps` contains clock jumps: the size of each jump in frames, and the frame at which it occurs.
+    `jitter` is subtracted from the lead in odd frames.
     """
     result = []
     for frame in range(500, 2500, SECOND):

@@ -120,7 +120,6 @@ PAGE = 0, 0x88
 
 class StreamLosses(Case):
     def programme(self, every: int = 1) -> list[bytes]:
-        """Return the PES packets of a programme that lasts eight seconds."""
         stl = write_programme(self, [(begin, begin + 20) for begin in range(
             BEGIN, BEGIN + 25 * COUNT, 25)], text=make_box_line(b"Number %d"), name="story.stl")
         return schedule_pes(self, stl, "--every", str(every))

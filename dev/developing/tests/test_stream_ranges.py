@@ -29,7 +29,6 @@ def three(first: int) -> list[tuple[int, int]]:
 
 class DayFiles(Case):
     def day(self, *texts: bytes, name: str = "day.stl") -> str:
-        """Write a subtitle file with three subtitles in each of the first two minutes."""
         texts = texts or tuple(b"Number %d" % number for number in range(1, 7))
         return write_subtitle_file(self, [(begin, end, text) for (begin, end), text in zip(
             [*three(0), *three(MINUTE)], texts)], name)

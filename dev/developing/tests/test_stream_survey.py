@@ -36,7 +36,6 @@ def list_lines_of_kinds(case: Case, data: bytes, *kinds: str) -> list[str]:
 
 
 def make_frame_headers(count: int, first: int = FIRST_PTS) -> list[bytes]:
-    """Return a PES packet of Teletext for each frame."""
     return [make_pes_packet((first + TICKS * frame) % CLOCK, [CLOSING]) for frame in range(count)]
 
 
@@ -188,7 +187,6 @@ class PictureLines(Case):
                        [f"video {VIDEO_PID} {passed}"])
 
     def lines_of(self, *several: bytes) -> list[str]:
-        """Return the lines that `survey` prints about TS packets of the video PID."""
         maker = StreamMaker(make_components())
         maker.put_tables()
         return list_lines_of_kinds(self, maker.data + b"".join(several), "video", "picture",
@@ -268,7 +266,7 @@ class PictureLines(Case):
 
 
 class NamedLines(NamedTuple):
-    """A test case: the components of a PMT, and the expected lines."""
+    """A test case: the components of a PMT, and the lines that `survey` must print."""
 
     components: list[tuple[int, int, bytes]]
     wanted: list[str]
@@ -417,8 +415,8 @@ def make_stream_with_pcr(intervals: Iterable[tuple[int, int]], behind: int = 1) 
 class ClockLines(Case):
     def test_finds_late_pcr(self) -> None:
         usual = [(3600, 5)] * 1000
-        # Intervals between PCRs (ticks, TS packets), and the expected end of each `clock` line: the
-        # interval, and then the usual interval.
+        # Intervals between PCRs in ticks and TS packets. For each expected `clock` line: its
+        # interval and the usual interval.
         rows: list[tuple[str, Sequence[tuple[int, int]], list[str]]] = [
             ("late", [*usual, (10_801, 12)], ["10801 12 3600 5"]),
             ("not late", [*usual, (10_800, 12)], []),
@@ -501,7 +499,6 @@ class ClockLines(Case):
 
 
 def list_pes_lines(several: Iterable[bytes]) -> bytes:
-    """Return a transport stream with each PES packet in one TS packet."""
     maker = StreamMaker(make_components())
     maker.put_tables()
     for item in several:
@@ -510,7 +507,6 @@ def list_pes_lines(several: Iterable[bytes]) -> bytes:
 
 
 def make_pes_packets_with(*several: Sequence[bytes]) -> list[bytes]:
-    """Return one PES packet for each frame, with these Teletext packets."""
     return [make_pes_packet(FIRST_PTS + TICKS * frame, some) for frame, some in enumerate(several)]
 
 
@@ -523,7 +519,7 @@ def insert_third_packets(place: int, *new: int) -> list[bytes]:
 
 class PesLines(Case):
     def test_joins_pes_packets_that_differ_only_in_pts(self) -> None:
-        again = make_packet(0, 0, [8, 8, 0, 8, 0, 8, 3, 0], b" " * 32)  # header with C8
+        again = make_packet(0, 0, [8, 8, 0, 8, 0, 8, 3, 0], b" " * 32)
         # Expected fields of each `pes` line after the PID, named in docs/manual/survey.md.
         begun = f"0 1 {FIRST_PTS} 0 heob/88080810 1 0"
         rows: list[tuple[str, list[bytes], list[str]]] = [
@@ -666,7 +662,6 @@ def announce_jump_in_second(packets: list[bytes]) -> list[bytes]:
 
 
 def replace_unit_ids(pes: bytes, data_unit_id: int) -> bytes:
-    """Replace the data_unit_id of the first data unit of a PES packet."""
     return pes[:46] + bytes([data_unit_id]) + pes[47:]
 
 
@@ -862,7 +857,7 @@ class SurveyAnswers(Case):
             ("strays 5 3 20:41,21:4243; strays 5 9 -",
              lambda it: get_packets_of_pid_5(it).stray_rows,
              [(3, ((20, b"A"), (21, b"BC"))), (9, ())]),
-            # Damaged spaces and rows of spaces do not change the text.
+            # Rows of spaces, and spaces with a parity error, do not change the text.
             ("pes 5 0 1 100 0 he/ 1 0; rows 5 0 20:2041a042; pes 5 1 3 200 50 o/ 1 0; "
              "rows 5 1 20:20412042,21:2020; rows 5 3 -; pes 5 4 1 9 0 o/ 1 0; rows 5 4 20:20412042"
              "; pes 5 5 1 10 0 o/ 1 0; rows 5 5 21:20412042",

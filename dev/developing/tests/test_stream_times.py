@@ -40,7 +40,6 @@ def clocked(before: int, ticks: int, counters: str, packets: int = 100) -> PCRSt
 
 
 def find_airings(numbers: set[int]) -> list[tuple[int, int]]:
-    """Return the first and last number of each group of consecutive numbers."""
     firsts = sorted(number for number in numbers if number - 1 not in numbers)
     return list(zip(firsts, sorted(number for number in numbers if number + 1 not in numbers)))
 
@@ -51,7 +50,7 @@ MAX_TICKS_BEFORE = (CLOCK - DAY) // 2
 
 
 def choose_pts_around_clock(chance: random.Random) -> Iterator[tuple[int, int]]:
-    """Yield origins, each with a PTS distance, from the complete range of the 33-bit clock."""
+    """Yield pairs of an origin and a PTS distance from it, for the complete 33-bit clock."""
     for origin in (0, 1, TICKS, CLOCK // 2, CLOCK - 1,
                    *(chance.randrange(CLOCK) for _ in range(9))):
         for at in (0, TICKS, CLOCK // 2, DAY, CLOCK - MAX_TICKS_BEFORE, CLOCK, *(
@@ -196,7 +195,7 @@ class ClockTables(unittest.TestCase):
                 ([(0, 0), (0, MIN_GAP_FRAMES - 1)], [18]), ([(0, 0), (0, MIN_GAP_FRAMES)], [9, 18]),
                 ([(0, 0), (1, 1)], [9, 18]), ([(0, 0), (1, -1)], [9, 18]),
                 ([(0, 0), (0, -five), (0, -2 * five)], [9, 18, 27]),
-                ([(0, 0), (0, -75), (0, -150)], [27]),  # two delays by three seconds
+                ([(0, 0), (0, -75), (0, -150)], [27]),  # two delays of three seconds each
                 ([(0, 0), (0, -75), (0, -75 - five)], [18, 27]),
                 ([(0, 0), (0, 75), (0, 75 - five)], [27]),  # early, then late
                 ([(0, 0), (0, -five), (0, -1 - five)], [9, 27]),

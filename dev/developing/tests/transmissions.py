@@ -66,13 +66,11 @@ def make_random_stl(seed: int) -> tuple[bytes, list[int]]:
 
 
 def schedule_pages(case: Case, stl: str, *args: str, origin: int = 0, every: int = 25) -> SentPes:
-    """Return the transmission that `schedule` makes from a subtitle file."""
     return [(origin + decode_pts(item), get_teletext_packets(get_data_field(item)))
             for item in schedule_pes(case, stl, "--every", str(every), *args)]
 
 
 def schedule_pes(case: Case, stl: str, *args: str) -> list[bytes]:
-    """Return the PES packets that `schedule` makes from a subtitle file."""
     return packets(case.read(case.schedule(stl, "planned.pes", *args)))
 
 
@@ -87,12 +85,10 @@ def make_two_parts(case: Case) -> tuple[str, bytes]:
 
 
 def join_pes_packets(sent: SentPes) -> bytes:
-    """Return the contents of a PES file with a transmission."""
     return b"".join(make_pes_packet(pts % CLOCK, packets) for pts, packets in sent)
 
 
 def packets(data: bytes) -> list[bytes]:
-    """Split a file into its PES packets."""
     return list(read_pes_packets(io.BytesIO(data)))
 
 
@@ -108,12 +104,11 @@ PAUSES = 880, 1680  # first frames of the second and third part
 
 
 def subtitle_times(count: int) -> list[tuple[int, int]]:
-    """Return the start and end frames of evenly spaced subtitles."""
     return [(EACH * number, EACH * number + LASTS) for number in range(1, count + 1)]
 
 
 def make_delay(by: int, first: int = 0, last: int = 1 << 40) -> Change:
-    """Return a function that delays PES packets with PTS from `first` to `last` by `by` frames."""
+    """Return a function that delays the PES packets with PTS in a range by `by` frames."""
     return lambda sent: [(pts + by * TICKS * (first <= pts <= last), packets)
                          for pts, packets in sent]
 

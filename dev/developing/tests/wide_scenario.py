@@ -42,7 +42,6 @@ class WiderScenario(Scenario):
                 file.write(data)
 
     def change(self, data: bytearray) -> None:
-        """Change one field of the GSI block or of a TTI block, or truncate the file."""
         chance = self.chance
         block = GSI + TTI * chance.randrange((len(data) - GSI) // TTI)
         kind = chance.randrange(12)
@@ -97,7 +96,7 @@ class WiderScenario(Scenario):
                 and read_packet_pid(packet) == pid else packet for at, packet in enumerate(packets)]
 
     def flip_bits(self, packets: list[bytes]) -> list[bytes]:
-        """Flip random bits, among them the transport_error_indicator, of some packets."""
+        """Flip a random bit of some packets, such as the transport_error_indicator."""
         result = list(packets)
         for _ in range(self.chance.choice((1, 1, 5, 50))):
             at = self.choose_random_run(result,
@@ -108,14 +107,13 @@ class WiderScenario(Scenario):
         return result
 
     def delete_pid(self, packets: list[bytes]) -> list[bytes]:
-        """Delete the packets of a random PID from a random range of the stream."""
         pid, run = self.chance.choice(PIDS), self.choose_random_run(packets)
         return [packet
                 for at, packet in enumerate(packets) if at not in run or read_packet_pid(packet) !=
                 pid]
 
     def repeat(self, packets: list[bytes]) -> list[bytes]:
-        """Return the stream with each packet of a random PID sent twice in a random part."""
+        """Send each packet of a random PID twice in a random range of the stream."""
         pid, run = self.chance.choice(PIDS), self.choose_random_run(packets)
         return [item for at, packet in enumerate(packets)
                 for item in [packet] * (1 + (at in run and read_packet_pid(packet) == pid))]
@@ -138,18 +136,15 @@ class WiderScenario(Scenario):
         return result
 
     def cut(self, packets: list[bytes]) -> list[bytes]:
-        """Delete the packets before or after a random place."""
         at = self.chance.randrange(len(packets))
         return packets[at:] if self.has_chance(50) else packets[:at]
 
     def clear_flags(self, packets: list[bytes]) -> list[bytes]:
-        """Clear the random_access_indicator in all video packets."""
         return [packet[:5] + bytes([packet[5] & 0xBF]) + packet[6:]
                 if read_packet_pid(packet) == VIDEO_PID and packet[3] & 0x20 and packet[4]
                 else packet for packet in packets]
 
     def swap_runs(self, packets: list[bytes]) -> list[bytes]:
-        """Swap two adjoining runs of packets."""
         run, count = self.choose_random_run(packets), self.chance.choice((1, 5, 40))
         first, middle, last = run[0], run[0] + count, run[0] + 2 * count
         return [*packets[:first], *packets[middle:last], *packets[first:middle], *packets[last:]]
