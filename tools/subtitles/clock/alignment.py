@@ -22,7 +22,7 @@ from ..common.times import EARLY_TICKS, TICKS, wrap_pts
 from ..stream.packets import HEADER, Packets, PageChange, Range, Texts
 
 VOTES = 1_000_000  # maximum number of pairs of a cue and a page change to compare
-MAX_REPEATED_TEXTS = 20  # a text that more cues have is not compared
+MAX_REPEATED_TEXTS = 20  # texts that occur in more cues than this are not compared
 MAX_TRIED_ORIGINS = 64  # maximum number of origins to compare with all cues
 MAX_CUE_OFFSET = 50  # maximum difference between the delays of in-cues and out-cues, in frames
 MAX_BASES = 32  # maximum number of time bases to search
@@ -51,25 +51,25 @@ class OriginFit(NamedTuple):
     """An origin and the number of cues that match."""
 
     origin: int
-    matches: int  # cues that match a page change
-    content_matches: int  # matches with the expected page
-    text_matches: int  # content matches whose page has text
-    exact_matches: int  # matches at the start of a frame
-    total: int  # cues during the recording
+    matches: int  # number of cues that match a page change
+    content_matches: int  # number of cues that match a change to the expected page
+    text_matches: int  # number of content matches whose page has text
+    exact_matches: int  # number of matches at the start of a frame
+    total: int  # number of cues during the recording
     first_text: int | None  # frame of the first text match
     first_unmatched: int | None  # frame of the first cue without a match
     start: int  # frame of the first PTS
-    delays: Sequence[int] = ()  # delay of each match, with --within N
+    delays: Sequence[int] = ()  # delay of each match, if --within N is given
 
     def score(self, counts_erasures: bool = True) -> int:
-        """Return the number of matches. Those with the expected page count twice, but without
-        `counts_erasures` only if this page has text."""
+        """Return the number of matches. Count a change to the expected page as two matches. If
+        `counts_erasures` is false, do so only if the page has text."""
         return self.matches + (self.content_matches if counts_erasures else self.text_matches)
 
 
 class CueOffset(NamedTuple):
-    """A constant delay, in frames, that `matches` of `total` cues have: of in-cues relative to
-    out-cues if `is_begin`, otherwise of out-cues relative to in-cues."""
+    """A constant delay, in frames, of in-cues relative to out-cues (if `is_begin` is true) or of
+    out-cues relative to in-cues. `matches` of `total` cues have this delay."""
 
     is_begin: bool
     delay: int
@@ -102,8 +102,8 @@ def find_expected_cues(subtitles: Sequence[ExpectedSubtitle]) -> list[ExpectedCu
 
 
 class TimeBase:
-    """A part of a recording in which PTS increase, and its page changes. The keys of `changes` are
-    numbers of frames since the first header."""
+    """A part of a recording in which PTS increase. `changes` has the page changes in this part, by
+    the number of frames since the first header."""
 
     def __init__(self, cues: Sequence[ExpectedCue], changes: Sequence[PageChange], first: int,
                  last: int, packets: Range, within: int) -> None:
@@ -135,7 +135,7 @@ class TimeBase:
             before = change.rows
 
     def split_distance(self, pts: int) -> tuple[int, int]:
-        """Return the whole frames from the first PTS to `pts`, and the remaining ticks."""
+        """Return the number of whole frames since the first PTS, and the remaining ticks."""
         early = EARLY_TICKS if self.within else TICKS // 2
         frames, ticks = divmod(wrap_pts(pts - self.first + early), TICKS)
         return frames, ticks - early
@@ -160,8 +160,8 @@ class TimeBase:
 
     @functools.cached_property
     def fits(self) -> list[OriginFit]:
-        """Return the most likely origins, best score first, then most text matches first. Of the
-        best ones, the origin whose first text match is earliest comes first."""
+        """Return the most likely origins, ordered by score and then by number of text matches. If
+        several origins share the best score, the one with the earliest text match comes first."""
         if not self.cues or not self.changes:
             return []
         votes = self.votes()
@@ -191,7 +191,7 @@ class TimeBase:
             self.frames, sampled_places)))
 
     def count_equal_texts(self) -> collections.Counter[int]:
-        """Return, for each start frame, the number of cues that match a change to the same text."""
+        """Return, for each start frame, the number of cues that match a change to their text."""
         frames = collections.defaultdict(list)
         for cue in self.cues:
             frames[cue.letters].append(cue.frame)
@@ -200,7 +200,8 @@ class TimeBase:
             if letters and len(frames[letters]) <= MAX_REPEATED_TEXTS for frame in frames[letters])
 
     def has_text_at(self, cue: ExpectedCue, start: int) -> bool:
-        """Return whether the expected characters of a cue are received in its frame."""
+        """Return whether the characters of a cue are received in the frame of the cue if the first
+        PTS is at frame `start`."""
         change = self.changes.get(cue.frame - start)
         return change is not None and change.letters == cue.letters
 
@@ -229,7 +230,7 @@ class TimeBase:
                          start, delays)
 
     def find_cue_offset(self, fit: OriginFit) -> CueOffset | None:
-        """Return the constant delay between in-cues and out-cues, if there is one."""
+        """Return the constant difference between the delays of in-cues and out-cues, if any."""
         for is_begin in (True, False):
             before_offset = self.count_delayed(fit, is_begin, 0)
             if before_offset.total and before_offset.matches * 2 >= before_offset.total:
@@ -245,7 +246,7 @@ class TimeBase:
         return None
 
     def count_delayed(self, fit: OriginFit, is_begin: bool, delay: int) -> CueOffset:
-        """Count the cues, in-cues if `is_begin` or else out-cues, that are `delay` frames late."""
+        """Count the in-cues or (if `is_begin` is false) out-cues that are `delay` frames late."""
         expected_texts = [(at, cue.letters) for cue in self.cues if cue.is_begin == is_begin
                           and 0 <= (at := cue.frame - fit.start + delay) <= self.length]
         matches = sum(at in self.changes and self.changes[at].letters == letters
@@ -253,7 +254,8 @@ class TimeBase:
         return CueOffset(is_begin, delay, matches, len(expected_texts))
 
     def align_to_in_cues(self, fit: OriginFit) -> OriginFit:
-        """Return the origin of the in-cues if it is another one than the out-cues', else `fit`."""
+        """Return the origin of the in-cues if it differs from that of the out-cues. Otherwise
+        return `fit`."""
         cue_offset = self.find_cue_offset(fit)
         return self.fit(fit.start - cue_offset.delay) if cue_offset and cue_offset.is_begin else fit
 
@@ -271,8 +273,8 @@ def skip_repeats(changes: Sequence[PageChange], most: int) -> Iterator[PageChang
 
 
 def find_repeat(changes: Sequence[PageChange], at: int, most: int) -> int | None:
-    """Return the index of the change that repeats the text of `changes[at]` within `most` frames
-    after its erasure."""
+    """Return the index of the change that shows the text of `changes[at]` again within `most`
+    frames after this text was erased."""
     text, after = changes[at], changes[at + 1:at + 26]
     if not text.letters or not after or after[0].letters:
         return None
@@ -299,7 +301,7 @@ def find_time_bases(subtitles: Sequence[ExpectedSubtitle], packets: Packets, wit
 
 
 def select_time_bases(packets: Packets, inside: Range) -> list[tuple[range, Sequence[PageChange]]]:
-    """Return the ranges of PES packets between jumps back of the PTS, with their page changes.
+    """Return the ranges of PES packets between backward jumps of the PTS, with their page changes.
     Return only the `MAX_BASES` ranges with the most page changes."""
     numbers = [change.number for change in packets.changes]
     candidates = []
@@ -318,13 +320,13 @@ def select_time_bases(packets: Packets, inside: Range) -> list[tuple[range, Sequ
 # With --within N the estimated clock must not depend on a few early subtitles, nor on an inserter
 # that delays most subtitles. So the clock is set to the shortest usual delay of in-cues or
 # out-cues, unless --late gives the delays. Out-cues are often the earliest, because an erasure
-# takes no time to send. If a few cues are early on that clock, they are early subtitles. If there
-# are many, the inserter may delay all other subtitles; then the operator must give the clock.
+# takes no time to send. If a few cues are early by that clock, they are reported as early. If many
+# cues are early, the inserter may delay all others, and the operator must give the clock.
 
-COMMON = 2  # a delay is usual if at least half as many cues have it as have the most common delay
-MIN_EQUAL_DELAYS = 3  # a delay is usual only if at least 3 cues have it, unless no delay has 3 cues
-OUT_CUE_SHARE = 10  # out-cues are ignored if they are less than 1/10 of all cues
-RARE_SHARE = 20  # minimum share of early cues (1/20) for which the operator must give the clock
+COMMON = 2  # a delay is usual if it occurs at least half as often as the most common delay
+MIN_EQUAL_DELAYS = 3  # a usual delay occurs at least 3 times, or as often as the most common delay
+OUT_CUE_SHARE = 10  # out-cues are ignored if they make up less than 1/10 of all cues
+RARE_SHARE = 20  # the operator must give the clock if at least 1/20 of the cues are early
 UNSEEN_SHARE = 0.002  # minimum probability of a delay, and probability of a cue without a match
 
 
@@ -338,7 +340,7 @@ class EarlyCues(NamedTuple):
 
     @property
     def is_common_delay(self) -> bool:
-        """Return whether many cues are early, so that the other cues may be late instead."""
+        """Return whether so many cues are early that the other cues may in fact be late."""
         return self.early_count * RARE_SHARE >= self.total
 
 
@@ -393,7 +395,6 @@ def find_likeliest_clock(base: TimeBase, fit: OriginFit, lateness: Lateness) -> 
               for delay, share in kind.items()} for kind in lateness]
 
     def compute_likelihood(shift: int) -> float:
-        """Return the log-likelihood of a clock that is `shift` frames later."""
         return sum(count * math.log(next((
             kinds[not is_begin].get(delay - shift, UNSEEN_SHARE) for delay in delays
             if 0 <= delay - shift <= base.within), UNSEEN_SHARE))
@@ -409,14 +410,14 @@ MIN_TEXTS = 6  # minimum number of texts that are expected once and sent once
 MIN_DRIFT = 2  # minimum drift, in frames
 NEAR_LINE = 1.5  # maximum distance in frames between a delay and the regression line
 MAX_OFF = 10  # at most 1/10 of the delays may be farther from the line than `NEAR_LINE`
-# The line must explain all but 1/5 of the variance of the delays. A line through delays that
-# change only once leaves at least 1/4.
+# The line must explain at least 4/5 of the variance of the delays. If the delays change only once,
+# a line leaves at least 1/4 of it unexplained.
 MAX_LEFT = 5
 
 
 class Drift(NamedTuple):
-    """A steady change of the delay by `frames` from frame `first` to frame `last`. It is negative
-    if the subtitles become early."""
+    """A steady change of the delay by `frames` from frame `first` to frame `last`. `frames` is
+    negative if the subtitles become earlier."""
 
     first: int
     last: int

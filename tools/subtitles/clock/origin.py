@@ -42,7 +42,7 @@ class OriginSearch(NamedTuple):
     inside: Range | None = None  # PES packets to use
     between: FrameRange = ALL_DAY  # range of frames in which subtitles begin
     left_out: Collection[int] = ()  # positions of subtitles to ignore
-    lateness: Lateness | None = None  # the option --late
+    lateness: Lateness | None = None  # value of --late
     has_picture: bool = False  # whether the operator may use `--start`
 
 
@@ -50,11 +50,11 @@ class PartOrigin(NamedTuple):
     """The origin of a part, and the number of its cues that match."""
 
     origin: int
-    packets: Range | None = None  # its PES packets, if the PTS go back somewhere in the recording
-    frames: tuple[int, int] | None = None  # its first and last frame, if there are several parts
+    packets: Range | None = None  # PES packets of the part, if the PTS of the recording go back
+    frames: tuple[int, int] | None = None  # first and last frame, if there are several parts
     matches: int = 0
     total: int = 0
-    line: str = ""  # reports how many cues match
+    line: str = ""  # the line that reports how many cues match
 
 
 @dataclasses.dataclass
@@ -62,18 +62,18 @@ class OriginEstimate:
     """The result of estimating the origin of a recording."""
 
     status: int = 1  # 0 if the origin is unambiguous
-    # The origin of each part, if the status is 0
+    # The origin of each part, if it is unambiguous
     parts: list[PartOrigin] = dataclasses.field(default_factory=list)
     # PES packets of each airing of the programme, if there are several
     airings: list[Range] = dataclasses.field(default_factory=list)
     breaks: int | None = None  # number of breaks, if it differs from --breaks
     ticks_late: int | None = None  # delay of the first part relative to the known origin
-    # Whether all cues of the first part match, or all its in-cues or out-cues have the same delay
+    # Whether all cues of the first part match, or are constantly late or early (`CueOffset`)
     has_all_cues: bool = True
     matches_every_cue: bool = False  # whether every cue of the file matches the expected page
-    first_shift: int | None = None  # first frame with another delay
+    first_shift: int | None = None  # first frame from which the delay is different
     shift_texts: list[str] = dataclasses.field(default_factory=list)  # changes of the delay
-    printed: list[str] = dataclasses.field(default_factory=list)  # options for standard output
+    printed: list[str] = dataclasses.field(default_factory=list)  # command-line options to print
     lines: list[str] = dataclasses.field(default_factory=list)  # messages
 
 
@@ -157,7 +157,7 @@ def report_sent_pages(packets: Packets, search: OriginSearch, lines: list[str]) 
 
 def store_first_part(origin: OriginEstimate, search: OriginSearch, bases: Sequence[TimeBase],
                      row: Sequence[Stretch], parts: Sequence[EstimatedPart]) -> None:
-    """Store the origin of the first part if it is unambiguous, and messages about its delays."""
+    """Store messages about the delays of the first part. Store its origin if it is unambiguous."""
     if not parts:
         origin.lines.append("no cue matches at any origin")
         return
@@ -184,9 +184,9 @@ def store_first_part(origin: OriginEstimate, search: OriginSearch, bases: Sequen
 
 
 def prefer_known_origin(part: EstimatedPart, known: int | None) -> EstimatedPart:
-    """Return a part with the known origin if the estimated origin matches only the first page. That
-    is no evidence: if a recording begins during a subtitle, its first header seems late."""
-    # The page changes without the first one, which is at frame 0.
+    """Return a part with the known origin if the estimated origin matches only the first page. Such
+    a match is no evidence: if a recording begins during a subtitle, its first header seems late."""
+    # All page changes except the first, which is at frame 0
     sent = part.time_base.copy_between(part.time_base.cues, 0, part.time_base.length +
                                        1)
     if known is None or sent.compare(part.best.start).matches:
@@ -239,8 +239,8 @@ def add_part(origin: OriginEstimate, part: EstimatedPart, packets: Range | None,
 
 def compare_with_known_origin(origin: OriginEstimate, known: int | None,
                               part: EstimatedPart) -> None:
-    """Store whether all cues of the first part match, and its delay relative to the known origin.
-    Without a known origin, report the delay relative to --origin 0 if it is short."""
+    """Store whether all cues of the first part match, and the part's delay relative to the known
+    origin. If the origin is unknown, report a short delay relative to --origin 0."""
     best, cue_offset = part.best, part.time_base.find_cue_offset(part.best)
     origin.has_all_cues = best.matches == best.total or bool(
         cue_offset and cue_offset.matches == cue_offset.total)
@@ -348,7 +348,6 @@ def describe_early_cues(early: EarlyCues, has_picture: bool) -> str:
 
 
 def describe_drift(drift: Drift) -> str:
-    """Return a line that reports a drift of the delays."""
     direction = "later and later" if drift.frames > 0 else "earlier and earlier"
     amount = counted(abs(drift.frames), "frame")
     return f"from {format_frame(drift.first)} to {format_frame(drift.last)}, subtitles come " \
@@ -374,7 +373,7 @@ def shift_lines(row: Sequence[Stretch], parts: Sequence[EstimatedPart], known: i
 
 
 def format_breaks(parts: Sequence[EstimatedPart]) -> Iterator[str]:
-    """Yield a line for each later part: its start, and the length of the break before it."""
+    """Yield a line about each part after the first, with its start and the break before it."""
     for number, (previous, part) in enumerate(zip(parts, parts[1:]), 2):
         frames, rest = divmod(abs(gap_ticks := subtract_pts(previous.origin, part.origin)), TICKS)
         length = format_frame(frames) + (f" and {counted(rest, 'tick')}" if rest else "")

@@ -32,8 +32,7 @@ class Clock(NamedTuple):
     # delay.
     delay_frames: int | None = None
     evidence: Selection | None = None  # explains an estimated clock
-    # Frames by which the clock would be later if the time code of `--start` belonged to another
-    # picture
+    # Number of frames from the chosen first picture to the other possible first picture
     picture_offset: int = 0
     is_delay_of_all: bool = False  # whether every cue of the file has this delay
 
@@ -44,7 +43,6 @@ class Clock(NamedTuple):
 
     @property
     def is_estimated(self) -> bool:
-        """Return whether the clock was estimated from the recording."""
         return self.source == RECORDING
 
     def words(self) -> str:
@@ -52,8 +50,8 @@ class Clock(NamedTuple):
         return f"origin {self.origin}, {SOURCES[self.source]}"
 
     def question(self) -> str:
-        """Ask whether the time code belongs to another picture, if the delay equals the distance to
-        that picture. Otherwise return an empty string."""
+        """Return the question whether the time code belongs to the other picture. Return an empty
+        string if the delay is not the distance between the two pictures."""
         if not self.picture_offset or self.delay_frames != self.picture_offset:
             return ""
         return "is the time code from the GOP header? That belongs to the first picture in " \
@@ -65,11 +63,11 @@ class Clock(NamedTuple):
 class TimedPart(NamedTuple):
     """A part of the subtitle file that is judged with one clock."""
 
-    begin: int  # its first TCI
-    end: int  # its last TCO
+    begin: int  # first TCI of the part
+    end: int  # last TCO of the part
     clock: Clock
-    packets: Range | None = None  # its PES packets, if the PTS go back somewhere in the recording
-    between: FrameRange = ALL_DAY  # range of frames in which its subtitles begin
+    packets: Range | None = None  # PES packets of the part, if the PTS of the recording go back
+    between: FrameRange = ALL_DAY  # range of frames in which the part's subtitles begin
 
     @property
     def origin(self) -> int:
@@ -85,7 +83,7 @@ OTHER_STREAM_TYPES = {0x10: "MPEG-4 part 2", 0x1E: "MPEG-C", 0x1F: "SVC", 0x20: 
                       0xEA: "VC-1"}
 TCP_PLACE = slice(256, 264)  # the bytes of the TCP in the GSI block
 MAX_PCR_DISTANCE = 25  # maximum number of frames from the last PTS to the end of the last subtitle
-MAX_SAMPLES = 1000  # maximum number of PTS of Teletext to compare with the first picture
+MAX_SAMPLES = 1000  # maximum number of Teletext PTS to compare with the first picture
 # maximum number of pictures that are sent before a picture shown earlier
 MAX_REORDERED_PICTURES = 16
 MAX_COMPARED_TICKS = 10 * 90_000  # longest span of pictures to compare, in ticks
@@ -101,14 +99,14 @@ class FirstPicture(NamedTuple):
     random_access_indicator, and the one with the smallest PTS of the same group of pictures."""
 
     pid: int  # PID of the video
-    kind: int  # its stream_type
+    kind: int  # stream_type of the video
     pts: int  # PTS of the chosen picture
     skipped: int  # PES packets of video before this picture
     other: int | None = None  # PTS of the other picture, if there are two
 
     @property
     def picture_offset(self) -> int:
-        """Return the number of frames from the chosen picture to the other picture, or 0."""
+        """Return the number of frames from `pts` to `other`. Return 0 if `other` is `None`."""
         return 0 if self.other is None else round(subtract_pts(self.pts, self.other) / TICKS)
 
     def line(self) -> str:
@@ -188,8 +186,8 @@ def find_first_picture(survey: Survey, teletext: int) -> FirstPicture:
 
 
 def count_skipped(pts: list[int], is_cut: bool) -> int:
-    """Return the number of frames without a picture, from the PTS of the first pictures. If the
-    recording is cut off, ignore the last pictures: pictures shown between them may be missing."""
+    """Count the frames without a picture between the pictures with the given PTS. If the recording
+    is cut off, ignore the last pictures: pictures displayed between them may be missing."""
     display_ticks = sorted(subtract_pts(pts[0], item) for item in pts)
     if is_cut or display_ticks[-1] - display_ticks[0] > MAX_COMPARED_TICKS:
         del display_ticks[-MAX_REORDERED_PICTURES:]
@@ -285,6 +283,6 @@ def find_largest_offset(several: Sequence[int], origin: int) -> int:
 
 
 def describe_largest_offset(most: int) -> str:
-    """Return the largest distance of PTS from their frames as text, or "" if it is 0."""
+    """Return a text with the largest distance between a PTS and its frame, or "" if it is 0."""
     return f"PTS differ from the times of their frames by up to {counted(most, 'tick')} " \
         f"({most / MILLISECOND:.2f} ms)" if most else ""

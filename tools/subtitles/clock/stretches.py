@@ -18,11 +18,11 @@ from .alignment import (
     EarlyCues, ExpectedCue, ExpectedSubtitle, MAX_TRIED_ORIGINS, OriginFit, TimeBase, choose_clock,
     find_expected_cues)
 
-MAX_CANDIDATES = 8  # number of best sequences of tracks for which a change of track is considered
+MAX_CANDIDATES = 8  # a change of track is considered only for this number of best sequences
 MIN_MATCHING_CUES = 5  # minimum number of consecutive cues that must match on a new track
 NEW_TRACK = MIN_MATCHING_CUES - 1  # cost of a change of track, in points of `Track.points`
 MIN_BREAK_FRAMES = 5 * FRAMES_A_SECOND  # minimum length of a break; a shorter shift is a delay
-MIN_GAP_FRAMES = 60 * FRAMES_A_SECOND  # minimum jump of the time codes in the file at a break
+MIN_GAP_FRAMES = 60 * FRAMES_A_SECOND  # minimum jump of the subtitle file's time codes at a break
 TEXT_POINTS = 3  # score of a cue whose expected text is sent
 MAX_COMPARED_CUES = 500  # maximum number of cues to compare with each other
 TRIED_TIMES = 8  # maximum number of origins to try if texts are ignored
@@ -52,7 +52,7 @@ class Track:
         return list(rows)[:0:-1]
 
     def rank(self) -> tuple[int, int, int]:
-        """Return a sort key: most points, then smallest delay, then earliest cue with its text."""
+        """Return a sort key: highest score first, then smallest delay, then earliest text match."""
         first = self.points.index(TEXT_POINTS) if TEXT_POINTS in self.points else len(self.cues)
         return -sum(self.points), self.total_delay, first
 
@@ -102,7 +102,7 @@ def find_stretches(bases: Sequence[TimeBase]) -> list[Stretch]:
 
 
 class TrackSequence(NamedTuple):
-    """A sequence of tracks for the first cues of the file."""
+    """A choice of a track for each of the file's first cues."""
 
     points: int  # sum of the points of the cues, minus `NEW_TRACK` for each change of track
     nearness: int  # higher if the origins of the tracks are closer
@@ -110,11 +110,9 @@ class TrackSequence(NamedTuple):
 
     @property
     def rank(self) -> tuple[int, int]:
-        """Return the sort key: the points, and the nearness if points are equal."""
         return self[:2]
 
     def switch_track(self, cue: int, track: Track) -> TrackSequence:
-        """Return the sequence that changes to another track at a cue."""
         previous = self.turns[-1][1]
         distance = abs(track.start - previous.start) + \
             FRAMES_OF_A_DAY * (track.base - previous.base)
@@ -123,10 +121,10 @@ class TrackSequence(NamedTuple):
 
 
 def find_best_stretches(cues: Sequence[ExpectedCue], tracks: Sequence[Track]) -> list[Stretch]:
-    """Return the stretches of the `TrackSequence` with the highest `rank`. To change track, five
-    consecutive cues must match on the new track. At each cue, keep the best sequence for each last
-    track, and consider a change of track only for the `MAX_CANDIDATES` best sequences. Finally,
-    move the borders between stretches to earlier cues if this gives more points."""
+    """Return the stretches of the `TrackSequence` with the highest `rank`. A change of track
+    requires that five consecutive cues match on the new track. At each cue, keep the best sequence
+    that ends on each track, and consider a change of track only for the `MAX_CANDIDATES` best ones.
+    Finally, move the borders between stretches to earlier cues if this gives a higher score."""
     best: dict[Track, TrackSequence] = {}
     for at, cue in enumerate(cues):
         gap = cue.frame - cues[at - 1].frame if at else 0
@@ -154,7 +152,7 @@ def find_best_stretches(cues: Sequence[ExpectedCue], tracks: Sequence[Track]) ->
 
 def find_border(cues: Sequence[ExpectedCue], previous: Stretch, following: Stretch) -> int:
     """Return the number of the cue at which `following` should begin: its first cue, or an earlier
-    cue if more points are then reached."""
+    cue if that gives a higher score."""
     best, most, gain = following.first, 0, 0
     for border in range(following.first - 1, previous.first + MIN_MATCHING_CUES - 1, -1):
         gain += following.track.points[border] - previous.track.points[border]
@@ -171,7 +169,7 @@ class EstimatedPart(NamedTuple):
     end: int  # last TCO
     best: OriginFit  # the best origin
     others: list[OriginFit]  # the other possible origins
-    time_base: TimeBase  # its cues and page changes
+    time_base: TimeBase  # cues and page changes of the part
     base: int  # number of the time base
     overlapping: list[ExpectedSubtitle]  # subtitles that end in the next part
     early: EarlyCues | None = None
@@ -184,8 +182,8 @@ class EstimatedPart(NamedTuple):
 def fit_parts(subtitles: Sequence[ExpectedSubtitle], bases: Sequence[TimeBase],
               row: Sequence[Stretch],
               lateness: Lateness | None = None) -> list[EstimatedPart]:
-    """Return a part for each of the stretches `row`, or a single part if there are fewer than two.
-    Return an empty list if no cue matches. `lateness` is the value of --late."""
+    """Return one part for each stretch in `row`, or a single part if there are fewer than two
+    stretches. Return an empty list if no cue matches. `lateness` is the value of --late."""
     if len(row) > 1:
         return [fit_part(subtitles, bases, row, number, lateness) for number in range(len(row))]
     number = row[0].track.base if row else max(
@@ -266,7 +264,7 @@ def find_airings(bases: Sequence[TimeBase], has_clock: bool = False) -> list[Air
     but only if the clock is unknown and the cues are irregular: regular cues match anywhere."""
     row = find_stretches(bases)
     uses_times = not has_clock and not have_equal_steps([cue.frame for cue in bases[0].cues])
-    if len(row) > 1:  # the sequence of stretches may end in another airing
+    if len(row) > 1:  # some stretches may belong to a repeat of the programme
         whole, *others = sorted((Stretch(track, 0, row[-1].end) for track in dict.fromkeys(
             stretch.track for stretch in row)), key=lambda item: -sum(item.track.points))
         if places := find_text_places([whole]):
@@ -307,10 +305,10 @@ def make_airing(places: Mapping[int, Place]) -> Airing:
 
 def is_repeated_airing(bases: Sequence[TimeBase], first: dict[int, Place],
                        repeat_places: dict[int, Place]) -> bool:
-    """Return whether the cues that match outside the first airing are a repeat of the programme. At
-    least half of all cues and half of the cues with a text must match. Alternatively, a quarter of
-    the cues with a text must match, and extend over half of the programme. In both cases, half of
-    these texts must also match in the first airing."""
+    """Return whether the cues that match outside the first airing are a repeat of the programme.
+    Either at least half of all cues and half of the cues with a text must match, or a quarter of
+    the cues with a text must match and extend over half of the programme. In both cases, half of
+    the matching cues with a text must also match in the first airing."""
     cues = bases[0].cues
     texts = [at for at in repeat_places if cues[at].letters]
     count = sum(1 for cue in cues if cue.letters)
@@ -322,8 +320,8 @@ def is_repeated_airing(bases: Sequence[TimeBase], first: dict[int, Place],
 
 
 def have_equal_steps(frames: Sequence[int]) -> bool:
-    """Return whether many pairs of frames are the same distance apart, as with regular cues: at
-    least half as many pairs as frames. Compare only the first `MAX_COMPARED_CUES` frames."""
+    """Return whether many pairs of frames are equally far apart, as with regular cues. Many means
+    at least half the number of frames. Compare only the first `MAX_COMPARED_CUES` frames."""
     frames = frames[:MAX_COMPARED_CUES]
     counts = collections.Counter(second - first for first, second in itertools.combinations(
         frames, 2))
@@ -331,9 +329,9 @@ def have_equal_steps(frames: Sequence[int]) -> bool:
 
 
 def find_changes_by_time(bases: Sequence[TimeBase], count: int) -> dict[int, Place]:
-    """Return the places of page changes at the times of cues, whatever their text, by the number of
-    the cue. Return an empty dictionary if these are fewer than 90 % of `count`, the number of
-    matching cues in the first airing, or fewer than 75 % of all cues."""
+    """Return a dictionary from the number of each cue to the page change at the time of the cue,
+    whatever its text. Return an empty dictionary if page changes are found for fewer than 75 % of
+    all cues, or for fewer than 90 % of `count`, the number of matching cues in the first airing."""
     for number, base in enumerate(bases):
         if not base.changes or count < MIN_AIRING_CUES * (2 if base.within else 1):
             continue
@@ -345,8 +343,8 @@ def find_changes_by_time(bases: Sequence[TimeBase], count: int) -> dict[int, Pla
 
 
 def find_changes(base: TimeBase, number: int, start: int) -> dict[int, Place]:
-    """Return the places of page changes that follow a cue within the allowed delay, by the number
-    of the cue."""
+    """Return a dictionary from the number of each cue to the page change that follows the cue
+    within the allowed delay."""
     return {at: (number, place) for at, cue in enumerate(base.cues)
             for place in [next((place for place in range(
                 cue.frame - start, cue.frame - start + base.within + 1)

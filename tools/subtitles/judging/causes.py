@@ -42,11 +42,11 @@ class Cause(NamedTuple):
 
     subtitle_index: int  # index among the judged subtitles
     name: str
-    frames: int | None  # number of frames by which it is late or early
+    frames: int | None  # number of frames by which the page is late or early
     sent_page: Rows | None  # the page that was sent
     other_index: int | None  # index of the subtitle with the text of this page
     details: str
-    final_frame: int  # no later frame can change the cause
+    final_frame: int  # last frame that can change the cause
 
     @property
     def may_be_correct(self) -> bool:
@@ -56,7 +56,7 @@ class Cause(NamedTuple):
 
 
 class FaultyFrames:
-    """The first spans, before and after its TCO, in which a subtitle has a wrong page."""
+    """The first span with a wrong page before a subtitle's TCO, and the first one after it."""
 
     def __init__(self) -> None:
         self.during: Span | None = None
@@ -100,7 +100,7 @@ class CauseFinder(PageTransmissions):
                                        f"{format_frame(pause.first)} on")
 
     def classify_transmission(self, place: int, faulty_frames: FaultyFrames) -> Cause:
-        """Return the cause of a subtitle's fault, from its page transmissions."""
+        """Find the cause of a subtitle's fault in the subtitle's page transmissions."""
         subtitle, sent_frame = self.subtitles[place], self.find_transmission(place)
         if self.timeline.get_page_at(subtitle.begin) == self.pages[place]:
             if sent_frame is not None and sent_frame < subtitle.begin:
@@ -119,8 +119,7 @@ class CauseFinder(PageTransmissions):
         return self.classify_delay(place, sent_frame)
 
     def classify_delay(self, place: int, sent_frame: int) -> Cause:
-        """Return the cause for a subtitle whose page was sent late or early, in frame
-        `sent_frame`."""
+        """Return the cause of the fault if a page was sent late or early, in `sent_frame`."""
         subtitle = self.subtitles[place]
         if sent_frame > subtitle.begin and not self.timeline.was_received(subtitle.begin,
                                                                           sent_frame):
@@ -136,7 +135,7 @@ class CauseFinder(PageTransmissions):
                      max(sent_frame, subtitle.begin))
 
     def is_allowed_delay(self, place: int, sent_frame: int) -> bool:
-        """Return whether a page was late, and incomplete, for at most the allowed delay."""
+        """Return whether a page was late and incomplete for no longer than the allowed delay."""
         late = sent_frame - self.subtitles[place].begin
         return 0 < late <= self.timeline.within and \
             sent_frame - self.find_first_wrong_frame(sent_frame - 1) <= self.timeline.within
@@ -157,7 +156,7 @@ class CauseFinder(PageTransmissions):
             f"from {format_frame(first)} on"
 
     def classify_missing_page(self, place: int) -> Cause:
-        """Return the cause for a subtitle whose page was not sent near its time."""
+        """Return the cause of the fault if a subtitle's page was not sent near its TCI."""
         subtitle, window = self.subtitles[place], self.search_window(place)
         other = self.find_other_text_during(place)
         if other is not None:
@@ -192,7 +191,8 @@ class CauseFinder(PageTransmissions):
         return f"its rows came while page {page_name(*self.timeline.page)} was not open"
 
     def classify_difference(self, place: int, number: int) -> Cause:
-        """Return the cause for a subtitle replaced by page `number`, which no subtitle has."""
+        """Return the cause of the fault if page `number`, which belongs to no subtitle, was sent
+        instead of the expected page."""
         subtitle, due, sent = self.subtitles[place], self.pages[place], self.timeline.pages[number]
         words = join_page_text(sent)
         if words != join_page_text(due):
@@ -210,11 +210,10 @@ class CauseFinder(PageTransmissions):
                      describe_attribute_difference(due, sent), subtitle.end)
 
     def make_other_text_cause(self, place: int, other: int, known: int) -> Cause:
-        """Return the cause for a subtitle that was sent with the text of another subtitle."""
         return Cause(place, OTHER_TEXT, None, self.pages[other], other, "", known)
 
     def classify_later_fault(self, place: int, faulty_frames: FaultyFrames) -> Cause:
-        """Return the cause for a subtitle whose page was correct at its TCI, but wrong later."""
+        """Return the cause of the fault if a page was correct at the TCI, but wrong later."""
         subtitle = self.subtitles[place]
         span = faulty_frames.during or faulty_frames.span_after_end
         if span and self.is_expected_page(span.first):
@@ -249,8 +248,8 @@ class CauseFinder(PageTransmissions):
 
     def list_omitted_rows(self, frame: int) -> str:
         """Describe which rows a repeat of the page omitted. Return an empty string if omitted rows
-        can't explain the fault in this frame, because some of its packets can't be read, or because
-        it has several PES packets (without --within)."""
+        can't explain the fault in this frame: some of the frame's packets can't be read, or the
+        frame has several PES packets and --within is not given."""
         is_single = self.timeline.within or len(self.timeline.list_frame_runs(frame)) == 1
         return find_omitted_rows(self.timeline, self.expected.get_page_at(frame), frame,
                                  self.output) \
@@ -263,8 +262,9 @@ class CauseFinder(PageTransmissions):
         return describe_subpages(subcodes, page_name(*self.timeline.page)) if subcodes else ""
 
     def classify_after_end(self, place: int, number: int, frame: int) -> Cause:
-        """Return the cause of a fault if page `number` was sent after the TCO of a subtitle. A page
-        of no subtitle is another text in the pause, or after the last TCO the next programme."""
+        """Return the cause of the fault if page `number` was sent after the TCO of a subtitle. A
+        page that belongs to no subtitle is the next programme's after the last TCO, and otherwise
+        another text in the pause."""
         subtitle, page = self.subtitles[place], self.timeline.pages[number]
         is_unexpected_page = page not in self.expected.positions_by_page and page != BLANK_PAGE
         is_expected_text = join_page_text(page) in self.expected.positions_by_letters
@@ -294,7 +294,7 @@ class CauseFinder(PageTransmissions):
         return f"it disappears {counted(last_frame + 1 - end, 'frame')} later"
 
     def classify_replacement(self, place: int, span: Span) -> Cause:
-        """Return the cause for a subtitle whose page was received, but replaced before the TCO."""
+        """Return the cause of the fault if a page was received, but replaced before the TCO."""
         subtitle, number = self.subtitles[place], self.timeline.find_page_number_at(span.first)
         page = self.timeline.pages[number]
         other = self.expected.find_subtitle(page, span.first)
@@ -318,8 +318,8 @@ class CauseFinder(PageTransmissions):
         return self.classify_difference(place, number)
 
     def was_erased(self, number: int) -> bool:
-        """Return whether a header without rows erased the page. The next page must have its own
-        header; otherwise its rows belong to the same header, and the page was not erased."""
+        """Return whether a header without rows erased the page. Return false if the next page has
+        no header of its own: then its rows follow this header."""
         begins = self.timeline.frames[number:number + 2]
         return all(any(HEADER in run.flags for run in self.timeline.list_frame_runs(frame))
                    for frame in begins)
@@ -340,16 +340,15 @@ SENT_BEFORE_CUT = f"its page was sent before the judged range, so fault {BEGIN} 
 
 
 class Causes:
-    """The causes of the faults that `check --all` lists. `recorded_span` has the frames that the
-    recording covers, if its PCR shows more than its PES packets."""
+    """The causes of the faults that `check --all` lists. `recorded_span` is the range of frames
+    that the PCRs cover, if they cover more frames than the PES packets."""
 
     def __init__(self, expected: ExpectedPages, timeline: Timeline,
                  recorded_span: Span | None = None) -> None:
         self.expected, self.timeline, self.recorded_span = expected, timeline, recorded_span
         self.finder = CauseFinder(expected, timeline)
-        self.cause_by_index: dict[int, Cause] = {}  # by index of the subtitle
-        # The subtitle for the fault at the beginning of the recording (63) or at its end (74), if
-        # the recording is longer than the judged frames
+        self.cause_by_index: dict[int, Cause] = {}  # causes, by index of the subtitle
+        # Index of the subtitle with fault `BEGIN` or `END`, if frames outside the range are known
         self.frames_by_end_fault: dict[int, int] = {}
         self.pending: dict[int, FaultyFrames] = {}
         # For each subtitle, the first frame with a wrong page
@@ -391,8 +390,8 @@ class Causes:
 
     def compare_before(self, frame: int) -> None:
         """Compare the decoded pages with the expected pages before `frame`, the first judged frame.
-        Do so only if the recording shows whether the first subtitle is early or late: it must cover
-        the first TCI, or begin at least as long before the first TCI as `frame` is after it."""
+        Do so only if the recording shows whether the first subtitle is early or late: it must have
+        a page at the first TCI, or begin at least as long before this TCI as `frame` follows it."""
         begin, held = self.expected.begins[0], self.timeline
         if not (held.frames and held.frames[0] <= begin or
                 self.find_covered_span().first <= 2 * begin - frame):
@@ -446,7 +445,7 @@ class Causes:
         return cause._replace(details=SENT_BEFORE_CUT) if is_before else cause
 
     def find_cause(self, number: int, frame: int) -> Cause | None:
-        """Return the cause of a fault in a frame, if it has one."""
+        """Return the cause of fault `number` in a frame, or `None` if no cause was found."""
         if number == CONTENT:
             return self.cause_by_index.get(self.finder.find_owner(frame))
         edge = self.frames_by_end_fault.get(number)
@@ -461,12 +460,11 @@ class Causes:
         return self.timeline.find_page_number_at(sent_frame) + 1 < len(self.timeline.frames)
 
     def list_causes(self) -> list[Cause]:
-        """Return all causes in the order of the subtitles."""
         return [self.cause_by_index[place] for place in sorted(self.cause_by_index)]
 
 
 def count_causes(several: Iterable[Causes]) -> dict[str, int]:
-    """Return the number of causes with each name in several parts."""
+    """Return the number of causes in several parts, by name of the cause."""
     counted = collections.Counter(cause.name for item in several
                                   for cause in item.cause_by_index.values())
     return {name: counted[name] for name in CAUSE_NAMES}
@@ -500,7 +498,7 @@ class CauseDescriber:
         }
 
     def format_expected_text(self, cause: Cause) -> str:
-        """Return the expected text of the subtitle that has a cause."""
+        """Return the expected text of the subtitle whose fault has this cause."""
         return format_page_text(self.pages[cause.subtitle_index], self.option)
 
     def format_line(self, cause: Cause) -> str:
@@ -541,5 +539,5 @@ def format_cause_counts(several: list[Causes]) -> str:
 
 
 def list_cause_counts(several: list[Causes]) -> str:
-    """Return the number of subtitles for each cause as text."""
+    """Return a text with the number of subtitles for each cause."""
     return ", ".join(f"{count} {name}" for name, count in count_causes(several).items() if count)

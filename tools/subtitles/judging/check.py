@@ -52,7 +52,7 @@ class CheckOutput:
     def clear_faults(self) -> None:
         """Discard all faults read so far."""
         self.fault_count = 0
-        self.counts_by_number: collections.Counter[int] = collections.Counter()  # number of faults
+        self.counts_by_number: collections.Counter[int] = collections.Counter()
         self.first_faults: dict[int, FaultLine] = {}  # first fault with each fault number
         # The fault that `check` prints without `--all`
         self.first_fault: FaultLine | None = None
@@ -140,12 +140,12 @@ class CheckOutput:
 
     @functools.cached_property
     def content_fault_rows(self) -> list[tuple[int, int]]:
-        """Return the frame and row of each content fault, sorted by frame."""
+        """Return the frame and the row of each fault in a page's content, sorted by frame."""
         return sorted((fault.frame, fault.row) for fault, _ in self.read_faults()
                       if fault.frame is not None and fault.row is not None)
 
     def find_fault_row(self, frame: int) -> int | None:
-        """Return the row of the last content fault in or before a frame."""
+        """Return the page row of the last fault in the page's content, in or before a frame."""
         at = bisect.bisect_right(self.content_fault_rows, (frame, FRAMES_OF_A_DAY)) - 1
         return self.content_fault_rows[at][1] if at >= 0 else None
 
@@ -156,7 +156,6 @@ class CheckOutput:
         return times[-1] if times else None
 
     def move_file(self, path: str) -> None:
-        """Move the file with the output lines to another path."""
         with add_name_to_errors(path):
             shutil.move(self.path, path)
         self.path = path
@@ -169,8 +168,8 @@ class CheckOutput:
             pass
 
     def summarize(self, is_read: bool = True) -> CheckSummary:
-        """Return the values that decide the verdict on a part. If `check` can't have printed one of
-        the lines, the part is not judged."""
+        """Return the values that decide the verdict on a part. If the output has a line that
+        `check` never prints, the part is not judged."""
         is_clear = self.unknown_line is None
         is_list = is_clear and self.first_fault is not None and self.frames is None
         counted = parse_count_line(self.last_line) if is_list else None
@@ -199,11 +198,9 @@ class CheckOutput:
         return self.first_fault.line if self.first_fault else self.last_line
 
     def read_bytes(self) -> Iterator[bytes]:
-        """Yield the list of faults as bytes."""
         return read_chunks(self.path)
 
     def read_lines(self) -> Iterator[str]:
-        """Yield the lines of the list of faults."""
         with open(self.path, encoding="utf-8") as file:
             for line in file:
                 yield line.rstrip("\n")

@@ -1,4 +1,4 @@
-"""Find when each subtitle of a part was expected and decoded, and the verdict on it."""
+"""Find the times at which each subtitle of a part was expected and decoded, and its verdict."""
 from __future__ import annotations
 
 import functools
@@ -24,7 +24,7 @@ from .subtitles import ValidSubtitles
 from .transmissions import ExpectedPages
 
 
-# The causes for which another page was sent instead of the expected page
+# The causes of faults in which another page was sent instead of the expected page
 REPLACING_CAUSES = {WRONG_TEXT, WRONG_PLACE, WRONG_ATTRIBUTE, OTHER_TEXT}
 
 
@@ -36,7 +36,7 @@ class Cue(NamedTuple):
     cause: Cause | None
     decoded: Rows | None = None
     begin: int | None = None  # first frame of the decoded page, if recorded
-    end: int | None = None  # first frame after it, if recorded
+    end: int | None = None  # first frame after the decoded page, if recorded
 
     @property
     def delay_in(self) -> int | None:
@@ -75,7 +75,7 @@ def find_decoded_times(cue: Cue, place: int, expected: ExpectedPages, timeline: 
     before, after = expected.subtitles[place - 1:place], expected.subtitles[place + 1:place + 2]
     begin: int | None = first
     if place and before[0].end == subtitle.begin and expected.pages[place - 1] == page:
-        # The previous subtitle adjoins and has the same page, so earlier frames belong to it.
+        # Earlier frames belong to the previous subtitle, which has the same page.
         begin = max(first, subtitle.begin)
     elif subtitle.begin < first == timeline.first and not (
             cue.cause and subtitle.begin + (cue.cause.frames or 0) == first):
@@ -129,8 +129,8 @@ class CueVerdict(NamedTuple):
     """The verdict on a subtitle, and its reason."""
 
     word: str
-    cause: str = ""  # cause of its fault
-    fault_numbers: Sequence[int] = ()  # numbers of other faults at its time
+    cause: str = ""  # cause of the subtitle's fault
+    fault_numbers: Sequence[int] = ()  # numbers of the other faults during the subtitle
     doubt: str = ""  # why the verdict is not known
 
 
@@ -147,7 +147,7 @@ class CueJudge:
 
     @functools.cached_property
     def is_cause_waived(self) -> bool:
-        """Return whether the severity file turns all faults that have a cause into warnings."""
+        """Return whether the severity file makes warnings of all faults that have a `Cause`."""
         numbers = FAULTS_WITH_CAUSE & self.part.check_output.fault_numbers
         return bool(numbers) and not any(map(self.severity.is_error, numbers))
 
@@ -169,8 +169,9 @@ class CueJudge:
         return CueVerdict(word, words, numbers)
 
     def describe_doubt(self, cue: Cue) -> str:
-        """Explain why a cue without a fault may be wrong, or return "". It is right if the part is
-        accepted and no TS packet was lost during it, or if `check` trusts all its frames."""
+        """Explain why a cue without a fault may be wrong. Return "" if it must be right: the part
+        is accepted and no TS packet was lost during the cue, or `check` trusts all frames of the
+        cue."""
         begin, end = cue.subtitle.begin, cue.subtitle.end
         if self.part.check_output.verdict == ACCEPTED:
             is_lost = any(span.first < end and begin <= span.last
@@ -210,9 +211,9 @@ class SubtitleFaults(NamedTuple):
 
 def find_refused_subtitles(part: Part, file: SubtitleFile, valid_subtitles: ValidSubtitles | None) \
         -> Iterator[SubtitleFaults]:
-    """Yield the refused subtitles in a file, each with its faults. Then yield the subtitles without
-    a fault that are not judged because the next subtitle is refused. `valid_subtitles` has the
-    subtitles that are judged although others are refused."""
+    """Yield the refused subtitles in a file, each with its faults. Then yield the subtitles that
+    have no fault but are not judged, because the next subtitle is refused. `valid_subtitles` has
+    the judged subtitles, if others are refused."""
     left_out = set(valid_subtitles.skipped_positions) if valid_subtitles else set[int]()
     faults = [fault for fault,
               _ in itertools.islice(part.check_output.read_faults(), MAX_FAULTS_READ)
@@ -268,8 +269,8 @@ def find_recording_start(part: Part) -> int | None:
 
 
 def format_recording_offset(part: Part, start: int | None, frame: int) -> str:
-    """Return the time from the beginning of the recording, `start`, to a frame as H:MM:SS. Return
-    an empty string if the beginning is unknown or later than the frame."""
+    """Return the time between `start`, the beginning of the recording, and a frame as H:MM:SS.
+    Return an empty string if the beginning is unknown or later than the frame."""
     if start is None or part.origin is None:
         return ""
     seconds = subtract_pts(start, pts_of(frame, part.origin)) // 90_000

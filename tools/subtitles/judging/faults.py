@@ -34,9 +34,9 @@ class FaultPlace(NamedTuple):
     """The place of a fault in the transmission."""
 
     pes: int | None  # number of the PES packet, or `None` between two packets
-    pts: int | None  # its PTS
+    pts: int | None  # PTS of the PES packet
     rows: Rows | None  # the page decoded after this packet
-    headers: Sequence[PageHeader] = ()  # the page headers, for refused control bits (67)
+    headers: Sequence[PageHeader] = ()  # the page headers, if control bits are refused
 
 
 NO_PLACE = FaultPlace(None, None, None)
@@ -44,8 +44,8 @@ NO_PLACE = FaultPlace(None, None, None)
 
 def find_fault_place(fault: FaultLine, packets: Packets, timeline: Timeline | None,
                      expected: Rows | None = None) -> FaultPlace:
-    """Return the place of a transmission fault. If a frame has several PES packets and `expected`,
-    the expected page, is given, choose the last packet after which the faulty cell is wrong."""
+    """Return the place of a transmission fault. If a frame has several PES packets and `expected`
+    is given, choose the last packet after which the faulty cell differs from the expected page."""
     if fault.pes is not None:
         return FaultPlace(fault.pes, packets.get_pts(fault.pes), None)
     if fault.frame is None or timeline is None:
@@ -89,7 +89,7 @@ def find_code(rows: Rows | None, row: int, column: int) -> int | None:
 HINTS_BY_NUMBER = {EMPTY_TIME, CHARACTER, OUT_OF_ORDER, OFF_FRAME, CONTROL, GAP, PARITY, SILENT}
 HINTS_ON_PAGES = {DISPLAY, CONTENT}
 LENGTH_FAULTS = {32, 35}  # wrong lengths of PES packets or of their headers
-RANGE_FAULTS = {BEGIN, END}  # the recording begins late or ends early
+RANGE_FAULTS = {BEGIN, END}  # faults of a recording that begins late or ends early
 FAULTS_WITH_HINT = HINTS_BY_NUMBER | HINTS_ON_PAGES | LENGTH_FAULTS | RANGE_FAULTS
 DSC = slice(11, 12)  # the byte of the display standard code (DSC) in the GSI block
 
@@ -150,8 +150,8 @@ def describe_first_hint(fault: FaultLine, part: Part, verdict: Verdict) -> str:
 
 
 def describe_subtitle_at(frame: int, part: Part) -> str:
-    """Return the name and the text of the subtitle expected in a frame, or in a pause a text such
-    as `the page after subtitle 5`."""
+    """Return the name and the text of the subtitle expected in a frame. In a pause, return a text
+    such as `the page after subtitle 5`."""
     due = part.expected_pages()
     count, is_due = due.count_begun(frame)
     if not is_due:
@@ -187,7 +187,7 @@ def describe_pid_end(part: Part) -> str:
 
 
 def describe_unrecorded(fault: FaultLine, part: Part) -> str:
-    """Describe how many subtitles were not recorded, and which option judges only the others."""
+    """Describe how many subtitles were not recorded, and suggest an option to judge the others."""
     frame, subtitles = fault.frame, part.expected_pages().subtitles
     if frame is None or not subtitles or part.causes \
             and fault.number in part.causes.frames_by_end_fault:
@@ -210,7 +210,7 @@ def describe_unrecorded(fault: FaultLine, part: Part) -> str:
 
 
 def describe_block_subtitle(fault: FaultLine, subtitles: SubtitleFile) -> str:
-    """Return the name, time and text of the subtitle in the block of a fault, or "" without one."""
+    """Return the name, time and text of the subtitle in a fault's block, or "" if there is none."""
     subtitle = subtitles.find_by_block(fault.block) if fault.block else None
     if subtitle is None or not fault.block:
         return ""
@@ -233,7 +233,8 @@ def format_stored_text(text: bytes) -> str:
 
 
 def describe_open_option(subtitles: SubtitleFile) -> str:
-    """Return the hint that --open accepts the file's display standard code, or "" if it doesn't."""
+    """Return the hint that --open accepts the display standard code of the file. Return "" if
+    --open does not accept this code."""
     kind = {b"0": "0 (open subtitles)", b" ": "blank"}.get(subtitles.data[DSC])
     return f"its DSC is {kind}: --open accepts it" if kind else ""
 
@@ -254,12 +255,10 @@ def describe_silence(fault: FaultLine, part: Part) -> str:
 
 def describe_longest_gap(sent: tuple[Sequence[int], Sequence[int]], origin: int, request: Request,
                          numbers: set[int], times: Sequence[tuple[int, int]]) -> str:
-    """Describe the longest interval without a page header.
-
-    Return an empty string if the interval is short enough, or if some PES packets can't be read.
-    `sent` has the PTS of the page headers, and a list with the last PTS. `numbers` has the numbers
-    of all faults, and `times` the TCI and TCO of each subtitle.
-    """
+    """Describe the longest interval without a page header. Return an empty string if the interval
+    is short enough, or if some PES packets can't be read. `sent` holds two lists: the PTS of the
+    page headers, and the last PTS of the recording. `numbers` holds the numbers of all faults, and
+    `times` the TCI and TCO of each subtitle."""
     headers, last = ([frame for pts in some
                       if (frame := find_frame_of_day(pts, origin, request.within)) is not None]
                      for some in sent)
@@ -359,7 +358,6 @@ KEYS_WITHOUT_NUMBER = ("number", "byte", "character", "text_offset", "pes", "pes
 
 
 def make_subtitle(subtitle: NamedSubtitle) -> Members:
-    """Return the JSON value of a subtitle."""
     return {"position": subtitle.position, "number": subtitle.number, "begin": subtitle.begin,
             "end": subtitle.end}
 

@@ -63,7 +63,7 @@ def format_page_text(rows: Rows, option: int) -> str:
 
 
 def format_cells(rows: Rows) -> str:
-    """Return the rows of a page that are not blank, as text. Attributes are hexadecimal numbers."""
+    """Return the non-blank rows of a page as text. Attributes are hexadecimal numbers."""
     lines = []
     for number, row in enumerate(rows, 1):
         cells = row.strip(b" ")
@@ -119,7 +119,7 @@ def describe_row_ends(due: bytes, sent: bytes) -> str:
 
 
 def find_extent(row: bytes) -> tuple[int, int]:
-    """Return the columns of the first cell that is not a space and of the cell after the last."""
+    """Return the first column without a space, and the column after the last one."""
     return len(row) - len(row.lstrip(b" ")), len(row.rstrip(b" "))
 
 
@@ -195,8 +195,8 @@ def describe_drawing_differences(subtitles: Sequence[Subtitle], pages: Sequence[
 
 
 def describe_row_difference(due: Rows, sent: Rows) -> str:
-    """Describe the first row that differs between two pages with the same characters, by its row,
-    its column or its attributes."""
+    """Describe the first difference between two pages with the same characters: the row, the column
+    or the attributes that differ."""
     lines, others = [*find_coded_rows(due)], [*find_coded_rows(sent)]
     if len(lines) != len(others):
         return f"{counted(len(others), 'row')} instead of {len(lines)}"
@@ -214,7 +214,7 @@ def describe_row_difference(due: Rows, sent: Rows) -> str:
 
 
 def format_codes(codes: bytes) -> str:
-    """Return codes as hexadecimal numbers; a space is the code 20."""
+    """Return codes as hexadecimal numbers. A space character is written as 20."""
     return " ".join(f"{code:02X}" for code in codes) or "nothing"
 
 
@@ -234,9 +234,9 @@ class Cell(NamedTuple):
 
     column: int
     code: int
-    is_boxed: bool  # two start box codes open its box
-    is_after_start_box: bool  # at least one start box code opens its box
-    is_invisible: bool  # it has the colour of its background
+    is_boxed: bool  # whether two start box codes open the character's box
+    is_after_start_box: bool  # whether at least one start box code opens the character's box
+    is_invisible: bool  # whether the character has the colour of its background
 
     @property
     def is_shown(self) -> bool:

@@ -113,7 +113,7 @@ class LocatedRecording(NamedTuple):
 
 
 def find_adjoining_end(part: Part) -> int | None:
-    """Return the last TCO of a part if the page decoded at this TCO is its only fault."""
+    """Return the last TCO of a part if its only fault is in the page decoded at this TCO."""
     fault, (_, alignment) = part.check_output.first_fault, part.judged_recording
     is_only_fault = part.check_output.fault_count == 1 and fault is not None \
         and fault.number == CONTENT
@@ -124,8 +124,8 @@ def find_adjoining_end(part: Part) -> int | None:
 
 
 def find_nearest_pauses(subtitles: Sequence[Subtitle], at: int) -> list[int]:
-    """Return the last TCO before frame `at` and the first TCO after it at which a pause begins. The
-    end of the file counts as a pause."""
+    """Return the TCOs at which a pause begins: the last before frame `at` and the first after it.
+    The end of the file counts as a pause."""
     ends = [subtitle.end for subtitle, other in zip(subtitles, subtitles[1:])
             if subtitle.end < other.begin]
     ends += [subtitles[-1].end] if subtitles else []
@@ -219,7 +219,7 @@ class PairJudge:
         self.verdict.warn(hidden_rows.warnings)
 
     def check_file_only(self) -> CheckOutput:
-        """Return the faults of the subtitle file, and the fault that there is no PES packet."""
+        """Return the faults of the subtitle file, including the fault for missing PES packets."""
         answer = check_file_alone(self.request, self.command_paths.program_path, self.names)
         if answer.verdict != REFUSED or not answer.fault_numbers <= STL_FAULTS | {EMPTY}:
             raise IncompleteAnswer(
@@ -228,7 +228,7 @@ class PairJudge:
 
     def find_valid_subtitles(self, answer: CheckOutput) -> CheckOutput:
         """Find the subtitles that can be judged although others are refused. Return `answer`
-        without the fault that there is no PES packet."""
+        without the fault for missing PES packets."""
         if self.request.recording is not None:
             file = SubtitleFile(self.names.program_stl, self.request.between)
             faults = (fault for fault, _ in answer.read_faults())
@@ -305,8 +305,8 @@ class PairJudge:
         return LocatedRecording(recording, clocks, subtitles)
 
     def is_continued(self, first: Subtitle) -> bool:
-        """Return whether the first judged subtitle, `first`, follows a subtitle with the same text
-        without a pause."""
+        """Return whether a subtitle with the same text directly precedes the first judged subtitle,
+        `first`, with no pause between them."""
         request, option = self.request, OPTION_BY_WORD[self.request.option]
         if not request.between.begin and not self.skipped_positions:
             return False
@@ -326,7 +326,7 @@ class PairJudge:
 
     def judge_valid_subtitles(self, answer: CheckOutput) -> None:
         """Judge the transmission of the subtitles that are not refused. If this is impossible,
-        refuse the file only, and add a note with the reason."""
+        refuse only the subtitle file, and add a note with the reason."""
         try:
             with self.catch_missing_page():
                 self.judge_transmission()
@@ -397,8 +397,9 @@ class PairJudge:
         self.add_part_warnings(part, subtitles)
 
     def refuse_adjoining_cut(self, part: Part) -> None:
-        """Raise `Unclear` if the page at the last TCO is the only fault, and the next subtitle
-        begins there. The option --to then cuts the file between two subtitles without a pause."""
+        """Raise `Unclear` if the only fault is in the page decoded at the last TCO, and the next
+        subtitle begins there. The option --to then cuts the file between two adjoining
+        subtitles."""
         at = find_adjoining_end(part) if self.request.to_time and \
             not self.verdict.valid_subtitles else None
         if at is None or part.decoded_pages is None:
@@ -414,8 +415,8 @@ class PairJudge:
         if not due.pages or not fault or \
                 part.decoded_pages.get_page_at(fault.frame or at) != due.pages[0]:
             return
-        # Use a range other than the default, for which `read_subtitles` skips refused subtitles.
-        # With the default it would raise `Unclear` with another message.
+        # With the default range, `read_subtitles` would raise another `Unclear` for a refused
+        # subtitle. With any other range it skips refused subtitles.
         subtitles = read_subtitles(program, stl_path, FrameRange(0, FRAMES_OF_A_DAY + 1),
                                    request.is_open)
         raise Unclear(f"--to ends the range at {format_frame(at)}, where the next subtitle follows "

@@ -43,7 +43,7 @@ class Part:
     request: Request
     names: OutputNames
     check_output: CheckOutput  # faults that `check` reports
-    alignment: TimedPart | None = None  # its frames and clock, if it has a recording
+    alignment: TimedPart | None = None  # frames and clock, if there is a recording
     recording: Recording | None = None
     skipped_positions: Collection[int] = ()
     pes: Range | None = None  # PES packets to judge
@@ -54,13 +54,13 @@ class Part:
     timeline: Callable[[], Timeline | None] = lambda: None
     severity: Severity | None = None
     causes: Causes | None = None
-    delays: Sequence[int | None] = ()  # frames from each TCI until the subtitle was complete
+    delays: Sequence[int | None] = ()  # number of frames from each TCI to the complete page
     is_recording_read: bool = False  # also true if there is no recording
     hint: str = ""  # hint on the fault to report first
     block_subtitle: str = ""  # description of the refused block's subtitle
     transmission_hint: str = ""  # hint on the first fault of the transmission
     header_problem: str = ""  # fault in the headers of PES packets
-    # How the layout of pages with the correct characters differs
+    # Differences in the layout of pages whose characters are correct
     drawing_differences: str = ""
     # Number of headers with C4 clear, if this is their only fault
     keeping_headers: KeepingHeaders | None = None
@@ -85,14 +85,14 @@ class Part:
 
     @property
     def judged_recording(self) -> tuple[Recording, TimedPart]:
-        """Return the recording, and the frames and the clock. The part must have a recording."""
+        """Return the recording, and the frames and the clock of the part."""
         assert self.recording and self.alignment
         return self.recording, self.alignment
 
     @property
     def waived_numbers(self) -> set[int]:
         """Return the numbers of the faults that the severity file turns into warnings. Return an
-        empty set if the part has no other faults: these faults then decide the verdict."""
+        empty set if the part has only such faults, which then decide the verdict."""
         numbers = {number for number in self.check_output.fault_numbers
                    if self.severity and not self.severity.is_error(number)}
         return numbers if numbers != self.check_output.fault_numbers else set()
@@ -123,7 +123,7 @@ class Part:
         return self.timeline()
 
     def add_packets(self, pes: Range, judged: SummedFile | None = None) -> Part:
-        """Return a copy with the PES packets to judge, and the pages decoded from them."""
+        """Return a copy of the part with the PES packets to judge, and the decoded pages."""
         recording, alignment = self.judged_recording
         request = self.request
 
@@ -209,8 +209,9 @@ class Part:
 
 
 def belongs_to_part(place: LossPlace, part: Part) -> bool:
-    """Return whether missing packets belong to a part. They do if their gap marker is among its PES
-    packets or, if there is no gap marker, unless they are certainly outside its frames."""
+    """Return whether missing packets belong to a part. If they have a gap marker, it must be among
+    the PES packets of the part. Otherwise, they belong to it unless they are certainly outside its
+    frames."""
     if part.alignment is None:
         return False
     if place.gap_marker is not None and part.pes is not None:
@@ -261,8 +262,8 @@ def find_part_causes(part: Part) -> Causes | None:
 
 
 def find_recorded_span(pts: tuple[int, int] | None, alignment: TimedPart) -> Span | None:
-    """Return the frames that were recorded completely. `pts` has the PTS between which all packets
-    were recorded, if known. Return `None` if the PTS go back somewhere in the recording."""
+    """Return the frames that were recorded completely. `pts` has the first and the last PTS between
+    which all packets were recorded, if known. Return `None` if the PTS go back in the recording."""
     if pts is None or alignment.packets:
         return None
     first, last = (subtract_pts_within(pts_of(alignment.begin, alignment.origin),

@@ -65,12 +65,11 @@ def find_worst_named_fault(faults: Sequence[NamedFault],
 
 
 def rank_number(number: int) -> Rank:
-    """Return the rank of faults with the given number."""
     return NUMBER_RANKS.get(number, Rank.LATER)
 
 
 def rank_cause(cause: Cause) -> Rank:
-    """Return the rank of a cause. A cause that may not be a fault is less severe."""
+    """Return the rank of a cause. If the subtitle may be correct, the cause is less severe."""
     return Rank.UNSEEN if cause.may_be_correct else CAUSE_RANKS[cause.name]
 
 
@@ -188,7 +187,7 @@ FAULT_CLAUSES = {
 }
 
 
-# Predicates for a cause, with one subtitle and with several subtitles
+# Predicates for each cause: the form for one subtitle, and the form for several
 CAUSE_PREDICATES = {
     NEVER: ("was never sent", "were never sent"),
     OTHER_TEXT: ("has another subtitle's text", "have other subtitles' texts"),
@@ -200,12 +199,12 @@ CAUSE_PREDICATES = {
     ERASED: ("was erased before its TCO", "were erased before their TCO"),
     NOT_RECEIVED: ("was not received", "were not received"),
     UNKNOWN_CAUSE: ("is not as expected", "are not as expected")}
-# Predicate after `none of the subtitles`, for a cause that all subtitles have
+# The predicate that follows `none of the subtitles`, for each cause that all subtitles have
 NONE_PREDICATES = {
     NEVER: "was sent", NOT_ERASED: "was erased", INCOMPLETE_REPEAT: "was repeated completely",
     NOT_RECEIVED: "was received", UNKNOWN_CAUSE: "is as expected"}
 HINTS_ON_ALL = {GAP, OFF_FRAME}  # faults whose hint is about all frames, not about the first fault
-HINTS_FOR_CLAUSE = {CONTROL, PARITY}  # faults whose hint replaces their `FAULT_CLAUSES`
+HINTS_FOR_CLAUSE = {CONTROL, PARITY}  # faults explained by their hint, not by `FAULT_CLAUSES`
 MAX_NUMBERS = 4  # maximum number of fault numbers listed in a sentence
 
 
@@ -224,11 +223,11 @@ class Facts(NamedTuple):
     has_cause: bool = False
     faults: int = 0
     counts: Sequence[FaultCount] = ()  # number of faults for each fault number
-    hint: str = ""  # explains the first fault
+    hint: str = ""  # explanation of the first fault
     of_block: str = ""
     causes: Causes | None = None
     option: str = "english"
-    lost: Sequence[str] = ()  # lines about gaps
+    lost: Sequence[str] = ()  # lines that report the gaps
     warnings: Sequence[str] = ()  # kinds of warnings
     reason: str | None = None
     is_file: bool = False  # whether only a subtitle file was judged
@@ -321,7 +320,7 @@ def describe_text_period(facts: Facts) -> str:
 
 
 def describe_faults(facts: Facts) -> str:
-    """Describe the worst fault, its first place, and the number of other faults."""
+    """Describe the worst fault, the place where it first occurs, and the number of other faults."""
     if facts.refused:
         return describe_valid_subtitles(facts)
     words = describe_first_fault(facts)
@@ -364,8 +363,8 @@ def describe_first_fault(facts: Facts) -> str:
 
 
 def describe_other_faults(facts: Facts) -> str:
-    """Describe the faults whose number differs from that of the first fault. Leave out the fault
-    numbers that can have a cause (`FAULTS_WITH_CAUSE`)."""
+    """Describe the faults with other numbers than the first fault. Omit the numbers in
+    `WITH_CAUSE`, since these faults are described by their causes."""
     first = facts.first.number if facts.first else None
     others = [count for count in facts.counts
               if count.number not in FAULTS_WITH_CAUSE and count.number != first]

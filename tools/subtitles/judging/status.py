@@ -1,4 +1,4 @@
-"""Decide the verdict, its exit status, and which faults are errors. Only this module does."""
+"""Decide the verdict, its exit status, and which faults are errors. No other module does this."""
 from __future__ import annotations
 
 from typing import Collection, Iterable, NamedTuple, Sequence
@@ -21,9 +21,9 @@ class Severity:
     """The severity of each fault number and fault name.
 
     A fault is an error unless the severity file at `path` makes it a warning. Lost packets are a
-    warning only with `is_loss_allowed` (--allow-lost) or if the file lists them; `others` does not
-    include them. If they are a warning, then so is too long an interval without a PES packet (79),
-    unless the file lists it.
+    warning only with `is_loss_allowed` (--allow-lost) or if the file lists them; the name `others`
+    in the file does not include them. If lost packets are a warning, an interval without a PES
+    packet that is too long (79) is one too, unless the file lists it.
     """
 
     def __init__(self, path: str | None, is_loss_allowed: bool = False) -> None:
@@ -63,7 +63,6 @@ class Severity:
         return self.severity_by_fault.get(number, WARNING if is_loss else self.default)
 
     def is_error(self, number: int | str) -> bool:
-        """Return whether the faults with this number or name are errors."""
         return self.classify(number) == ERROR
 
 
@@ -87,10 +86,9 @@ class CheckSummary(NamedTuple):
     exit_status: int | None  # negative after a signal; `None` while `check` is running
     is_accepted: bool = False  # whether the last line accepts the part
     fault_count: int = 0  # number of reported faults
-    printed_total: int | None = None  # number of faults on the last line
+    printed_total: int | None = None  # the number that the last line of the output states
     fault_numbers: Collection[int] = ()
-    # Whether `check` read any PES packet, or there is no recording
-    is_read: bool = True
+    is_read: bool = True  # false if there is a recording, but `check` read no PES packet
 
 
 class Grounds(NamedTuple):
@@ -104,7 +102,7 @@ class Grounds(NamedTuple):
     warnings: Sequence[str] = ()
     is_strict: bool = False
     reasons: Sequence[str] = ()  # why the pair was not judged
-    # Outputs that could not be written, or that would describe other files
+    # Outputs that could not be written, or would describe other files than the judged ones
     failed_outputs: Sequence[str] = ()
     named_faults: Sequence[str] = ()
     # Whether the clock was given, or there is no recording. Without a clock, a delay that all
@@ -142,9 +140,9 @@ def decide_part(summary: CheckSummary) -> str:
 def decide(grounds: Grounds) -> Decision:
     """Return the verdict on all parts of a pair.
 
-    If anything is missing, unread or unwritten, the pair is not judged. Otherwise, an error
-    outweighs a loss, a loss outweighs a warning, and a warning outweighs a missing clock. A fault
-    without a number, for example a page that is never sent, counts even if there are no parts.
+    If an input can't be judged or an output can't be written, the pair is not judged. Otherwise the
+    most severe finding decides, in the order error, loss, warning, missing clock. A fault without a
+    number, for example a page that is never sent, counts even if there are no parts.
     """
     words = [decide_part(part) for part in grounds.parts]
     if grounds.reasons or grounds.failed_outputs:
@@ -166,8 +164,8 @@ def decide(grounds: Grounds) -> Decision:
 
 
 def matches_exit_status(word: str, status: int, exit_status: int) -> bool:
-    """Return whether a run of qc ended with `status`, the exit status in its JSON result, and the
-    verdict `word` permits this status."""
+    """Return whether a run of qc ended with the exit status in its JSON result, which is `status`,
+    and whether the verdict `word` permits this status."""
     return status == exit_status and (word, status) in POSSIBLE_RESULTS
 
 

@@ -28,7 +28,8 @@ AT_MIDNIGHT = "the file runs past midnight: split it there"
 
 
 def advise_on_midnight(fault: FaultLine, subtitles: SubtitleFile) -> str:
-    """Return the advice to split the file if the fault is that its times pass midnight, else ""."""
+    """Return the advice to split the file if the fault is caused by times that pass midnight.
+    Otherwise return an empty string."""
     if fault.block is None or fault.number not in (EMPTY_TIME, OUT_OF_ORDER):
         return ""
     if fault.number == EMPTY_TIME:
@@ -42,8 +43,8 @@ def advise_on_midnight(fault: FaultLine, subtitles: SubtitleFile) -> str:
 
 
 def advise_on_title(subtitles: SubtitleFile) -> str:
-    """Return advice on the first subtitle if it is probably a title that is not sent, because it is
-    at 00:00:00:00, and an hour before all others. Otherwise return an empty string."""
+    """Return advice about the first subtitle if it is probably a title that is not meant to be
+    sent: it is at 00:00:00:00, an hour before all others. Otherwise return an empty string."""
     rest = min((frame for frame in subtitles.begins if frame), default=0)
     if not rest >= HOUR or subtitles.begins[0]:
         return ""
@@ -67,20 +68,20 @@ class OptionAdvice:
 
     @functools.cached_property
     def complete_options(self) -> list[NationalOption]:
-        """Return the other national options that contain all characters of the file."""
+        """Return the options, except the chosen one, that contain all characters of the file."""
         texts = {self.subtitles.text(block) for block in self.subtitles.list_last_blocks()}
         return [option for option in OPTIONS if option.word != self.option
                 and all(has_characters(text, option) for text in texts)]
 
     def advise(self, block: int, offset: int) -> str:
-        """Return advice on the byte at `offset` in the text that ends in the TTI block `block`."""
+        """Return advice on the byte at `offset` in the text whose last TTI block is `block`."""
         text = self.subtitles.text(block)
         return "" if offset >= len(text) else advise_on_character(
             read_character_bytes(text, offset), self.complete_options)
 
 
 def advise_on_character(letter: bytes, complete_options: list[NationalOption]) -> str:
-    """Return advice on a character that the national option lacks. `complete_options` has the
+    """Return advice on a character that the national option lacks. `complete_options` lists the
     options that contain all characters of the file."""
     if complete_options:
         verb = "has" if len(complete_options) == 1 else "have"
@@ -98,7 +99,7 @@ def advise_on_character(letter: bytes, complete_options: list[NationalOption]) -
 
 
 def join_words(words: list[str], conjunction: str) -> str:
-    """Return words as a list in text, such as `english, italian or czech`."""
+    """Join words with commas and a conjunction, as in `english, italian or czech`."""
     *first_words, last = words
     return f"{', '.join(first_words)} {conjunction} {last}" if first_words else last
 
@@ -112,8 +113,8 @@ PAGE_FLAGS, ERASE_FLAGS = "heo", "heb"  # flags of a PES packet with a page, or 
 
 
 class SubtitleCounts(NamedTuple):
-    """The number of judged subtitles, and the number of refused subtitles and of those that are
-    skipped because the next subtitle is refused."""
+    """The number of judged subtitles, and the number of subtitles that are not judged because they
+    or the next subtitle are refused."""
 
     judged: int
     refused: int
@@ -133,26 +134,24 @@ class RefusedSubtitle(NamedTuple):
     advice: str
 
     def describe_subtitle(self) -> str:
-        """Return the name of the subtitle and its time."""
         subtitle = self.subtitle
         return f"{format_subtitle_name(subtitle.position, subtitle.number)} at {subtitle.begin}"
 
     def describe_reason(self) -> str:
-        """Describe the fault with the refused character or the meaning of the fault. Add advice."""
+        """Describe the fault, with its refused character or its meaning, and add advice."""
         more = self.character or FAULT_CLAUSES.get(self.fault.number, "")
         do = f": {self.advice}" if self.advice else ""
         return f"has fault {self.fault.number} {self.fault.name} ({more}){do}"
 
     def format_line(self) -> str:
-        """Return the output line about the refused subtitle."""
         return f"undecided: {self.describe_subtitle()}, until {self.subtitle.end}, " \
             f"{self.describe_reason()}"
 
 
 class ValidSubtitles(NamedTuple):
-    """The subtitles that are judged although others in the file are refused.  `check --all` judges
+    """The subtitles that are judged although others in the file are refused. `check --all` judges
     the transmission from each correct subtitle to the next one. A subtitle is correct if it has no
-    fault and the next subtitle is neither out of order nor overlaps it."""
+    fault, and the next subtitle is not out of order and does not overlap it."""
 
     judged: list[Subtitle]
     refused: list[RefusedSubtitle]
@@ -178,9 +177,9 @@ class ValidSubtitles(NamedTuple):
 
 
 def has_valid_subtitles(numbers: set[int]) -> bool:
-    """Return whether `check` judges some subtitles although others are refused. `numbers` has the
-    fault numbers for the subtitle file alone. If `check` judges subtitles, it also reports that
-    there is no PES packet."""
+    """Return whether `check` judges some subtitles although others are refused. `numbers` contains
+    the fault numbers for the subtitle file alone. If subtitles were judged, they include `EMPTY`,
+    the fault for missing PES packets."""
     return EMPTY in numbers and bool(numbers & STL_FAULTS)
 
 

@@ -130,7 +130,7 @@ def make_estimated_clock(part: PartOrigin) -> Clock:
 
 
 def add_delay(clock: Clock, origin: OriginEstimate) -> tuple[Clock, list[str]]:
-    """Return a given clock with the delay of the first part's cues, and notes about it."""
+    """Return a clock with `delay_frames` set for the first part, and notes about this delay."""
     if origin.ticks_late is None or origin.status:
         return clock, []
     frames, ticks = divmod(abs(origin.ticks_late), TICKS)
@@ -160,7 +160,7 @@ def refuse_wrong_clock(search: PartSearch, recording: Recording, part: TimedPart
 
 
 def describe_wrong_clock(request: Request, clock: Clock, delay: int) -> str:
-    """Describe the error of a given clock, with which the subtitles are `delay` frames late."""
+    """Describe by how much a given clock is wrong: the subtitles are `delay` frames late by it."""
     if clock.source == GIVEN:
         return f"with --origin {clock.origin}, all subtitles would be " \
             f"{describe_duration(abs(delay))} {'late' if delay > 0 else 'early'}, so the " \
@@ -195,7 +195,7 @@ def suggest_options(recording: Recording, origin: OriginEstimate) -> Iterator[st
 
 def cut_packets(search: PartSearch, recording: Recording, alignment: TimedPart,
                 within: int) -> PacketRange:
-    """Find the PES packets sent during the subtitles, or at most `within` frames later."""
+    """Find the PES packets sent while subtitles are expected, or up to `within` frames later."""
     return find_range(recording.packets, alignment.begin, alignment.end, alignment.origin,
                       search.request.every, within, alignment.packets or search.allowed_packets,
                       search.is_continued and alignment.begin == search.full_range.begin)
@@ -228,9 +228,9 @@ UNCHECKED = "not checked:"  # the beginning of a note
 
 
 def measure_part_pace(part: Part, times: Sequence[tuple[int, int]], listener: Listener) -> Part:
-    """Return a copy of the part in which --pace follows from the usual intervals between PES
-    packets, unless --pace is given or the intervals are irregular. Add notes about losses that
-    can't be detected. `times` has the TCI and TCO of each subtitle."""
+    """Return a copy of the part with --pace computed from the usual intervals between PES packets.
+    Do not compute --pace if it is given, or if the intervals are irregular. Add notes about losses
+    that can't be detected. `times` has the TCI and TCO of each subtitle."""
     number, request, (recording, _) = part.number, part.request, part.judged_recording
     pace, unseen_frames = measure_pace(part, times)
     jumps, count = find_late_jumps(part, pace)
@@ -281,13 +281,13 @@ def describe_jumps(count: int, recording: Recording) -> str:
 
 
 def make_pace_selection(pace: Pace, is_stream: bool, part: int) -> Selection:
-    """Return the `Selection` that reports the chosen --pace, and how often it shows a loss."""
+    """Return the `Selection` that reports the chosen --pace, and how often it reveals a loss."""
     return Selection(PACE_CHOICE, str(pace.frames), describe_pace(pace, is_stream),
                      pace.total - pace.hidden_places, pace.total, part)
 
 
 def describe_pace(pace: Pace, is_stream: bool) -> str:
-    """Describe the usual interval between PES packets, and the --pace chosen from it."""
+    """Describe the usual interval between PES packets, and the value of --pace chosen from it."""
     more = ", with several in some frames" if pace.is_dense else \
         f", or at least {pace.loss_interval} after a loss of 16 TS packets" if is_stream else ""
     return f"pace: PES packets are at most {counted(pace.interval, 'frame')} apart{more}: " \
@@ -325,7 +325,7 @@ def describe_missing_pcr(recording: Recording) -> str:
         "counter does not show, such as 16 TS packets, is not detected"
 
 
-# Viewers notice when pictures drift from the subtitles, but the PTS of Teletext do not show it.
+# Viewers notice if subtitles and pictures drift apart, but the Teletext PTS do not show the drift.
 
 NOT_CHECKED = "not checked whether the video and the subtitles drift apart"
 
@@ -423,8 +423,8 @@ def make_delay_notes(several: Sequence[Departure], alignment: TimedPart, within:
 
 
 def make_unclear_notes(is_steady: bool, count: int) -> list[str]:
-    """Return notes about drifts that were not checked: all if `is_steady` is false, otherwise those
-    at `count` places."""
+    """Return notes about drifts that were not checked: about all drifts if `is_steady` is false,
+    otherwise about the drifts at `count` places."""
     if not is_steady:
         return [f"{NOT_CHECKED}: the video's decoding times have no usual step"]
     return [f"{NOT_CHECKED} at {counted(count, 'place')} where the video's decoding times jump: "

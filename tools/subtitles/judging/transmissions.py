@@ -46,7 +46,8 @@ OTHER_CHARACTERS = "is shown with wrong characters"
 
 
 class PageHeader(NamedTuple):
-    """A header of the page, the header before it, and whether the page was still open."""
+    """A header of the page, the header before it, and whether rows of the page were still accepted
+    when this header arrived."""
 
     header: bytes
     previous: bytes | None = None
@@ -70,13 +71,13 @@ def find_page_headers(run: PacketRun, state: ReceiverState) -> list[PageHeader]:
 
 
 def keeps_page(header: bytes) -> bool:
-    """Return whether a header does not erase the page: C4 (erase page) is clear."""
+    """Return whether a header keeps the page, that is, whether C4 (erase page) is clear."""
     return not has_bit(header, ERASE)
 
 
 def describe_missing_erase(page_header: PageHeader, request: Request) -> str:
     """Describe why a header wrongly does not erase the page. Return an empty string if the header
-    erases the page, or need not."""
+    erases the page, or does not have to."""
     if not keeps_page(page_header.header):
         return ""
     if not request.may_keep:
@@ -91,7 +92,7 @@ def describe_missing_erase(page_header: PageHeader, request: Request) -> str:
 
 
 def describe_control_bits(header: bytes, option: str, erase_fault: str = "") -> list[str]:
-    """Return messages about a header's control bits, first `erase_fault`, the one about C4."""
+    """Return messages about a header's control bits. The first is `erase_fault`, about C4."""
     faults = [erase_fault] if erase_fault else []
     faults += [words for bit, is_set, words in CONTROL_BIT_FAULTS if has_bit(header, bit) != is_set]
     bits = read_national_option(header)
@@ -179,8 +180,8 @@ def describe_omitted_rows(rows: Sequence[int], row: int | None, received: int) -
     return f"{first} and {more} more" if more > 0 else first
 
 
-NO_SUBTITLE_FAULT = 82  # number of the fault of a file without subtitles
-LONGEST_INTERVAL = "1500"  # value of --every, in frames, that makes the fewest repeats
+NO_SUBTITLE_FAULT = 82  # number of the fault reported for a file without subtitles
+LONGEST_INTERVAL = "1500"  # value of --every, in frames, that results in the fewest repeats
 
 
 class ExpectedPages(SubtitleList):
@@ -249,7 +250,7 @@ def schedule_pages(program: str, stl: str, subtitles: list[Subtitle], page: Page
                    between: FrameRange = ALL_DAY,
                    layout_arguments: Sequence[str] = ()) -> ExpectedPages:
     """Return the expected pages of a file's subtitles, decoded from the output of `subttx
-    schedule`. `layout_arguments` has the options for drawing pages."""
+    schedule`. `layout_arguments` contains the options for drawing pages."""
     if not subtitles:
         return ExpectedPages([], [])
     with make_temporary_folder("subttx-qc-") as folder:
@@ -278,11 +279,10 @@ class PageTransmissions:
         self.subtitles, self.pages = expected.subtitles, expected.pages
 
     def is_expected_page(self, frame: int) -> bool:
-        """Return whether the page decoded in a frame is the expected page."""
         return self.timeline.get_page_at(frame) == self.expected.get_page_at(frame)
 
     def split_frames(self, first: int, last: int) -> list[Span]:
-        """Split the frames of a fault into spans with the same expected and decoded page."""
+        """Split the frames of a fault wherever the expected or the decoded page changes."""
         begins = {first, *self.expected.list_cues(first, last)}
         begins.update(self.timeline.frames[number]
                       for number in self.timeline.list_page_numbers(first, last + 1)
@@ -322,8 +322,8 @@ class PageTransmissions:
             self.timeline.get_page_at(begin) == self.pages[place]
 
     def is_delayed_page(self, number: int, place: int, frame: int) -> bool:
-        """Return whether page `number` was wrong before the TCI of a subtitle, and only remains
-        during its allowed delay. A fault of the page then belongs to the previous subtitle."""
+        """Return whether page `number` was already wrong before the TCI of a subtitle, and is
+        replaced within the allowed delay. If so, the fault belongs to the previous subtitle."""
         begin, following = self.subtitles[place].begin, number + 1
         limit = begin + self.timeline.within
         return self.timeline.frames[number] < begin <= frame < limit and \
@@ -331,9 +331,9 @@ class PageTransmissions:
             not self.is_expected_page(begin - 1)
 
     def is_sent_for_next(self, number: int, place: int) -> bool:
-        """Return whether page `number` was sent for the subtitle after `place`. This is so if it
-        belongs to no subtitle, follows the page of the subtitle at `place`, and lasts longer during
-        the next one."""
+        """Return whether page `number` was sent for the subtitle after `place`. This is so if the
+        page belongs to no subtitle, follows the page of the subtitle at `place`, and lasts longer
+        in the time of the next subtitle than in the time of this one."""
         if place + 1 >= len(self.subtitles) or not self.is_unknown_page(number, place):
             return False
         item, following = self.subtitles[place], self.subtitles[place + 1]
@@ -349,9 +349,10 @@ class PageTransmissions:
                     max(self.expected.after(place), begin + MIN_FRAMES))
 
     def find_transmission(self, place: int) -> int | None:
-        """Return the frame nearest to the TCI in which the page of a subtitle was sent, if it was.
-        A page that was sent at the TCI of another subtitle does not count, because it replaced that
-        subtitle's page, unless both subtitles are early or late by the same number of frames."""
+        """Return the frame, nearest to a subtitle's TCI, in which its page was sent. Return `None`
+        if it was not sent. A page that was sent at another subtitle's TCI instead of that
+        subtitle's page does not count, unless both subtitles are early or late by the same number
+        of frames."""
         numbers = [frame for frame in self.find_transmissions(place)
                    if self.find_subtitle_at_cue(frame)
                    in (None, place) or self.are_moved_together(place, frame)]
@@ -369,7 +370,7 @@ class PageTransmissions:
                 if self.expected.find_subtitle(page, frame) == place]
 
     def find_subtitle_at_cue(self, frame: int) -> int | None:
-        """Return the subtitle that begins in a frame, or at most the allowed delay before it."""
+        """Return the subtitle that begins in a frame, or earlier by at most the allowed delay."""
         place = self.expected.find_place(frame)
         is_in_time = place >= 0 and frame <= self.subtitles[place].begin + self.timeline.within
         return place if is_in_time else None
@@ -420,7 +421,8 @@ class PageTransmissions:
 
     def find_other_text_at_cue(self, place: int) -> int | None:
         """Return another subtitle whose page was sent at the TCI of the subtitle at `place`, or
-        within the allowed delay. Ignore it if both are early or late by the same time."""
+        within the allowed delay. Ignore a page if its subtitle and the one at `place` are early or
+        late by the same number of frames."""
         subtitle = self.subtitles[place]
         limit = min(subtitle.begin + self.timeline.within + 1, subtitle.end)
         for number in self.timeline.list_page_numbers(subtitle.begin, limit):
@@ -433,7 +435,7 @@ class PageTransmissions:
 
     def find_other_text_during(self, place: int) -> int | None:
         """Return another subtitle whose page was sent during the subtitle at `place`. Ignore a
-        transmission that is the other subtitle's own (`find_transmission`)."""
+        transmission that belongs to that other subtitle (see `find_transmission`)."""
         subtitle = self.subtitles[place]
         for number in self.timeline.list_page_numbers(subtitle.begin, subtitle.end):
             frame = self.timeline.frames[number]

@@ -48,7 +48,7 @@ class DelaySpread(NamedTuple):
 
 def summarize_delays(several: Iterable[int | None]) -> DelaySpread | None:
     """Return the minimum, the median and the maximum of several delays. A delay is `None` if the
-    subtitle was never complete. Return `None` if all delays are."""
+    subtitle's page was never complete. Return `None` if there is no other delay."""
     spreads = list(several)
     known = sorted(frames for frames in spreads if frames is not None)
     if not known:
@@ -111,7 +111,7 @@ class Gap:
     before: str | None
     description: str
     place: LossPlace
-    is_judged: bool  # whether frames between these times were judged
+    is_judged: bool  # whether frames in the gap were judged
 
     def format_line(self) -> str:
         """Return an output line with the times around the gap, and a description of the loss."""
@@ -124,7 +124,7 @@ class Unjudged(NamedTuple):
 
     reason: str
     suggestions: tuple[str, ...] = ()
-    is_temporary: bool = False  # after a system error, when another run may judge the pair
+    is_temporary: bool = False  # whether a system error is the reason, so another run may succeed
     is_stopped: bool = False  # whether a signal stopped the run
 
 
@@ -149,8 +149,8 @@ class Verdict:
     parts: list[Part] = dataclasses.field(default_factory=list)
     gaps: list[Gap] = dataclasses.field(default_factory=list)
     warnings: list[Notice] = dataclasses.field(default_factory=list)
-    notes: list[str] = dataclasses.field(default_factory=list)  # other observations
-    hints: list[str] = dataclasses.field(default_factory=list)  # on the first fault of each number
+    notes: list[str] = dataclasses.field(default_factory=list)  # neither faults nor warnings
+    hints: list[str] = dataclasses.field(default_factory=list)  # one for each fault number
     commands: list[str] = dataclasses.field(default_factory=list)
     selections: list[Selection] = dataclasses.field(default_factory=list)
     stl: SummedFile | None = None
@@ -159,7 +159,7 @@ class Verdict:
     unjudged: Unjudged | None = None  # set if the pair is not judged
     # Outputs that could not be written, or that would describe files other than the judged ones
     failed_outputs: list[str] = dataclasses.field(default_factory=list)
-    # State of the files when judging began
+    # State of the input files when judging began
     files_at_start: dict[str, object] = dataclasses.field(default_factory=dict)
     seconds: float = 0.0  # duration of judging
     subtitle_count: int = 0
@@ -185,7 +185,7 @@ class Verdict:
 
     @property
     def estimated_clock_note(self) -> str | None:
-        """Return the note that the clock, or the clock after a break, was estimated, if it was."""
+        """Return a note if the clock, or the clock after a break, was estimated."""
         if not any(part.clock and part.clock.is_estimated for part in self.parts):
             return None
         return ESTIMATED_LATER_NOTE if self.has_clock else \
@@ -199,12 +199,11 @@ class Verdict:
 
     @property
     def has_clock(self) -> bool:
-        """Return whether the clock of the recording was given, or whether there is no recording."""
+        """Return true if the clock of the recording was given, or if there is no recording."""
         clocks = [part.clock for part in self.parts if part.clock]
         return self.request.has_clock and not (clocks and clocks[0].is_estimated)
 
     def collect_grounds(self) -> Grounds:
-        """Return all values that decide the verdict."""
         is_later = bool(self.estimated_clock_note) and self.has_clock
         kinds = [*(warning.kind for warning in self.warnings), *[ESTIMATED] * is_later]
         return Grounds([part.summarize_check() for part in self.parts], self.severity,
@@ -226,7 +225,6 @@ class Verdict:
 
     @property
     def is_stopped(self) -> bool:
-        """Return whether a signal stopped the run of qc."""
         return bool(self.unjudged and self.unjudged.is_stopped)
 
     @property
@@ -236,12 +234,11 @@ class Verdict:
 
     @property
     def word(self) -> str:
-        """Return the verdict in one word."""
         return self.decision.word
 
     @property
     def unjudged_reason(self) -> str | None:
-        """Return the reason, in one or more lines, why the pair is not judged, if it isn't."""
+        """Return the reason why the pair is not judged, or `None` if it is judged."""
         reasons = [*([self.unjudged.reason] if self.unjudged else []), *self.failed_outputs]
         return "\n".join(reasons) if reasons else self.decision.reason
 
@@ -279,9 +276,8 @@ class Verdict:
         return clock.delay_frames or 0 if clock and is_measured else 0
 
     def add_transmission_facts(self, facts: Facts, valid_subtitles: ValidSubtitles) -> Facts:
-        """Return a copy of `facts` with facts about the transmission added, for a file with refused
-        subtitles. `valid_subtitles` has the subtitles that are judged although others are
-        refused."""
+        """Return a copy of `said` with facts about the transmission added, for a file with refused
+        subtitles. `beside` holds the valid subtitles, which are judged nevertheless."""
         outputs = [part.check_output for part in self.parts]
         parts = [part for part in self.parts if part.worst_transmission_fault]
         part = find_worst_part(parts, lambda item: item.worst_transmission_fault)
@@ -305,7 +301,7 @@ class Verdict:
         return None if is_refused else SubtitleCounts(self.subtitle_count, 0)
 
     def narrow_to_part(self, part: Part, gaps: list[Gap]) -> Verdict:
-        """Return the verdict on one part alone. `gaps` has the gaps in this part."""
+        """Return the verdict on one part alone. `gaps` lists the gaps in this part."""
         return dataclasses.replace(self, parts=[part], gaps=gaps)
 
     @property
@@ -335,8 +331,7 @@ class Verdict:
 
     @property
     def worst_line(self) -> str | None:
-        """Return the first line in reports and batch tables. It is like `line`, but about the worst
-        fault, not the first."""
+        """Return the first line of reports and batch tables: a `line` about the worst fault."""
         if self.worst_named_fault:
             return self.format_check_line(self.worst_named_fault.line)
         return self.format_check_line(self.worst_part.first_text if self.worst_part else None)
@@ -351,7 +346,6 @@ class Verdict:
 
     @property
     def worst_part(self) -> Part | None:
-        """Return the part with the worst fault."""
         refused = [part for part in self.parts if part.is_refused]
         errors = [part for part in refused
                   if any(map(self.severity.is_error, part.check_output.fault_numbers))]
@@ -360,15 +354,15 @@ class Verdict:
     @property
     def waived_numbers(self) -> set[int]:
         """Return the numbers of the faults that the severity file turns into warnings. Return an
-        empty set unless the pair is refused for other faults."""
+        empty set if the pair is not refused."""
         numbers = {number for part in self.parts for number in part.check_output.fault_numbers}
         left_out = STL_FAULTS | {UNDECIDED} if self.valid_subtitles else set[int]()
         return {number for number in numbers - left_out if not self.severity.is_error(number)} \
             if self.word == REFUSED else set()
 
     def format_check_line(self, refused: str | None) -> str | None:
-        """Return a line of `check`, preceded by the verdict, or `None` if the pair is not judged.
-        Use the line `refused` about a fault or, if it is `None`, the `accepted` line."""
+        """Return the verdict and a line of `check`, or `None` if the pair is not judged. The line
+        is `refused` if this is given, otherwise the `accepted` line."""
         word = self.word
         if word == NOT_JUDGED:
             return None
@@ -388,7 +382,7 @@ class Verdict:
 
     def format_good_line(self) -> str:
         """Return the last line of output for a pair without faults. If there are several parts, the
-        line has the sum of their frames. It begins with `relative` if no clock was given."""
+        line gives the total number of frames. It begins with `relative` if no clock was given."""
         outputs = [part.check_output for part in self.parts]
         line = outputs[0].line if len(outputs) == 1 else (
             f"{ACCEPTED} {sum(answer.frames or 0 for answer in outputs)} frames "
@@ -408,8 +402,8 @@ def find_gaps(recording: Recording, parts: Sequence[Part]) -> list[Gap]:
 
 
 def make_gaps(places: Sequence[LossPlace], parts: Sequence[Part]) -> list[Gap]:
-    """Return the gaps at the given places in the recording. Their times are on the clock of the
-    first part that contains the place. If no part does, they are on the clock of the first part."""
+    """Return the gaps at the given places in the recording. Their times are time codes of the first
+    part that contains the place, or of the first part if no part contains it."""
     gaps = []
     for place in places:
         own = [part for part in parts if belongs_to_part(place, part)]

@@ -26,7 +26,7 @@ from ..stream.receiver import PACKETS_PER_PAUSE, PAUSE
 from ..stream.survey import (
     ANY_LANGUAGE_CODES, Announced, KINDS, ProgramMap, SUBTITLE_KINDS, Survey, list_language_codes)
 
-TNB, TNS = slice(238, 243), slice(243, 248)  # the bytes of these fields in a GSI block
+TNB, TNS = slice(238, 243), slice(243, 248)  # bytes of TNB and TNS in a GSI block
 
 
 class Notice(NamedTuple):
@@ -53,7 +53,7 @@ def find_timing_notices(packets: Packets, origin: int) -> Iterator[Notice]:
 
 
 def find_jump_notices(packets: Packets, origin: int, first: int, last: int) -> Iterator[Notice]:
-    """Yield warnings about clock jumps from frame `first` to `last` where no packet is missing."""
+    """Yield warnings about clock jumps without a loss of packets between two frames."""
     for jump in find_clock_jumps(packets):
         frame = FRAMES_OF_A_DAY if jump.before is None else compute_frame(jump.before, origin)
         if first <= frame <= last:
@@ -90,7 +90,8 @@ def find_pmt_notices(survey: Survey, pid: int, request: Request) -> Iterator[Not
 
 
 def find_page_notices(page_announcements: list[Announced], request: Request) -> Iterator[Notice]:
-    """Yield warnings if the PMT announces the page with another type, language or character set."""
+    """Yield warnings if the PMT does not announce the page as subtitles, or announces another
+    language or character set than those of the subtitle file."""
     name = request.page_name
     if not any(announced.kind in SUBTITLE_KINDS for announced in page_announcements):
         kinds = '" and "'.join(dict.fromkeys(KINDS.get(announced.kind, "an unknown kind")
@@ -135,12 +136,10 @@ def find_character_set_notices(packets: Packets, request: Request) -> Iterator[N
 
 
 def format_pages(announced: list[Announced]) -> str:
-    """Return a list of announced pages as text."""
     return ", ".join(dict.fromkeys(item.line() for item in announced))
 
 
 def read_language_code(stl: str) -> str:
-    """Return the language code (LC) of a subtitle file."""
     return read_first_bytes(stl, LC.stop)[LC].decode("latin-1")
 
 
@@ -170,7 +169,7 @@ def format_presence(count: int) -> str:
 
 
 def find_pause_notices(pts: Sequence[int], request: Request, origin: int) -> Iterator[Notice]:
-    """Yield warnings about long intervals without a PES packet, if there are only a few."""
+    """Yield a warning about each long interval without a PES packet, unless there are many."""
     frames = array.array("i", (frame for frame in find_frames_of_day(pts, origin, request.within)
                                if frame != NO_FRAME))
     pauses = [(first + 1, second) for first, second in zip(
@@ -193,8 +192,8 @@ def find_repeat_notices(headers: Sequence[int], request: Request, origin: int,
                      "to notice a missing repeat")
 
 
-# Uncertainty of the time of a PMT, in ticks. Its time is the PCR before it, which is listed once a
-# second.
+# Uncertainty of a PMT's time, in ticks. The time is that of the last PCR in the list, which has one
+# PCR a second.
 PMT_TOLERANCE = 2 * SECOND
 
 
@@ -208,7 +207,8 @@ class NeverSent(Exception):
 
 class Announcement(NamedTuple):
     """The PIDs on which a PMT announces a page, and the programme number. The PMT applies from the
-    PCR `begin` to the PCR `end`, or from the beginning or to the end of the recording."""
+    PCR `begin` (if `None`, from the beginning of the recording) to the PCR `end` (if `None`, to the
+    end)."""
 
     number: int
     pids: frozenset[int]
@@ -222,7 +222,6 @@ class Announcement(NamedTuple):
 
 
 def find_announcing_pids(program_map: ProgramMap, page: Page) -> set[int]:
-    """Return the PIDs on which a PMT announces a page."""
     return {pid for pid, pages in program_map.pages.items()
             if any(known.page == page for known in pages)}
 
@@ -241,9 +240,9 @@ def find_announcements(records: Sequence[ProgramMap], page: Page) -> Iterator[An
 
 def find_unsent(announced: Sequence[Announcement], carriers: Collection[int], begin: int,
               end: int) -> Announcement | None:
-    """Return the first announcement between two PTS whose page is sent only on other PIDs, if any.
-    `carriers` has the PIDs that send the page. If programmes announce the page on one of these
-    PIDs, consider only the announcements of these programmes."""
+    """Return the first announcement, between the PTS `begin` and `end`, of a page that is sent only
+    on other PIDs, if there is one. `carriers` has the PIDs that send the page. If a programme
+    announces the page on a PID in `carriers`, ignore programmes that do not."""
     carrying_programmes = {announcement.number for announcement in announced if announcement.pids &
                            {*carriers}}
     return next((announcement for announcement in announced
@@ -321,10 +320,10 @@ def find_origin(request: Request, survey: Survey, pid: int) -> int | None:
 
 def refuse_dead_source(request: Request, survey: Survey, packets: Packets,
                 times: Sequence[tuple[int, int]]) -> None:
-    """Raise `NeverSent` if no row of the page is sent before the last TCO, and a subtitle is
-    expected in the recording.
+    """Raise `NeverSent` if a subtitle is expected in the recording, but no row of the page is sent
+    from the first TCI to the last TCO.
 
-    If the origin is unknown, consider the whole recording. Do not raise it if no header of the page
+    If the origin is unknown, search the whole recording for rows. Return if no header of the page
     is sent, since the page may be the wrong one, or if some PES packets can't be read. `times` has
     the TCI and TCO of each subtitle with text.
     """

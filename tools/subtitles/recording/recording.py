@@ -50,9 +50,8 @@ def copy_piped(name: str, path: str, printer: Printer) -> SummedFile:
 
 
 OUTPUT = "/dev/stdout"  # file name with which the program writes to standard output
-# In Teletext, a PES header has 45 bytes (EN 300 472): the `FIXED_HEADER_BYTES` bytes up to and
-# including PES_header_data_length, which is at index `HEADER_LENGTH_OFFSET`, and the `TELETEXT`
-# bytes that it counts.
+# In Teletext, a PES header has 45 bytes (EN 300 472). The last of its `FIXED_HEADER_BYTES` first
+# bytes, PES_header_data_length, is the number of header bytes after them: `TELETEXT`.
 HEADER_LENGTH_OFFSET, FIXED_HEADER_BYTES, TELETEXT = 8, 9, 0x24
 
 
@@ -118,8 +117,8 @@ def find_unreadable_packets(survey: Survey) -> list[Packets]:
 
 
 class Recording:
-    """A recording to judge. `packets` has the packets of the PID with the page. `path` is the path
-    of the recording, or of its copy if it comes from a pipe."""
+    """A recording to judge. `packets` contains the packets of the PID with the page. `path` is the
+    path of the recording, or of its copy if the recording comes from a pipe."""
 
     def __init__(self, request: Request, command_paths: CommandPaths, names: OutputNames,
                  listener: Listener, times: Sequence[tuple[int, int]] = ()) -> None:
@@ -147,7 +146,6 @@ class Recording:
         self.print_losses()
 
     def show_progress(self) -> None:
-        """Show the progress of reading on a terminal."""
         self.listener.printer.show_progress(lambda: self.name)
 
     def find_packets(self) -> Packets:
@@ -202,7 +200,7 @@ class Recording:
                                               packets.count))
 
     def list_unreadable_reasons(self) -> list[str]:
-        """Return why PIDs can't be read as Teletext, for example that they are scrambled."""
+        """Return reasons why PIDs can't be read as Teletext, for example because of scrambling."""
         return [words for packets in find_unreadable_packets(self.survey)
                 for words in (explain_refusal(packets), self.header_problem(packets)) if words]
 
@@ -247,16 +245,16 @@ class Recording:
 
     @property
     def display_name(self) -> str:
-        """Return the name of the recording as given, or of its copy if it came from a pipe."""
+        """Return the name of the recording or, if it came from a pipe, the name of its copy."""
         if not self.is_piped:
             return self.name
         return self.names.make_display_path(KEPT_TS if self.is_stream else KEPT_PES)
 
     @property
     def kept_ending(self) -> str | None:
-        """Return the file name extension of the copy that --keep makes: all data from a pipe, or
-        the PES packets of a transport stream. Return `None` for a file of PES packets, which needs
-        no copy."""
+        """Return the file name extension of the copy that --keep makes. The copy contains all data
+        from a pipe, or the PES packets of a transport stream. Return `None` for a file of PES
+        packets, which needs no copy."""
         if self.is_piped and self.is_stream:
             return KEPT_TS
         return KEPT_PES if self.is_piped or self.is_stream else None
@@ -271,13 +269,13 @@ class Recording:
                                   *self.list_program_options(), "--",
                                   self.path, pes_path], stdin=subprocess.DEVNULL,
                                  stdout=subprocess.DEVNULL, check=False)
-        if process.returncode != 1:  # status 1: keep the PES packets before a refused one
+        if process.returncode != 1:  # with status 1, the PES packets before a refused one are kept
             process.check_returncode()
         yield from read_chunks(pes_path)
 
     def list_losses(self, jumps: Iterable[PTSPair] = ()) -> list[LossPlace]:
-        """Return the places where packets are missing, including the announced jumps of the
-        continuity counter, `jumps`, which may hide a loss."""
+        """Return the places where packets are missing. They include `jumps`, the announced jumps of
+        the continuity counter, which may hide a loss."""
         return find_loss_places(self.packets, jumps)
 
     def find_recorded_pts(self) -> tuple[int, int] | None:
