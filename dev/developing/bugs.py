@@ -177,7 +177,8 @@ def find_places(node: ast.AST, names: str = "", inside: str = MODULE
             is_function = isinstance(child, ast.FunctionDef)
             name_inside = f"{names}.{getattr(child, 'name')}".lstrip(".") \
                 if is_function or isinstance(child, ast.ClassDef) else names
-            is_default = isinstance(child, ast.arguments)  # evaluated in the enclosing scope
+            # Python evaluates default values in the enclosing scope.
+            is_default = isinstance(child, ast.arguments)
             function = name_inside if is_function else MODULE if is_default else inside
             yield from find_places(child, name_inside, function)
 
@@ -198,7 +199,7 @@ def list_nested_codes(code: CodeType) -> Iterator[CodeType]:
 
 
 def compile_comparable(text: str) -> list[tuple[bytes, str]] | None:
-    """Return the bytecode, constants and names in source text, or `None` if it does not compile."""
+    """Compile source text. Return its bytecode, constants and names, or `None` if that fails."""
     try:
         nested_codes = list_nested_codes(compile(text, "", "exec"))
         return [(code.co_code, repr([value for value in code.co_consts

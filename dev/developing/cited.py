@@ -1,8 +1,7 @@
 """Check names and numbers in the documents.
 
-Names in backquotes must be names in the sources. The documents give the number of lines of the
-definitions on which a law (a theorem) depends, and numbers about the proof. They must equal the
-numbers that this module counts.
+Names in backquotes must be names in the sources. The documents state how many lines of definitions
+each law (theorem) depends on, and statistics of the proof. This module counts these numbers again.
 """
 from __future__ import annotations
 
@@ -20,7 +19,7 @@ from .proved import parse_proved
 DOCUMENTS = {"docs/HEADLINE.md": "", "docs/ASSURANCE.md": "", "docs/CLAUSES.md": "",
              "docs/DECISIONS.md": "", "docs/GLOSSARY.md": "",
              "docs/ARCHITECTURE.md": "|"}
-# A table row: a law, its name, and the numbers of its definitions and of their lines.
+# A table row: a law, its name, how many definitions it needs, and how many lines these have.
 ROW = re.compile(r"^\| (.*) \| `(\S+)` \| (\d+) \| (\d+) \|$", re.M)
 # The maximum number of lines of definitions that each law may need.
 MAX_LINES = {"run_in_memory.headline": 450, "run_in_memory.acceptance": 800}
@@ -51,7 +50,10 @@ class SourceNames:
                 self.add_path(top, os.path.relpath(os.path.join(place, name), top))
 
     def add_path(self, top: str, path: str) -> None:
-        """Add a path, as seen from the top and from its crate, and the words in it."""
+        """Add a path, also relative to its crate, and the words in a source file's name and text.
+
+        `path` is relative to the repository's folder `top`.
+        """
         parts = path.split(os.sep)
         for start in {0, *((1, 2) if parts[0] == "crates" else ())}:
             self.paths |= {"/".join(parts[start:]), os.path.splitext("/".join(parts[start:]))[0]}
@@ -62,7 +64,7 @@ class SourceNames:
             self.read(os.path.join(top, path))
 
     def read(self, path: str) -> None:
-        """Add the words in a file, except comments. Skip mutants."""
+        """Add the words in a file, except those in comments. Skip edits of must-fail/."""
         ending = os.path.splitext(path)[1]
         if ending != ".edit":
             with open(path, encoding="utf-8", errors="replace") as file:
@@ -93,7 +95,7 @@ class SourceNames:
 
 
 def find_unknown_names(top: str) -> dict[str, list[str]]:
-    """Return the quoted names in each document that the sources lack, as `FILE:LINE: NAME`."""
+    """Return, by document, the quoted names that do not occur in the sources (FILE:LINE: NAME)."""
     sources = SourceNames(top)
     result: dict[str, list[str]] = {}
     for name, start in DOCUMENTS.items():
@@ -111,7 +113,7 @@ def find_unknown_names(top: str) -> dict[str, list[str]]:
 
 
 def correct_count_rows(top: str) -> Iterator[tuple[str, str]]:
-    """Yield each table row of docs/ASSURANCE.md with line counts, and the corrected row."""
+    """Yield each table row of docs/ASSURANCE.md that contains line counts, and its correction."""
     with open(os.path.join(top, "docs", "ASSURANCE.md"), encoding="utf-8") as file:
         rows, library = list(ROW.finditer(file.read())), Library(top)
     for row in rows:

@@ -28,7 +28,7 @@ def compile_in_place(folder: str) -> None:
 
 
 def share_compiled(folder: str) -> None:
-    """Let a copy of the tools use the compiled modules. The copied files must keep their times."""
+    """Let a copy of the tools use the compiled modules. It must have the same file times."""
     if PREFIX in os.environ:
         place = os.environ[PREFIX] + os.path.realpath(folder)
         os.makedirs(os.path.dirname(place), exist_ok=True)
@@ -42,7 +42,7 @@ def make_plain_environment() -> dict[str, str]:
 
 @contextlib.contextmanager
 def use_compiled_tools() -> Iterator[None]:
-    """Compile the tools into a temporary folder, which calls in the `with` block use."""
+    """Compile the tools into a temporary folder. Calls in the `with` block use this folder."""
     if PREFIX in os.environ:
         yield
         return

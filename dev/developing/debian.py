@@ -35,7 +35,7 @@ FOLDER = f"/usr/lib/{NAME}/tools/subtitles"
 SCRIPTS = {
     "postinst": f"python3 -m compileall -q --invalidation-mode unchecked-hash {FOLDER}",
     "prerm": f"find {FOLDER} -depth -name __pycache__ -exec rm -r {{}} +"}
-# Do not strip the program: PROVED contains its SHA-256.
+# The program must not be stripped, because PROVED contains its SHA-256.
 OVERRIDES = f"{NAME}: unstripped-binary-or-object [usr/bin/subttx]\n"
 
 
@@ -106,7 +106,8 @@ def set_modes_and_times(root: str, time: int) -> None:
 
 
 def make_package(program: str, proved: str, version: str, work: str, path: str, time: int) -> None:
-    """Build the package at `path`. `work` is an empty folder. Equal files give equal bytes."""
+    """Build the package at `path` in the empty folder `work`. The same input gives the same bytes.
+    """
     if not shutil.which("dpkg-deb"):
         raise Stop("dpkg-deb is not installed: it is in Debian's package dpkg")
     if not re.fullmatch(r"[0-9][A-Za-z0-9.+~]*", version):

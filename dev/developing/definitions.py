@@ -96,7 +96,7 @@ class File:
 
 
 class SpecsFile(File):
-    """A file of specs/, with definitions."""
+    """A file in specs/, which contains definitions."""
 
     def __init__(self, crate: str, path: str, module: str) -> None:
         super().__init__(crate, path, module)
@@ -332,7 +332,7 @@ def list_names(file: File, own: Iterable[str], text: str, bound: Iterable[str] =
     """Yield the names in a text that refer to definitions or imports.
 
     A name is yielded with its module if an alias of the module qualifies it, otherwise with `None`.
-    `own` contains the names that the file defines, `bound` the names of parameters and variables.
+    `own` contains the names that the file defines. `bound` contains those of local variables.
     """
     tokens = [token.lstrip("λ") for token in TOKEN.findall(text)]
     for before, token, after in zip(["", *tokens], tokens, [*tokens[1:], ""]):
@@ -377,6 +377,6 @@ def read_braced_text(text: str, start: int) -> str:
 
 def count_lines_to_read(definitions: list[Definition], outside: Iterable[ExternalName]
                   ) -> tuple[int, int, int]:
-    """Return the number of definitions, of their lines, and of names from std."""
+    """Return how many definitions, lines of definitions, and names from std there are."""
     lines = sum(len(item.code()) for item in definitions)
     return len(definitions), lines, sum(item.module is None for item in outside)

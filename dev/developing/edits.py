@@ -1,8 +1,8 @@
 """Read and apply the faulty programs of crates/*/must-fail/, release-edits/ and test-edits/.
 
-A NAME.edit file has `file: PATH` lines, each with pairs of lines `old: TEXT` and `new: TEXT` below.
-In the file PATH of the crate, the new text replaces the old text, which must occur exactly once. A
-`test: NAME` line names a stored test that fails on the faulty program; the prover ignores the line.
+In a NAME.edit file, each line `file: PATH` is followed by pairs of lines `old: TEXT` and `new:
+TEXT`. The new text replaces the old text in the crate's file PATH, where the old text must occur
+exactly once. A line `test: NAME` names a stored test that must fail on the faulty program.
 """
 from __future__ import annotations
 
@@ -64,7 +64,7 @@ Lines = list[tuple[str, str]]  # key before the colon and text after the colon
 
 
 def read_edit(path: str) -> Lines:
-    """Return the keys before the colons, each with the text after its colon."""
+    """Return the key and the text of each line of an edit file: the parts around the colon."""
     with open(path, encoding="utf-8") as file:
         lines = [line.partition(":") for line in file.read().split("\n") if line.strip()]
     return [(kind, rest.removeprefix(" ")) for kind, _, rest in lines]

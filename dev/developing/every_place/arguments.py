@@ -25,9 +25,9 @@ class Options(NamedTuple):
 
     `within` is the number of frames by which a page may be late. If `pid` is set, the file is a
     transport stream with a packet every `size` bytes. `first` and `last` limit the PES packets,
-    unless they are `None`. `from_frame` and `to_frame` limit the TCI of subtitles. `is_open`
-    accepts open subtitles, `may_keep` headers that keep the page. `pace` is the maximum number of
-    frames between PES packets.
+    unless they are `None`. `from_frame` and `to_frame` limit the TCI of subtitles. If `is_open` is
+    true, open subtitles are accepted. If `may_keep` is true, headers may keep the page (C4 clear).
+    `pace` is the maximum number of frames between PES packets.
     """
 
     page: Page

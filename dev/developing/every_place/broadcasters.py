@@ -1,7 +1,7 @@
 """Make random options and transmissions with features that differ between broadcasters.
 
-These are the text layout, the time range, headers that keep the page, the longest interval between
-PES packets, and whether refused subtitles are transmitted.
+These features are the text layout, the time range, headers that do not erase the page, the maximum
+interval between PES packets, and whether refused subtitles are transmitted.
 """
 from __future__ import annotations
 
@@ -75,7 +75,7 @@ def mark_as_open(stl: bytes, rng: Random) -> bytes:
 
 
 class RepeatSettings(NamedTuple):
-    """Probabilities that headers of new or repeated pages keep the page, and that rows change."""
+    """Probabilities that a header does not erase the page, and that rows change."""
 
     repeat_probability: float
     change_probability: float

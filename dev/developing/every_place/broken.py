@@ -1,4 +1,4 @@
-"""Add faults to random transmissions: in bytes, Teletext packets, PES packets, order and length."""
+"""Add faults to random transmissions: change, remove and move bytes, Teletext and PES packets."""
 from __future__ import annotations
 
 import io
@@ -26,7 +26,7 @@ def read_teletext(packet: bytes | bytearray) -> list[bytes]:
 
 
 def make_random_header(rng: Random) -> bytes:
-    """Return a header of the page, another page or another magazine, with random control bits."""
+    """Return a header with random control bits. Its page is often 888, the checked page."""
     units, tens_of_page = rng.choice([8, 8, 15]), rng.choice([8, 8, 15])
     numbers = [units, tens_of_page, 0, rng.choice([8, 8, 0]), 0, rng.choice([8, 8, 12]),
                rng.choice([1, 1, 9]), rng.choice([0, 0, 8, 1])]
@@ -53,7 +53,7 @@ def change_pes_packet(way: str, rng: Random, packet: bytearray) -> None:
         at = rng.choice(units)
         place = rng.choice([rng.randrange(2), rng.randrange(10), rng.randrange(42)])
         packet[at + PACKET_OFFSET + place] ^= 1 << rng.randrange(8)
-    elif way == "code":  # a byte of a header, or a character of a row
+    elif way == "code":  # change a byte of a header, or a character of a row
         at = rng.choice(units) + PACKET_OFFSET
         place = rng.choice([rng.randrange(2, 10), rng.randrange(10, 42)])
         code = rng.choice([CODE_WORDS[rng.randrange(16)],

@@ -36,7 +36,6 @@ class Transmission:
         self.skipped: tuple[int, int, int] | None = None
 
     def describe_place(self, pes: int) -> str:
-        """Return the position of the item with the index `pes`, as printed."""
         return f"pes {self.first + pes}"
 
     def report_fault(self, number: int, place: str, pes: int | None,
@@ -118,7 +117,7 @@ class Transmission:
         self.end_frames(pes, [frame])
 
     def end_frames(self, pes: int, frames: Iterable[int]) -> None:
-        """Process the ends of frames: the PES packet's frame, or the empty frames before it."""
+        """Process the end of the PES packet's frame, or the ends of the empty frames before it."""
         decoded, ends = decode(self.packets, self.options), self.ends
         for frame in frames:
             for number, line in ends.at(frame, decoded, self.headers, self.frames):
@@ -128,7 +127,7 @@ class Transmission:
                     FrameEnd(frame, bool(ends.active), ends.incomplete_since, ends.is_late))
 
     def end_file(self, end_fault: int | None, pes: int) -> None:
-        """Process the end of the file after `pes` items. `end_fault` is a fault in later bytes."""
+        """Process the end of the file. Bytes after its `pes` items have the fault `end_fault`."""
         self.end_current_frame()
         self.end_skipped()
         for number, line in self.ends.list_final_lines():
@@ -153,7 +152,8 @@ def find_failure_line(selection: Range, count: int, end_fault: int | None,
                       is_failing: bool) -> str | None:
     """Return the line about a read failure, or `None` if reading stops before the failure.
 
-    Reading fails after all bytes. `end_fault` is the fault in the bytes after `count` items.
+    The failure occurs after the last byte. `count` is the number of complete items, `end_fault` the
+    fault in the bytes after them, or `None`.
     """
     is_so = is_failing and selection.is_end and end_fault in (None, CUT)
     return f"fault 41 Read pes {selection.first + count}" if is_so else None

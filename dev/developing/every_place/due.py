@@ -81,7 +81,7 @@ class ExpectedPages:
         return next((page for tci, tco, page in self.pages if tci <= frame < tco), BLANK)
 
     def is_undecided(self, frame: int) -> bool:
-        """Return whether a faulty subtitle may be on air, with no other page expected."""
+        """Return whether a faulty subtitle may be on air and no other page is expected."""
         count = sum(tci <= frame for tci, _, _ in self.pages)
         return self.has_preceding_fault[count] and not any(tci <= frame < tco for tci, tco,
                                                            _ in self.pages)

@@ -27,9 +27,9 @@ class FrameEnds:
     def find_active_faults(self, frame: int, decoded: DecodedFrames, headers: list[int],
                            sent: list[int]
                       ) -> dict[int, int]:
-        """Return the active faults at the end of a frame, with their cells.
+        """Return the number of each active fault at the end of a frame, with its cell or NO_CELL.
 
-        `headers` contains the frames with a header of the page, `sent` the frames with PES packets.
+        `headers` contains the frames with headers of the page, and `sent` those with PES packets.
         """
         options = self.options
         is_open = options.is_complete and decoded.is_open
@@ -60,7 +60,7 @@ class FrameEnds:
     def is_overdue(self, frame: int) -> bool:
         """Return whether the page is incomplete and late.
 
-        A page is late after `within` frames, or if a subtitle ends before its page was complete.
+        A page is late after `within` frames, or if the subtitle ends before its page is complete.
         """
         start, within = self.incomplete_since, self.options.within
         return start is not None and (within == 0 or frame >= start + within or any(
@@ -83,10 +83,7 @@ class FrameEnds:
 
     def at(self, frame: int, decoded: DecodedFrames, headers: list[int], sent: list[int]
            ) -> Iterator[tuple[int, str]]:
-        """Yield the number and the printed line of each fault that begins or ends at a frame.
-
-        `headers` and `sent` are the frames with a header of the page and with a PES packet.
-        """
+        """Yield the number and the printed line of each fault that begins or ends at a frame."""
         active_faults = self.find_active_faults(frame, decoded, headers, sent)
         for number in (72, 73, 77, 78, 79):
             now, before = active_faults.get(number), self.active.get(number)

@@ -48,7 +48,7 @@ def make_pair(name: str, pes: bytes, *lines: str, arguments: str = "",
 
 
 def make_failing_pair(name: str, pes: bytes, *lines: str, arguments: str = "") -> KnownCall:
-    """Return a call in which reading the PES file fails at its end, with its expected lines."""
+    """Return a call and its expected lines. Reading fails at the end of the PES file."""
     return make_known_check(name, HELLO, pes, arguments, list(lines), True)
 
 
@@ -62,7 +62,7 @@ def format_ended_line(fault: str, time: str) -> str:
 
 
 def format_trusted_line(first: str, last: str) -> str:
-    """Return the line about trusted frames. Times are seconds and frames after 10:00:00:00."""
+    """Return the line about trusted frames. Times are strings such as `02:24` (SS:FF)."""
     return f"trusted frames 10:00:{first} 10:00:{last}"
 
 
@@ -111,7 +111,7 @@ OPEN_NINTH = replace_bytes(make_subtitle_blocks(8, FIRST_FRAME, FIRST_FRAME + 50
 
 
 def add_blocks_after_eight(name: str, blocks: bytes, *last: str) -> KnownCall:
-    """Return a call that checks eight subtitles followed by `blocks`, with its expected lines."""
+    """Return a check of eight subtitles and `blocks`, and the lines that it must print."""
     return make_pair(f"eight subtitles and {name}", SENT, *BLOCKS_OF_EIGHT, *last,
                      stl=EIGHT_SUBTITLES + blocks)
 
@@ -121,7 +121,7 @@ TEXTS = [add_blocks_after_eight("no more", b""),
 
 
 def make_pes_at(*frames: tuple[int, list[bytes]]) -> bytes:
-    """Return PES packets from their frames after 10:00:00:00 and their Teletext packets."""
+    """Return PES packets that carry the given Teletext packets. Frame 0 is at 10:00:00:00."""
     return b"".join(make_pes_packet((FIRST_FRAME + frame) * TICKS, packets)
                     for frame, packets in frames)
 

@@ -23,7 +23,7 @@ class Part(NamedTuple):
 
 
 FIELD = TICKS // 2
-# range of a PTS in its frame, in ticks
+# Range of a PTS relative to the start of its frame, in ticks.
 MIN_PTS_OFFSET, MAX_PTS_OFFSET = -(TICKS // 4), TICKS - TICKS // 4 - 1
 
 
@@ -33,7 +33,7 @@ def find_frame_start(time: int) -> int:
 
 
 def spread_page(rng: Random, part: Part, most: int) -> list[Part]:
-    """Split a page into one to four PES packets, at most `most` frames late."""
+    """Split a page into one to four PES packets. None is more than `most` frames late."""
     count = len(part.packets)
     ways = [rng.randrange(count + 1) for _ in range(rng.choice([0, 0, 1, 1, 2, 3]))]
     cuts = [0, *sorted(ways), count]
@@ -78,7 +78,7 @@ LATE_PAGE_CHANGES = ["leave out", "leave out", "empty the last", "empty the last
 def change_late_page(rng: Random, parts: list[Part]) -> None:
     """Add a fault or another PES packet. The parts stay in ascending order of time."""
     way, count = rng.choice(LATE_PAGE_CHANGES), len(parts)
-    if way == "leave out":  # often the first PES packet, occasionally the last
+    if way == "leave out":  # remove a PES packet, often the first
         del parts[rng.choice([0, rng.randrange(max(1, count - 1))])]
     elif way == "empty the last":  # remove packets from the last page
         for at in range(max(0, count - rng.choice([1, 1, 1, 2])), count):

@@ -20,7 +20,10 @@ NOT_RECEIVED = 0x3F  # code of each cell before a page is received
 
 def find_end_fault(selection: Range, count: int, end_fault: int | None,
                    is_failing: bool) -> str | None:
-    """Return the line about the fault after `count` items, or `None` if there is no fault."""
+    """Return the line about a fault or read failure after `count` PES packets and gap markers.
+
+    Return `None` if there is none.
+    """
     failure = find_failure_line(selection, count, end_fault, is_failing)
     return failure or (None if end_fault is None
                        else format_refused(end_fault, f"pes {selection.first + count}"))

@@ -6,7 +6,7 @@ two bytes, the mark first.
 """
 from __future__ import annotations
 
-# The control bits C12, C13 and C14 that are set in a page header.
+# The bits of C12, C13 and C14 that are set in the page header for each national option.
 BITS: dict[str, set[int]] = {
     "english": set(), "german": {14}, "swedish": {13}, "italian": {13, 14}, "french": {12},
     "spanish": {12, 14}, "czech": {12, 13}}
@@ -16,9 +16,9 @@ ALL_OPTION_BITS = {12, 13, 14}
 COMMON_CODES = (*range(0x01, 0x0E), 0x1C, 0x1D, *range(0x20, 0x23), *range(0x25, 0x40),
                 *range(0x41, 0x5B), *range(0x61, 0x7B))
 
-# For each cell that differs between sub-sets, the bytes in a text that give it: a byte, several
-# alternatives, or a pair. Each sub-set has 13 such cells; some English and German cells have no
-# such bytes.
+# The character codes that differ between national option sub-sets. After the code, there is a
+# column for each option in the order of BITS. It contains the bytes of a subtitle text that encode
+# the character: a byte, alternatives (`,`) or a pair (`.`). `-` means that no bytes encode it.
 CELL_TEXTS = """
 23  A3     23     23     A3     C2.65  CB.63  23
 24  24,A4  24,A4  A8     24,A4  C8.69  24,A4  CA.75

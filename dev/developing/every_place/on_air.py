@@ -34,7 +34,7 @@ def find_page_span(packets: Sequence[Packet], page: Page) -> tuple[Sequence[Pack
 
 def find_last_header(packets: Sequence[Packet], page: Page,
                      must_erase: bool = False) -> int | None:
-    """Return the index of the last header of the page, or of the last header that erases it."""
+    """Return the index of the page's last header. With `must_erase`, C4 must be set in it."""
     return next((at for at in reversed(range(len(packets))) if get_page(packets[at]) == page
                  and (erases_page(packets[at]) or not must_erase)), None)
 

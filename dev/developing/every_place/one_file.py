@@ -1,8 +1,8 @@
-"""Subtitle files with the manually derived lines of `check --all`.
+"""Subtitle files, each with the lines that `check --all` must print (worked out by hand).
 
-They test limits that neither the crates' tests nor random pairs reach. A refused file is reported
-at its block. An accepted file is checked with an empty PES file, which is refused. Each text is
-also checked with a transmission of exactly its cells, which is accepted.
+They test limits that neither the crates' tests nor random pairs reach. The line about a faulty file
+names the faulty block. A correct file is checked with an empty PES file, which is refused, and each
+text with a transmission of exactly its cells, which is accepted.
 """
 from __future__ import annotations
 
@@ -74,7 +74,7 @@ BLOCK_CASES: list[tuple[str, dict[int, int]]] = [
 
 
 class Line(NamedTuple):
-    """Some cells of a row, starting at a column. All other cells are spaces."""
+    """Consecutive cells of a row, from `column` on. All other cells of the row are spaces."""
 
     row: int
     column: int
@@ -121,7 +121,7 @@ def expect_refused_text(text: bytes, row: int, fault: str, at: int) -> KnownCall
                             b"", "", expect_refused(f"{fault} block 1 at {at}"))
 
 
-FULL = b"A" * 36  # longest text that fits a row with its box
+FULL = b"A" * 36  # longest text that fits in a row together with its four box codes
 DRAWN_CASES = [
     expect_drawn(b"\x80A\x81", 5, 1, Line(5, 0, make_box(b"A"))),
     expect_drawn(FULL, 5, 2, Line(5, 0, make_box(FULL))),

@@ -28,7 +28,7 @@ class OneRule(NamedTuple):
 
 
 def make_packet(head: str, byte: int = 0x20) -> bytes:
-    """Return a packet with these first bytes, then `byte`, then spaces (20)."""
+    """Return a packet that begins with `head` and `byte`, and continues with spaces (0x20)."""
     first = bytes.fromhex(head)
     return first + bytes([byte]) + b"\x20" * (41 - len(first))
 
@@ -85,7 +85,7 @@ def make_case(name: str, number: int, packets: str, tested_packet: bytes = b"",
 
 
 def make_pair_at_day_bound(name: str, *ticks: int) -> OneRule:
-    """Return a pair with a page without rows at these ticks, one of which is outside the day."""
+    """Return a pair with an empty page at each of these PTS. One PTS is outside the day."""
     pes = b"".join(make_pes_packet(tick % CLOCK, PAGE) for tick in ticks)
     return OneRule(name, 61, NONE, pes, "--every 1")
 

@@ -21,13 +21,13 @@ from .late import delay_transmission
 from .national import BITS, CELLS, COMMON_CODES
 from .arguments import UsageFault, parse_options
 
-Schedule = Callable[[bytes, list[str]], bytes]  # returns the transmission for a file
+Schedule = Callable[[bytes, list[str]], bytes]  # function that schedules a subtitle file
 OPTIONS = [*BITS]  # national options
 MAX_TRIES = 20  # maximum number of tries to make a refused subtitle
 
 
 class Pair(NamedTuple):
-    """Two files and the options of `check`. If `is_failing`, reading may also fail at the end."""
+    """Two files and the options of `check`. `is_failing` is true to test a read failure also."""
 
     stl: bytes
     pes: bytes
@@ -143,7 +143,7 @@ def corrupt_block(rng: Random, data: bytearray, block: int) -> None:
 
 
 def repeat_block(rng: Random, block: bytearray) -> bytearray:
-    """Remove a block, or repeat it, sometimes as several blocks of one subtitle."""
+    """Remove a block, or repeat it. The repeated blocks sometimes form one subtitle."""
     count = rng.choice([0, 2, 2, 3, 10])
     if rng.random() < 0.6:
         block[3] = rng.choice([0, 1])
@@ -255,7 +255,7 @@ def make_random_pair(seed: int, schedule: Schedule, is_refused: bool = False,
         pes = delay_transmission(rng, pes, within or rng.randrange(3), int(arguments["--origin"]))
         if rng.random() < 0.7:
             arguments["--every"] = str(int(arguments["--every"]) + within)
-    # Pairs with late pages, kept pages or refused subtitles often get no other fault.
+    # Pairs with late pages, headers that keep the page, or refused subtitles often get no fault.
     is_broken = not (is_late or is_refused or is_page_kept and broadcaster_rng.random() < 0.6) \
         or rng.random() < 0.4
     if is_broken and rng.random() < 0.3:

@@ -21,7 +21,7 @@ LISTEN_OPTIONS = ("--page", "--origin", "--within")  # options that `check` and 
 
 
 def format_pid(rng: Random, pid: int) -> str:
-    """Return a PID as an argument, occasionally an invalid PID."""
+    """Return the command-line argument for a PID. Occasionally return an invalid argument."""
     if rng.random() < 0.02:
         return rng.choice(["8191", "0x1FFF", "x", "", "0x", "257 ", "0X101"])
     return rng.choice([str(pid), f"{pid:010}", hex(pid), f"0x{pid:08X}"])

@@ -1,8 +1,8 @@
-"""Parse subtitle files, PES packets and page headers by the standards, and find their faults.
+"""Parse subtitle files, PES packets and page headers, and find their faults.
 
-The standards are EBU Tech 3264 for subtitle files, EN 300 472 for PES packets, and EN 300 706 for
-Teletext packets. Limits and fault numbers are from the manual (docs/manual/reference.md). Nothing
-here was written from the program's sources.
+The module follows EBU Tech 3264 for subtitle files, EN 300 472 for PES packets, and EN 300 706 for
+Teletext packets. Limits and fault numbers are from the manual (docs/manual/reference.md). Its
+authors did not use the program's sources.
 """
 from __future__ import annotations
 
@@ -18,7 +18,7 @@ CUT, START, LENGTH = 30, 31, 32  # fault numbers for bytes that do not form a PE
 MAX_BLOCKS, MAX_SUBTITLE_BLOCKS, MAX_PES_PACKETS = 99_999, 9, 2_160_000
 
 ReadPacket = tuple[int, list[bytes]]  # frame and Teletext packets of a PES packet
-Header = tuple[Page, set[int]]  # page of a header, and its control bits that are set
+Header = tuple[Page, set[int]]  # page of a header, and the control bits that the header sets
 
 
 class Record(NamedTuple):
@@ -53,7 +53,7 @@ class OutsideSubtitle(NamedTuple):
 
 
 def find_gsi_fault(data: bytes, accepts_open: bool) -> int | None:
-    """Return the fault number for the GSI block, or `None`."""
+    """Return the fault number for the GSI block, or `None` if it has no fault."""
     if len(data) < GSI:
         return 10
     format_code, display, table = data[3:11], data[11:12], data[12:14]
@@ -67,7 +67,7 @@ def find_gsi_fault(data: bytes, accepts_open: bool) -> int | None:
 
 
 def find_first_block_fault(block: bytes) -> int | None:
-    """Return the fault number for the first block of a subtitle, or `None`."""
+    """Return the fault number for the first block of a subtitle, or `None` if it has no fault."""
     tci, tco = decode_frame(block[5:9]), decode_frame(block[9:13])
     for number, is_broken in ((16, block[4] != 0), (18, block[14] > 3),
                               (19, not 1 <= block[13] <= 23)):
@@ -77,10 +77,10 @@ def find_first_block_fault(block: bytes) -> int | None:
 
 
 def find_block_fault(block: bytes, group: list[bytes], is_outside: bool) -> int | None:
-    """Return the fault number for a block, or `None`.
+    """Return the fault number for a block, or `None` if it has no fault or is skipped.
 
-    `group` contains the earlier blocks of its subtitle. If `is_outside` is true, the block's
-    subtitle is outside the examined times. User data and comments are skipped, and have no fault.
+    `group` contains the earlier blocks of the same subtitle. `is_outside` is true if this subtitle
+    is outside the examined times. Blocks with user data or a comment are skipped.
     """
     extension, comment = block[3], block[15]
     if extension == USER_DATA:
@@ -153,12 +153,12 @@ def is_valid_pts(field: bytes) -> bool:
 
 
 def is_gap_marker(packet: bytes) -> bool:
-    """Return whether all bytes after the length are FF, as in a gap marker for lost PES packets."""
+    """Return whether all bytes after PES_packet_length are FF, as in a gap marker."""
     return packet[6:] == b"\xff" * len(packet[6:])
 
 
 def find_head_fault(packet: bytes) -> int | None:
-    """Return the fault number for the header of a complete PES packet, or `None`."""
+    """Return the fault number for a complete PES packet's header, or `None` if it has no fault."""
     questions = [(45, not is_gap_marker(packet)), (33, packet[6] >> 4 == 8),
                  (34, packet[7] >> 6 == 2), (35, packet[8] == 0x24),
                  (36, is_valid_pts(packet[9:14])), (37, 0x10 <= packet[45] <= 0x1F)]
@@ -166,7 +166,10 @@ def find_head_fault(packet: bytes) -> int | None:
 
 
 def find_unit_fault(unit: bytes, last_line: tuple[int, int]) -> int | None:
-    """Return the fault number for a data unit after `last_line` (field and line), or `None`."""
+    """Return the fault number for a data unit, or `None` if it has no fault.
+
+    `last_line` is the field and line of the previous data unit.
+    """
     if unit[1] != 0x2C:
         return 38
     if unit[0] not in (2, 3):

@@ -1,8 +1,8 @@
 """Read the PES packets in a transport stream with a simple, slow algorithm.
 
-A recording is a transport stream (ISO/IEC 13818-1): packets of 188 bytes, every 188, 192 or 204
-bytes. The payloads of a PID are split into parts. Each part is a PES packet or a fragment. A gap
-marker, which is an invalid PES packet, replaces missing PES packets.
+A recording is a transport stream (ISO/IEC 13818-1): packets of 188 bytes, which begin 188, 192 or
+204 bytes apart. The payloads of a PID are split into parts. Each part is a PES packet or a
+fragment. A gap marker, which is an invalid PES packet, replaces missing PES packets.
 """
 from __future__ import annotations
 
@@ -91,9 +91,9 @@ class Stretch:
         self.has_repeat = self.has_jump = self.has_lost_packets = False
 
     def is_repeat(self, packet: TransportPacket) -> bool:
-        """Return whether a packet is the first duplicate (2.4.3.3) of the previous packet.
+        """Return whether a packet is the first duplicate of the previous packet.
 
-        A packet that announces a new jump is not a duplicate.
+        ISO/IEC 13818-1, 2.4.3.3: one duplicate is allowed. It must not announce a new jump.
         """
         before = self.before
         return before is not None and not self.has_repeat and not self.has_jump \
@@ -111,7 +111,7 @@ class Stretch:
 
 
 def find_good_packets(data: bytes, pid: int, size: int) -> tuple[list[GoodPacket], bool]:
-    """Return the intact packets of a PID, and whether a faulty packet follows the last."""
+    """Return the intact packets of a PID, and whether a faulty packet follows the last of them."""
     result: list[GoodPacket] = []
     stretch, is_last_packet_wrong = Stretch(None), False
     for packet in find_packets(data, size):
@@ -132,19 +132,19 @@ def find_good_packets(data: bytes, pid: int, size: int) -> tuple[list[GoodPacket
 
 
 class Part:
-    """Consecutive intact packets. A PES packet may begin in the first packet."""
+    """Consecutive intact packets. Only the first can contain the start of a PES packet."""
 
     def __init__(self, packets: list[GoodPacket]) -> None:
         self.has_break = packets[0].is_break
         payloads = [item.packet.payload for item in packets]
         self.payload = b"".join(payloads)
         result = read_length(self.payload) if packets[0].packet.begins else None
-        # The length of the PES packet, or the fault in its first six bytes. `None` if they are
-        # unknown.
+        # The fault number for the first six bytes of the PES packet, and the length of the PES
+        # packet. At least one of them is `None`.
         self.wrong_head = result if result in (START, LENGTH) else None
         self.length = None if self.wrong_head else result
         self.is_whole = self.length is not None and len(self.payload) >= self.length
-        self.head = b""  # the payloads up to the one that completes the first six bytes
+        self.head = b""  # payloads until the first six bytes of the PES packet are complete
         for payload in payloads:
             self.head += payload if len(self.head) < HEAD else b""
 
@@ -163,8 +163,8 @@ def cut_parts(good_packets: list[GoodPacket]) -> list[Part]:
 class StreamContent(NamedTuple):
     """The PES packets and gap markers in a stream.
 
-    `marks` contains, for each item of `pieces`, whether it is a gap marker. `rest` contains the
-    bytes from a wrong start or length on, `end_fault` the fault number.
+    `marks` contains, for each item of `pieces`, whether it is a gap marker. If a start code or
+    length is wrong, `rest` contains the bytes from there on, and `end_fault` is the fault number.
     """
 
     pieces: list[bytes]

@@ -12,7 +12,7 @@ BLANK = bytes([SPACE]) * (ROWS * COLUMNS)
 
 
 class TextFault(Exception):
-    """Raised for a fault in a text, with its number and its offset in the text or line."""
+    """Raised for a fault in a text. `number` is the fault number, `at` the offset of the fault."""
 
     def __init__(self, number: int, at: int) -> None:
         super().__init__(number, at)

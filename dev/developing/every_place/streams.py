@@ -12,7 +12,8 @@ from typing import NamedTuple
 from .recordings import PACKET, SYNC, TIME_STAMP, MAX_UNSEEN_PACKETS
 
 MAX_PAYLOAD = 184  # maximum payload of a packet in bytes
-DISCONTINUITY_BIT, PAYLOAD_START, WRONG = 0x80, 0x40, 0x80  # bits in bytes 5, 1 and 1 of a packet
+# Bits of a packet in bytes 5, 1 and 1, respectively.
+DISCONTINUITY_BIT, PAYLOAD_START, WRONG = 0x80, 0x40, 0x80
 NULL_PID = 0x1FFF
 
 
@@ -60,7 +61,7 @@ def make_packet(rng: Random, pid: int, counter: int, payload: bytes, begins: boo
 
 
 def make_packet_without_payload(rng: Random, pid: int, has_discontinuity: bool) -> bytes:
-    """Return a packet that has only an adaptation field, and a random counter."""
+    """Return a packet with an adaptation field, no payload and a random continuity counter."""
     head = bytes([SYNC, pid >> 8, pid & 255, rng.randrange(16) | 0x20])
     return head + make_adaptation_field(rng, MAX_PAYLOAD - 1, has_discontinuity)
 
@@ -143,7 +144,7 @@ def multiplex(rng: Random, packets: list[bytes], pid: int, has_jumps: bool) -> l
 
 
 def join_units(rng: Random, units: list[Unit], size: int) -> bytes:
-    """Join units. Add a time stamp before each if `size` is 192, or 16 bytes after each if 204."""
+    """Join units, each after a time stamp (`size` 192), before 16 bytes (204), or alone (188)."""
     before, behind = (TIME_STAMP, 0) if size == 192 else (0, size - PACKET)
     data = b"".join(make_random_bytes(rng, before) + unit.packet + make_random_bytes(rng, behind)
                     for unit in units)
@@ -182,7 +183,7 @@ def drop_random_units(rng: Random, units: list[Unit]) -> list[Unit]:
 
 
 def gone(number: int, kept: set[int]) -> bool:
-    """Return whether too many consecutive packets would be missing without this packet."""
+    """Return whether this packet and the 14 packets before it would be missing if it were lost."""
     return number >= MAX_UNSEEN_PACKETS - 1 and kept.isdisjoint(range(number - MAX_UNSEEN_PACKETS +
                                                                       1, number + 1))
 
@@ -198,7 +199,7 @@ def is_packet(unit: Unit) -> bool:
 
 
 def choose_packet(rng: Random, units: list[Unit]) -> int:
-    """Return the index of a random packet, usually a packet of the PID."""
+    """Return the index of a random packet, usually of the PID with PES packets."""
     places = [at for at, unit in enumerate(units) if unit.pes is not None]
     if places and rng.random() < 0.9:
         return rng.choice(places)
@@ -217,7 +218,7 @@ def change_units(rng: Random, units: list[Unit], size: int) -> None:
     if way == "leave out":
         del units[at:at + rng.choice([1, 1, 2, 3, 14, 15, 16])]
         return
-    if way == "again":  # repeat the unit once or twice, next to it or a few units later
+    if way == "again":  # repeat the unit once or twice, immediately or a few units later
         for _ in range(rng.choice([1, 1, 2])):
             units.insert(min(at + rng.choice([1, 1, 1, 2, 3]), len(units)), units[at])
         return

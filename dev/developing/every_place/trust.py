@@ -10,7 +10,7 @@ from typing import Iterator, NamedTuple
 
 from subtitles.common.times import format_frame
 
-# Faults of a PES packet that make its frame untrusted, since receivers depend on the broken rules.
+# Faults of a PES packet that make its frame untrusted, since receivers may handle them differently.
 PACKET_FAULTS = {64, 65, 67, 68, 69}
 ORDER = 62
 SKIPPED = {*range(33, 41), 45, 61}  # fault numbers of unreadable PES packets
@@ -110,7 +110,7 @@ class TrustedFrames:
                 begin = frame + 1
 
     def find_trusted_frames(self) -> Iterator[tuple[int, CleanFrames]]:
-        """Yield groups of trusted frames, each with the index of the event after its line."""
+        """Yield each group of trusted frames, and before it the index of the event that follows."""
         for run in self.find_runs():
             headers = [packet.frame for packet in self.sent
                        if packet.has_header and run.first <= packet.frame <= run.last]
@@ -127,7 +127,8 @@ class TrustedFrames:
     def find_report_place(self, last: int) -> int:
         """Return the index of the event before which trusted frames up to `last` are printed.
 
-        This is the first event that makes the next frame faulty or concerns a later frame.
+        This event reports a fault of the next frame, an order fault, or the end of the file. Return
+        the number of events if there is no such event.
         """
         after = last + 1
         pes = [packet.pes for packet in self.sent if packet.frame == after]
@@ -141,11 +142,11 @@ class TrustedFrames:
         return len(self.events)
 
     def find_last_trusted(self, last: int, at: int) -> int:
-        """Return the last trusted frame of a group whose frames up to `last` have no fault.
+        """Return the last trusted frame of a group of frames without a fault that ends at `last`.
 
-        The group is printed before the event `at`. Frames with an incomplete page are not trusted
-        if this event reports a late page or follows the last frame, or if the subtitle file has
-        faults.
+        Final frames with an incomplete page are not trusted if the subtitle file has faults, or if
+        the event at index `at` reports a late page. The same holds if there is no such event, or if
+        it follows the last frame. The group is printed before this event.
         """
         event = self.events[at] if at < len(self.events) else None
         end: FrameEnd | None = None

@@ -79,7 +79,7 @@ class Trial:
                                       shlex.join(arguments)))[1].written or b""
 
     def find_differences(self, known: KnownCall) -> list[str]:
-        """Return differences from the expected output, or none if reads cannot be made to fail."""
+        """Return differences from the expected output. Skip read failures if there is no strace."""
         messages = []
         for call, expected in add_first_fault_call(*known):
             if call.is_failing and not self.can_fail:

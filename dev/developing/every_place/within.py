@@ -1,7 +1,7 @@
 """Pairs of files for `check --all` with `--within N` or `--keeping`, with manually derived output.
 
 Transmissions are written as in `one_rule`, with these additional names: `o` is row 22 with the
-letter o instead of i, `r2` is row 22's text on row 20, `k` is a header that keeps the page.
+letter o instead of i; `r2` is row 20 with the text of row 22; `k` is a header with C4 clear.
 """
 from __future__ import annotations
 
@@ -26,7 +26,7 @@ def make_pes_file(packets: str) -> bytes:
 
 def expect_lines(name: str, pes: bytes, *requested_options: tuple[str, ...], stl: bytes = HELLO
             ) -> list[KnownCall]:
-    """Return a call with its expected lines for each set of options."""
+    """Return a call for each tuple of `requested_options`: options, then the expected lines."""
     return [make_known_check(f"{name}: check {arguments}".rstrip(), stl, pes, arguments,
                              add_count_line(*lines))
             for arguments, *lines in requested_options]
@@ -53,7 +53,7 @@ LARGEST_TOLERANCE_CASES = [
                   ("--within 50", format_accepted_line(51, 3))),
 ]
 
-# The PTS of a frame may be a quarter of a frame early and less than three quarters late.
+# A PTS may be up to a quarter of a frame early, or less than three quarters of a frame late.
 PTS_CASES = [
     *expect_lines("the last PTS of a frame", SENT, ("--origin 8589931893 --within 1",
                                                     format_accepted_line(51, 2))),
@@ -68,9 +68,7 @@ PTS_CASES = [
 
 TOLERANCE_CASES = [*LARGEST_TOLERANCE_CASES, *PTS_CASES, *DAY]
 
-# Headers that keep the page, rows after such a header, rows when no page is open, and a refused
-# subtitle, whose page is unknown.
-KEEPING_OPTION = "--keeping"
+KEEPING_OPTION = "--keeping"  # accepts headers that do not erase the page
 AFTER_REFUSED_STL = make_stl_file((0, 50, 22, HI.replace(b"i", b"\xe6")), (50, 100, 22, HI))
 BAD = "refused 50 Character block 1 at 4"
 LATE_PAGE_CASES = [
