@@ -37,7 +37,7 @@ def end_early(kind, reason, _):  # type: ignore[no-untyped-def]  # old Python ve
     try:
         sys.stderr.write(" ".join(line.split()) + "\n")
         sys.stderr.flush()
-    finally:  # standard error may be closed, or on a full disk
+    finally:  # standard error may be closed, or its disk may be full
         os._exit(2)
 
 

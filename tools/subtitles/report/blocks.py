@@ -8,7 +8,7 @@ from ..common.times import parse_frame
 from ..formats.listing import FaultLine, make_number_link
 from ..formats.stl import GSI, NamedSubtitle, SubtitleFile
 
-ORDER_FAULTS = {56, 57}  # fault numbers about the order of TCIs
+ORDER_FAULTS = {56, 57}  # numbers of faults in the order of TCIs
 BYTE_FAULTS, ROW_FAULTS = (50, 51), range(50, 56)
 # Name and bytes of the faulty field in a TTI or GSI block, by fault number
 FIELDS = {11: ("DFC", slice(3, 11)), 12: ("DFC", slice(3, 11)), 13: ("DSC", slice(11, 12)),
@@ -18,7 +18,7 @@ FIELDS = {11: ("DFC", slice(3, 11)), 12: ("DFC", slice(3, 11)), 13: ("DSC", slic
 
 
 def mark_field(file: SubtitleFile, fault: FaultLine) -> Markup:
-    """Return the field that has a fault, with its bytes marked, or else empty markup."""
+    """Return the faulty field with its bytes marked. Return empty markup if no field is faulty."""
     if fault.number not in FIELDS or fault.block is None:
         return markup("")
     name, place = FIELDS[fault.number]

@@ -46,7 +46,7 @@ class CueRow(NamedTuple):
     row_class: str
     kinds: Sequence[str]
     cells: Sequence[Value]
-    is_repeated: bool = False  # same fault as in the previous row; omitted on paper
+    is_repeated: bool = False  # whether the previous row has the same fault; print omits repeats
 
 
 class CueList:
@@ -320,7 +320,7 @@ MAX_PLACES = 20
 
 
 def find_places(part: Part) -> dict[int, list[tuple[FaultLine, str]]]:
-    """Return the first faults of each fault number, each with the text of the time when it ends."""
+    """Return the first faults with each number. Add a text that says where each fault ends."""
     places: dict[int, list[tuple[FaultLine, str]]] = {}
     for fault, end in part.check_output.read_faults():
         fault_places = places.setdefault(fault.number, [])

@@ -105,7 +105,7 @@ def describe_clock(verdict: Verdict) -> Markup:
 
 
 def describe_given_clock(clock: Clock) -> str:
-    """Return the sentence about a clock that was given."""
+    """Return the sentence about a clock that the operator gave with --start or --origin."""
     source = "from the first picture (--start), 00:00:00:00 at PTS" \
         if clock.source in (START, TCP) else "given: --origin"
     return f"Clock {source} {clock.origin}."
@@ -328,7 +328,7 @@ def list_options(verdict: Verdict, part: Part) -> str:
 
 
 def make_footer(verdict: Verdict, command_paths: CommandPaths) -> Markup:
-    """Return the last sections: unchecked properties, waived faults, files and commands."""
+    """Return a report's last sections: unchecked properties, waived faults, files and commands."""
     program = describe_program(command_paths.program_path)
     size = os.path.getsize(command_paths.program_path)
     files = [("STL", verdict.stl), *(("PES", part.judged_file) for part in verdict.parts),

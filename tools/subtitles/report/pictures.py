@@ -25,12 +25,12 @@ ARIA_HIDDEN = markup('aria-hidden="true"')  # screen readers read the rows as te
 NUMBERS = 22  # width of the row numbers in units
 
 Look = tuple[int, bool, bool, bool]  # foreground colour, flash, boxed, double height
-Ground = tuple[int, bool]  # background colour, boxed
+Ground = tuple[int, bool]  # background colour, and whether the cell is boxed
 Place = tuple[int, int]  # row and column
 RowRange = tuple[int, int]  # first and last row
 Key = TypeVar("Key")
 
-# A spacing attribute, or characters.
+# A single spacing attribute, or a sequence of characters.
 PARTS = re.compile(rb"[\0-\x1f\x80-\x9f]|[^\0-\x1f\x80-\x9f]+")
 MARKED_CELLS = re.compile(bytes([HIT]) + b"+|" + bytes([OLD]) + b"+")
 
@@ -67,7 +67,7 @@ def decode_cells(cells: bytes, option: int, is_mosaic: bool = False) -> str:
 
 
 def style_row(row: bytes, number: int, option: int, is_boxed_page: bool) -> list[CellStyle]:
-    """Return the style of each run of cells in a row, from the spacing attributes before it."""
+    """Return the style of each group of cells in a row. Spacing attributes set the style."""
     ink, paper, flash, boxed, double, mosaic = 7, 0, False, not is_boxed_page, False, False
     spans: list[CellStyle] = []
     last = SPACE
@@ -104,7 +104,7 @@ def style_row(row: bytes, number: int, option: int, is_boxed_page: bool) -> list
 
 def group_cells(spans: Iterable[CellStyle], key: Callable[[CellStyle], Key]) \
         -> Iterator[tuple[Key, int, str]]:
-    """Yield the key, first column and text of each group of neighbouring cells with one key."""
+    """Yield the key, first column and text of each group of adjacent cells with the same key."""
     column = 0
     for value, several in itertools.groupby(spans, key):
         text = "".join(map(get_characters, several))

@@ -10,12 +10,12 @@ from ..stream.receiver import Timeline
 from .cue_list import CueList, make_cause_key
 
 WIDTH = 1000  # width of a lane in units, which are scaled to the width of the page
-MIN_MARK_WIDTH = 2  # minimum width of a mark in units
+MIN_MARK_WIDTH = 2  # minimum width of a bar in units
 MINUTE = 60 * FRAMES_A_SECOND
 STEPS = [seconds * FRAMES_A_SECOND for seconds in (1, 2, 5, 10, 30)] + [
     minutes * MINUTE for minutes in (1, 2, 5, 10, 30, 60, 120, 240)]
 MAX_TIMES = 10  # maximum number of time labels below the lanes
-# A label less than this percentage of the lane's width from an end is aligned with that end.
+# Percentage of a lane's width, at either end, in which a label is aligned with that end.
 EDGE_PERCENT = 8
 
 

@@ -59,8 +59,8 @@ def quote_command(*args: str) -> str:
 
 # Names of result files
 #
-# The name of a result file depends only on its pair and part. Names are unique: if the name of a
-# subtitle file ends in something like a part number or line number, this suffix is escaped.
+# The name of a result file depends only on its pair and part. Names are unique: a suffix of a
+# subtitle file's name that looks like a part number or a line number is escaped.
 #
 #     film.json       the pair of film.stl         film~2.json     the second film.stl of a list
 #     film.1.html     the first part of film.stl   line 7.json     line 7, which has no valid pair
@@ -81,7 +81,7 @@ MAX_NAME_BYTES, KEPT_NAME_BYTES = 180, 120  # a longer name is cut, and a digest
 
 
 def make_pair_name(stl: str) -> str:
-    """Return the base name of a pair's result files, from the name of its subtitle file."""
+    """Derive the base name of a pair's result files from the name of its subtitle file."""
     stem = os.path.splitext(os.path.basename(stl))[0]
     name = ESCAPED_PARTS.sub(lambda found: "".join(
         f"{ESCAPE}{byte:02X}" for byte in os.fsencode(found[0])), stem) or ESCAPE
@@ -132,7 +132,7 @@ class PartFiles:
                 self.files_by_pair[match[1]].add(file)
 
     def list_files(self, name: str) -> list[str]:
-        """Return the files of a pair's parts, also those written since the folder was listed."""
+        """Return the files of a pair's parts. Include files that are not in `files_by_pair` yet."""
         names = {*self.files_by_pair.get(name, ())}
         for number in itertools.count(1):
             candidates = {f"{make_part_name(name, number)}.{ending}" for ending in PART_ENDINGS}
@@ -291,7 +291,7 @@ class Printer:
         self.progress.show(make_line)
 
     def print_command(self, line: str) -> None:
-        """Print the command that will run. Its output follows as a list."""
+        """Print the command that is about to run, and begin the list of its output lines."""
         self.list_length = 0
         self.print_line(f"+ {line}")
 

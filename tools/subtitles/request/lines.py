@@ -21,8 +21,8 @@ from .request import (
 
 # Lines of lists and profiles, which are split into words like shell commands.
 
-# Limits of a list. In Python, a line that is not a valid pair needs about 600 bytes, and each word
-# of a line 150 bytes.
+# Limits of a list. Python needs about 600 bytes of memory for a line that is not a valid pair, and
+# 150 bytes for each word of a line.
 MAX_BYTES, MAX_LINES, MAX_WORDS = 16_000_000, 100_000, 1_000_000
 MAX_LINE_CHARACTERS, MAX_LINE_WORDS = 65_536, 256
 BYTE_ORDER_MARKS = codecs.BOM_UTF8, codecs.BOM_UTF16_LE, codecs.BOM_UTF16_BE
@@ -35,8 +35,8 @@ QUOTED_ESCAPE = re.compile(r'\\(["\\])')
 
 
 class Line(NamedTuple):
-    """A line of a list: its number and arguments. For a faulty line, `arguments` has its first
-    characters and `fault` the reason."""
+    """A line of a list: its number and arguments. If the line is faulty, `fault` is the reason and
+    `arguments` contains the first characters."""
 
     number: int
     arguments: tuple[str, ...]
@@ -150,7 +150,7 @@ def read_profile(path: str, may_be_pipe: bool = False) -> Profile:
 
 
 def resolve_setting_path(setting: Setting, folder: str) -> Setting:
-    """Make the path in a setting relative to the folder of the profile."""
+    """Interpret the path in a setting as relative to the folder of the profile."""
     if setting.field not in PATH_FIELDS:
         return setting
     return setting._replace(value=os.path.join(folder, setting.value))
@@ -159,13 +159,12 @@ def resolve_setting_path(setting: Setting, folder: str) -> Setting:
 def read_options(parser: ToolParser, line: Sequence[str], defaults: Mapping[str, Any],
                  own_defaults: Mapping[str, Any], folder: str = "", is_typed: bool = False) \
         -> argparse.Namespace:
-    """Return the options of a line, including `own_defaults`.
+    """Return the options of a line. Add the options that the line lacks from `defaults`.
 
-    `defaults` are the options of the command line and its profile; `own_defaults` are those without
-    this profile. For options that the line lacks, use `defaults`. If the line has its own profile,
-    use the options of that profile and `own_defaults` instead. `is_typed` is true if the line is
-    the command line itself. Only then may the profile be a pipe, since a list could name a pipe to
-    which nothing is written.
+    `defaults` contains the options of the command line and its profile. `own_defaults` contains the
+    options of the command line alone. A line with its own profile uses that profile and
+    `own_defaults` instead of `defaults`. `is_typed` is true if the line is the command line itself.
+    Only then may the profile be a pipe, since a list could name a pipe to which nothing is written.
     """
     given_options = {word.partition("=")[0] for word in line}
     defaults = remove_replaced_clock(defaults, given_options)
@@ -214,8 +213,8 @@ def make_line_parser() -> ToolParser:
 
 def make_line_request(line: Sequence[str], defaults: argparse.Namespace,
                       folder: str = "") -> Request:
-    """Return the request for a line of a list. `folder` is the folder of the list, `defaults` are
-    the options of the command line."""
+    """Return the request for a line of a list. `folder` is the folder of the list. `defaults`
+    contains the options of the command line."""
     own_defaults = get_option_values(getattr(defaults, "own_defaults", defaults))
     request = make_request(read_options(make_line_parser(), line, get_option_values(defaults),
                                         own_defaults, folder))
@@ -230,8 +229,8 @@ RECORDING_ENDINGS = (".ts", ".m2t", ".m2ts", ".mts", ".trp", ".pes")
 
 
 class BatchItem(NamedTuple):
-    """A pair in a batch. If it can't be judged, `request` is `None` and `reason` is the reason.
-    `files` are all input files that the pair may have."""
+    """A pair in a batch. If the pair can't be judged, `request` is `None` and `reason` says why.
+    `files` lists all input files that the pair may have."""
 
     name: str
     request: Request | None
@@ -346,15 +345,15 @@ def read_list_pairs(path: str, lines: Iterable[Line],
 
 
 def list_possible_paths(words: Sequence[str], folder: str) -> list[str]:
-    """Return the words of a faulty line that may be input files, which must not be overwritten."""
+    """Return the paths that a faulty line may contain. These files must not be replaced."""
     values = [value for word in words for value in {word, word.partition("=")[2]} if value]
     return [*values, *(os.path.join(folder, value) for value in values)]
 
 
 def read_line_pair(path: str, number: int, defaults: argparse.Namespace) \
         -> tuple[BatchItem, list[str]]:
-    """Return the pair in line `number` of a list, whose name depends on the earlier lines. Also
-    return the words of all lines, since any of them may be an input file."""
+    """Return the pair in line `number` of a list, and the words of all lines, since any word may be
+    an input file. The earlier lines affect the name of the pair."""
     if os.path.isdir(path):
         raise Stop(f"--line needs a list, but {path} is a folder")
     lines = [*split_lines(read_list(path, may_be_pipe=True))]

@@ -25,9 +25,9 @@ from ..formats.teletext import OPTION_WORDS, choose_language_option, page_name
 
 # The options for a pair
 #
-# All of these are made from this table: the parser and its help, the man page, the completion, the
-# manual's table, the arguments of `qc` and `check`, and the members of a JSON result that --resume
-# compares. To add an option, add a row here and a field to `Request`.
+# The table `OPTIONS` defines the parser and its help, the man page, the completion, the manual's
+# table, the arguments of `qc` and `check`, and the members of a JSON result that --resume compares.
+# To add an option, add a row to the table and a field to `Request`.
 
 
 class Mode(NamedTuple):
@@ -57,7 +57,7 @@ class Option(NamedTuple):
     """An option of the command line or of a line in a list."""
 
     name: str
-    metavar: str | None  # name of its value, or `None` for a flag
+    metavar: str | None  # name of the option's value, or `None` for a flag
     description: str  # in the imperative; may have Markdown links
     modes: Sequence[Mode]
     default_text: str = ""
@@ -69,8 +69,8 @@ class Option(NamedTuple):
     choices: Sequence[str] = ()
     nargs: str | None = None
     check_default: Any = NOT_ACCEPTED_BY_CHECK  # default in `check`
-    changes_pages: bool = False  # whether `schedule` takes it too
-    is_in_profile: bool = False  # whether profiles may contain it
+    changes_pages: bool = False  # whether `schedule` accepts the option too
+    is_in_profile: bool = False  # whether a profile may contain the option
     # The option's member in a JSON result
     shape: Shape | None = None
     note: str = ""
@@ -262,7 +262,7 @@ def add_options(parser: ToolParser, options: Iterable[Option] | None = None) -> 
 
 
 def group_number(option: Option) -> int:
-    """Return the number of an option's group in the help, that of `ACCEPTED` by default."""
+    """Return the number of an option's group in the help. The default group is `ACCEPTED`."""
     titles = [title for title, names in GROUPS.items() if option.name in names]
     return [*GROUPS].index(titles[0] if titles else ACCEPTED)
 
@@ -322,8 +322,8 @@ class Request:
     breaks: int
     pes: tuple[int, int] | None
     start: str | None  # time code of the first picture, or `tcp`
-    is_relative_allowed: bool = False  # whether `relative` has exit status 0
-    within: int = 0  # frames from a cue until its page must be complete
+    is_relative_allowed: bool = False  # whether the verdict `relative` has exit status 0
+    within: int = 0  # maximum number of frames from a cue until its page is complete
     is_strict: bool = False  # whether warnings are treated as faults
     from_time: str | None = None
     to_time: str | None = None
@@ -463,18 +463,18 @@ CHOICES = (PID_CHOICE, ORIGIN_CHOICE, PES_CHOICE, PACE_CHOICE, OPTION_CHOICE)
 
 
 class Selection(NamedTuple):
-    """A choice made by qc."""
+    """A value that qc chose for an option, or a choice that the operator must make."""
 
-    option: str  # the option that replaces the choice
+    option: str  # name of the option
     value: str | None  # the chosen value, if any
     line: str  # the line to print
-    match_count: int | None = None  # number of items that match the value
+    match_count: int | None = None  # number of items (PES packets, cues) that match the value
     total_count: int | None = None  # number of all items
     part: int | None = None  # `None` for all parts
 
 
 class Unclear(Exception):
-    """Raised if a pair can't be judged. It has the reason and commands that may help."""
+    """Raised if a pair can't be judged. Contains the reason, and commands that may help."""
 
     def __init__(self, reason: str, *commands: str) -> None:
         super().__init__(reason)
@@ -482,4 +482,4 @@ class Unclear(Exception):
 
 
 class IncompleteAnswer(Unclear):
-    """Raised if the program ended before its output was complete, for example by a signal."""
+    """Raised if the program ended, for example after a signal, before its output was complete."""

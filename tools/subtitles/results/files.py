@@ -55,7 +55,7 @@ def write_result(verdict: Verdict, program: ProgramInfo) -> Iterator[str]:
 
 
 def write_list(member: Member, source: ResultSource, limit: ListLimit) -> Iterator[str]:
-    """Yield a JSON list with one item per line. Omit further items at the limit."""
+    """Yield a JSON list with one item per line. Omit the items beyond the limits."""
     assert isinstance(member.shape, ListOf) and member.getter
     items, separator = iter(member.getter(source)), "["
     for count, item in enumerate(items):
@@ -72,7 +72,7 @@ def write_list(member: Member, source: ResultSource, limit: ListLimit) -> Iterat
 ENDING = ".json"
 MAX_ROW_LINES = 100
 MAX_RESULT_BYTES = 2 * MAX_BYTES
-MAX_VALUES = 2_000_000  # maximum number of values; in Python a value needs 70 bytes, a member 160
+MAX_VALUES = 2_000_000  # maximum number of values, each of which needs 70 to 160 bytes in Python
 MAX_DIGITS = 20
 NO_CLOCK, LATER_CLOCK = "no clock was given", "the clock after a break was estimated"
 
@@ -81,7 +81,7 @@ class Row(NamedTuple):
     """The row of a pair in a table."""
 
     name: str
-    title: str  # names of its two files
+    title: str  # names of the pair's files
     verdict: str
     status: int
     line: str
@@ -89,10 +89,10 @@ class Row(NamedTuple):
     causes: dict[str, int]
     lines: Sequence[str]
     seconds: float
-    hint: str  # explains its worst fault
-    counts: str = ""  # text such as `7 subtitles judged, 2 refused`, if some are refused
+    hint: str  # explanation of the pair's worst fault
+    counts: str = ""  # text such as `7 subtitles judged, 2 refused`; empty if none is refused
     sentence: str = ""
-    clock: str = ""  # why a delay was not checked
+    clock: str = ""  # reason why a delay was not checked
 
     @property
     def is_judged(self) -> bool:
@@ -109,7 +109,7 @@ def make_unjudged(name: str, reason: str) -> dict[str, Any]:
 
 
 def can_replace(path: str, prefix: bytes = b"{") -> bool:
-    """Return whether a result may replace a file, which must be missing, empty or begin with
+    """Return whether a result may replace a file. The file must be missing or empty, or begin with
     `prefix`. Any other file may be an input that the user gave by mistake."""
     if not is_replaced(path) or not os.path.exists(path):
         return True
@@ -237,7 +237,7 @@ def count_row_causes(result: dict[str, Any]) -> dict[str, int]:
 
 
 def read_results(folder: str) -> Iterator[tuple[str, dict[str, Any] | None]]:
-    """Yield the JSON results in a folder with their files, sorted by name."""
+    """Yield the path and the contents of each JSON result in a folder, sorted by name."""
     for file in sorted(os.listdir(folder)):
         path, name = os.path.join(folder, file), file.removesuffix(ENDING)
         if name != file and not file.startswith(".") and os.path.isfile(path):
@@ -278,9 +278,9 @@ def is_current(result: dict[str, Any], request: Request, program: ProgramInfo) -
         and result["program"]["version"] == program.version
 
 
-# CSV files. For many pairs, a file has a line for each pair and each fault. For a single pair, it
-# has a line for the pair and for each subtitle. A column is named after its object and key in the
-# JSON result.
+# CSV files. For many pairs, a file has a line for each pair, followed by a line for each fault of
+# the pair. For a single pair, it has a line for the pair and for each subtitle. A column is named
+# after its object and key in the JSON result.
 
 SUBTITLE_COLUMNS = ["subtitle_number", "subtitle_begin", "subtitle_end"]
 FAULT_COLUMNS = ["part", "number", "name", "severity", "file", "block", *SUBTITLE_COLUMNS, "byte",
@@ -315,7 +315,7 @@ def make_object_columns(name: str, members: Members | None) -> Columns:
 
 
 def make_part_columns(parts: Sequence[dict[str, Any]], number: int | None) -> Columns:
-    """Return the columns for part `number`, or for the only part if it is `None`."""
+    """Return the columns for part `number`, or for the only part if `number` is `None`."""
     numbered_parts = [part for part in parts if part["part"] == number or number is None]
     if len(numbered_parts) != 1:
         return {}
@@ -395,10 +395,10 @@ class TestCase(NamedTuple):
     name: str
     verdict: str
     status: int
-    line: str  # its worst fault, or the reason why it was not judged
-    lines: Sequence[str]  # first lines of its fault list
+    line: str  # the pair's worst fault, or the reason why the pair was not judged
+    lines: Sequence[str]  # first lines of the pair's fault list
     seconds: float
-    counts: str = ""  # text such as `7 subtitles judged, 2 refused`, if some are refused
+    counts: str = ""  # text such as `7 subtitles judged, 2 refused`; empty if none is refused
     sentence: str = ""
 
 

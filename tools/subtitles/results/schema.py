@@ -131,7 +131,7 @@ class PartResult(NamedTuple):
 
     @property
     def judged_file(self) -> dict[str, object] | None:
-        """Return the file of judged PES packets from a feed. It has a name only if it is kept."""
+        """Return the members for the judged PES file. Only a kept file has a name."""
         file = self.part.judged_file
         return file and {**file._asdict(), **({} if self.is_kept else {"name": None})}
 
@@ -319,7 +319,7 @@ TIME_RULES = Rules([
     {"verdict": OneOf(RELATIVE), "status": OneOf(STATUSES[RELATIVE])},
     {"verdict": OneOf(RELATIVE), "request": RELATIVE_RULES}])
 
-# The lists, which are written item by item. The member `omitted` counts their missing items.
+# The lists of a result are written item by item. `omitted` counts the items left out of each.
 LISTS = (
     Member("parts", ListOf(JUDGED_PART, MAX_LISTED_ITEMS), "Frames between parts are not judged.",
            lambda known: (PartResult(part, known.verdict.is_kept) for part in known.verdict.parts)),
