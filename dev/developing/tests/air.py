@@ -102,7 +102,6 @@ class AirCase(Case):
         return path
 
     def put_segments(self, begin: int, end: int, missing: Sequence[tuple[int, int]] = ()) -> None:
-        """Write the segments from `begin` to `end`, except those that overlap `missing`."""
         for at in range(begin, end, LENGTH):
             if not any(at < last and at + LENGTH > first for first, last in missing):
                 self.put_segment(at, min(at + LENGTH, end))

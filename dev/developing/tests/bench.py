@@ -159,7 +159,6 @@ class Case(unittest.TestCase):
                                              f"'{self.bench.program}' \"$@\"\n")
 
     def schedule(self, stl: str, name: str, *options: str) -> str:
-        """Write the transmission that `schedule` makes from a subtitle file. Return its path."""
         process = self.call([self.bench.program, "schedule", stl, self.path(name), *options])
         assert process.status == 0, process
         return self.path(name)

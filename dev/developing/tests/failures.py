@@ -47,7 +47,6 @@ def list_lines(value: object) -> list[str]:
 
 
 def format_comparison(result: object, expected: object) -> str:
-    """Format two different values. Use a diff if they take several lines."""
     own, expected_value = list_lines(result), list_lines(expected)
     if len(own) == 1 and len(expected_value) == 1:
         return f"  expected: {expected_value[0]}\n  found:    {own[0]}"

@@ -135,7 +135,6 @@ class ProgrammeCase(Case):
 
 
 def list_shown_files(line: str) -> list[str]:
-    """Return the files that a printed `check` command names."""
     words = shlex.split(line)[2:]
     return [word for before, word in zip(["", *words], words) if not word.startswith("-")
             and (not before.startswith("-") or before in ("--all", "--complete"))]

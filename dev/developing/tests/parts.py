@@ -85,7 +85,6 @@ def make_default_options(*args: str) -> argparse.Namespace:
 
 
 def list_call_arguments(request: Request) -> list[str]:
-    """Format a request as arguments for qc."""
     return [*itertools.chain(*list_arguments(request)), "--", request.stl,
             *([request.recording] if request.recording else [])]
 

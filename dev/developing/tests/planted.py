@@ -56,7 +56,6 @@ class Inserter(NamedTuple):
         return max(*self.begins, *self.ends, int(self.each > 1))
 
     def options(self) -> list[str]:
-        """Return options for qc that accept the inserter's delays and repeats."""
         return ["--every", f"{self.every + self.within}", *["--keeping"] * self.keeps,
                 *["--within", f"{self.within}"] * (self.within > 0)]
 
@@ -139,7 +138,6 @@ class Programme:
             if most[kind] >= first else None
 
     def list_shown_pages(self) -> list[Sequence[bytes]]:
-        """Return the page transmitted for each subtitle."""
         pages, fault = list[Sequence[bytes]](self.pages), self.fault
         if fault and fault.kind == EXCHANGED_TEXT:
             pages[fault.place], pages[fault.other] = pages[fault.other], pages[fault.place]

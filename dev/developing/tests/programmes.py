@@ -34,7 +34,6 @@ def make_programme(case: Case, name: str, first: int, words: str, pts: int) -> b
 
 
 def repeat_last_page(data: bytes, pts: int, count: int, step: int = SECOND) -> bytes:
-    """Return the last page transmission `count` times, every `step` ticks from the PTS `pts` on."""
     last = packets(data)[-1]
     return b"".join(last[:9] + encode_pts((pts + step * at) % CLOCK) + last[14:]
                     for at in range(count))

@@ -88,7 +88,6 @@ def run_random_call(number: int, program: str) -> CallOutput:
 
 
 def measure_pair(recording: str, program: str) -> str:
-    """Run `qc --measure` on the pair in the current folder. Return its status and output."""
     words = ["tools/qc", "--measure", "one.stl", recording, "-p", program]
     status, out, reported = call_in_same_process(lambda line: main("", "tools/qc", line), words)
     return f"measured {status}\n{out}{reported}"
@@ -154,11 +153,7 @@ def list_schema_violations(known: Any) -> list[str]:
 
 def run_call(words: list[str], program: str, more: Sequence[str] = ("-p", "PROGRAM"),
            wrong: Callable[[Any], list[str]] = list_all_violations) -> CallOutput:
-    """Run qc, and return its output.
-
-    Dates and the fault explanations of the manual are replaced by fixed texts. `wrong` is a
-    function that returns the schema violations in a JSON result.
-    """
+    """Run qc. Return its output, with fixed texts instead of dates and fault explanations."""
     others: list[tuple[Any, str, object]] = [
         *((module, "read_meanings", lambda: MEANINGS) for module in (subtitles, faults, report))]
     with contextlib.ExitStack() as stack:

@@ -83,7 +83,6 @@ class Folder:
             file.write("\n".join(lines) + "\n")
 
     def change(self) -> None:
-        """Change an input file, a result, the profile or the list at random."""
         does: Callable[[], None] = self.chance.choice([
             self.change_profile, self.write_list, self.change_result, self.change_result,
             self.change_file, self.change_file,

@@ -146,7 +146,6 @@ class TestProcess:
 
 
 def run_all(tests: SeveralTests, process_count: int, is_verbose: bool) -> Counts:
-    """Run tests in up to `process_count` parallel processes, and return their results."""
     whole, running = Counts(is_verbose), list[TestProcess]()
     waiting = sorted(group_tests(tests), key=lambda item: get_test_name(item[0]).startswith(LONG))
     BENCH.make_project_copy()

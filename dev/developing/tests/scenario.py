@@ -84,7 +84,6 @@ class Scenario:
         return result
 
     def list_transmitted_subtitles(self) -> list[WrittenSubtitle]:
-        """Return the subtitles as transmitted, with one or two random changes."""
         chance, result = self.chance, list(self.subtitles)
         for _ in range(chance.choice((1, 1, 2))):
             at = chance.randrange(len(result))
@@ -190,7 +189,6 @@ class Scenario:
                 for pts, item in sent]
 
     def make_stream(self, sent: SentPackets, second: SentPackets) -> bytes:
-        """Return a transport stream with video, PCR, Teletext on one or two PIDs, and losses."""
         chance = self.chance
         own = make_teletext_descriptor(chance.choice((b"eng", b"eng", b"ger")),
                                        chance.choice((2, 2, 1)),

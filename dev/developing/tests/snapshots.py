@@ -76,7 +76,6 @@ def page_text(text: str, head: int = REPORT_LINES) -> list[str]:
 
 
 def format_file_snapshot(name: str, text: str, printed: str, head: int) -> list[str]:
-    """Return the lines stored for an output file."""
     if name.endswith(".json") and text.startswith("{"):
         return format_json_snapshot(text, printed, head)
     if name.endswith(".html") and text.startswith("<"):
@@ -85,7 +84,6 @@ def format_file_snapshot(name: str, text: str, printed: str, head: int) -> list[
 
 
 def format_call_output(output: random_calls.CallOutput, head: int = HEAD) -> list[str]:
-    """Return the lines stored for one run of qc."""
     printed = "\n".join(output.lines)
     lines = [f"$ qc {' '.join(output.words)}", f"status {output.status}",
              *shorten_lines(output.lines)]
@@ -100,7 +98,6 @@ def format_call_output(output: random_calls.CallOutput, head: int = HEAD) -> lis
 
 
 def format_folder_snapshot(number: int) -> list[str]:
-    """Return the lines to store for all runs of qc in the random folder with the seed `number`."""
     return [line for printed in random_folders.run_calls_in_folder(number, BENCH.program)
             for line in format_call_output(printed, FOLDER_LINES)]
 
@@ -178,12 +175,10 @@ def changes_in(before: list[str], after: list[str]) -> Iterator[tuple[Change, st
 
 
 def is_hash(change: Change) -> bool:
-    """Return whether a change affects only hashes."""
     return all(re.fullmatch(r"[0-9a-f]{8}", word) for word in change)
 
 
 def crop_line(line: str, change: str) -> str:
-    """Return the part of a long line around a changed text."""
     at = max(0, line.find(change) - 50)
     return ".." * bool(at) + line[at:at + 150] + ".." * (len(line) > at + 150)
 

@@ -39,7 +39,6 @@ def make_h_264_picture(field: int | None = None) -> bytes:
 
 
 def convert_bits(text: str) -> bytes:
-    """Convert a string of binary digits to bytes, padded with zero bits."""
     digits = text.replace(" ", "")
     digits += "0" * (-len(digits) % 8)
     return bytes(int(digits[at:at + 8], 2) for at in range(0, len(digits), 8))
@@ -134,7 +133,6 @@ def make_teletext_descriptor(language: bytes = b"eng", kind: int = 2, page: int 
 
 def make_components(kind: int = MPEG_2, descriptor: bytes = make_teletext_descriptor(),
                     pid: int = TELETEXT_PID) -> list[Component]:
-    """Return a video component and a Teletext component."""
     return [(VIDEO_PID, kind, b""), (pid, PRIVATE, descriptor)]
 
 
@@ -246,7 +244,7 @@ class Packet(NamedTuple):
 def make_teletext_stream(pes: list[bytes], begin: int, end: int, rate: int = 200,
                          pid: int = TELETEXT_PID,
                          before: StreamMaker | None = None) -> tuple[list[Packet], StreamMaker]:
-    """Return the packets of a transport stream from PTS `begin` to `end`, and their `Maker`.
+    """Return the packets of a transport stream from PTS `begin` to `end`, and their `StreamMaker`.
 
     The stream has PES packets of Teletext, `rate` video and audio packets per second, a PCR every
     40 ms, and tables twice a second. It continues the continuity counters of `before`.
@@ -275,7 +273,6 @@ def make_teletext_stream(pes: list[bytes], begin: int, end: int, rate: int = 200
 
 
 def filler(pid: int, counters: dict[int, int]) -> Packet:
-    """Return the next TS packet for a PID, with a meaningless payload."""
     counter = counters[pid] = counters.get(pid, 15) + 1 & 15
     return FILLER_PACKETS[pid][counter]
 
@@ -398,7 +395,6 @@ def make_stream_with_video(pes: bytes, descriptor: bytes = make_teletext_descrip
 
 
 def make_stream_of_pids(*of_pids: tuple[int, bytes]) -> bytes:
-    """Make a stream with PES packets of page 888 on several PIDs, in ascending order of PTS."""
     maker = StreamMaker([(VIDEO_PID, MPEG_2, b""), *(
         (pid, PRIVATE, make_teletext_descriptor()) for pid, _ in of_pids)])
     maker.put_tables()

@@ -26,11 +26,7 @@ ALL = LEAD_SECONDS + LASTS + TAIL_SECONDS
 
 
 class RecordingCase(NamedTuple):
-    """A test case of `judged`.
-
-    `recorded` contains the first and last recorded second of the feed. `air` is the air time in
-    seconds.
-    """
+    """A test case. `recorded` and `air` are in seconds of the feed."""
 
     recorded: tuple[int, int]
     is_wrong: bool
@@ -144,7 +140,6 @@ class Checks(Feeds):
 
 class Calls(Feeds):
     def record(self, frames: list[bytes], *args: str) -> None:
-        """Record the frames of a feed without pauses between them."""
         process = self.call([get_tool_path("air"), "record", self.path("segments"), "--free",
                              "0", *args],
                             b"".join(frames))

@@ -59,7 +59,6 @@ def make_random_day(chance: random.Random) -> Day:
 
 def list_possible_verdicts(sent: SentProgramme, time: int, lost: LostFrames,
                            is_deleted: bool) -> set[str]:
-    """Return the verdicts that are correct for a programme."""
     is_cut = any(first < sent.end and last > sent.begin for first, last in lost)
     if abs(sent.begin - time) > MARGIN_SECONDS or is_cut:
         return {"not judged"}
@@ -83,7 +82,6 @@ class RandomDays(AirCase):
             self.judge_day(random.Random(seed), seed)
 
     def judge_day(self, chance: random.Random, seed: int) -> None:
-        """Record and judge a random day, and check the verdicts."""
         day, first_seen = make_random_day(chance), dict[str, str]()
         checker = FakeChecker(day.sent, lambda: chance.random() < .1)
         judge = self.make_judge(checker)

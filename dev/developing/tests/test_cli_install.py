@@ -33,7 +33,6 @@ printf '%s\\n' "${COMPREPLY[@]}"
 
 
 def check_installation(case: Case, prefix: str) -> None:
-    """Check that the tools installed in a folder can judge a recording."""
     def run(name: str, *words: str) -> CompletedCall:
         return case.call([os.path.join(prefix, "bin", name), *words], env=make_plain_environment())
 
@@ -282,10 +281,7 @@ def count_judged(case: Case) -> int:
 
 
 def reaches_pair(case: Case, folder: str, count: int) -> bool:
-    """Wait until a folder has `count` results and the check of the next pair has begun.
-
-    Return whether this happened in time.
-    """
+    """Return whether a folder has `count` results and the next check begins in time."""
     return wait_until(lambda: os.path.isdir(case.path(folder)) and count_judged(case) == count + 1
                  and len(read_results_in(case, folder)) == count)
 

@@ -41,7 +41,6 @@ REFUSED = ["refused 72 Content frame 00:00:01:00 row 1 column 2", "refused 68 Pa
 
 
 def gap(is_judged: bool, mark: int | None = None) -> Gap:
-    """Return a gap in which three TS packets are lost."""
     return Gap("00:00:01:00", "00:00:02:00", "3 TS packets were lost",
                LossPlace(1, 2, 3, gap_marker=mark), is_judged)
 
@@ -183,7 +182,6 @@ class OutputFilesOfPair(Case):
         return result
 
     def refusal(self, asked: Request, **words: Any) -> str:
-        """Return the error message with which qc refuses output files."""
         known = PairOptions(None, **words)
         return refusal(lambda: refuse_outputs(known, asked, words.get("out"), "one"))
 

@@ -134,7 +134,6 @@ class Statuses(Case):
     ROW = Row("one", "one.stl", "accepted", 0, "accepted", 0, {}, [], 0.0, "")
 
     def end(self, outputs: dict[str, str], *more: Any) -> int:
-        """Write the output of a batch to these files, and return the exit status."""
         self.write("one.json", b'{"format": 3, "verdict": "accepted", "status": 0, "line": "a"}')
         words = argparse.Namespace(csv=None, junit=None, json=None)
         vars(words).update(outputs)

@@ -136,7 +136,6 @@ class Clocks(Feeds):
         self.check_results(name, {item: given})
 
     def folder_call(self, name: str, chance: random.Random, origins: dict[str, int]) -> None:
-        """Judge a folder with the same options for all pairs, and check the results."""
         words, given = self.options(chance, None)
         status, lines = self.qc("--batch", self.path("in"), "-o", self.path("out"), *words)
         several = dict.fromkeys(origins, given)
@@ -158,7 +157,6 @@ class Clocks(Feeds):
         self.check_results(name, given)
 
     def watch(self, name: str, chance: random.Random, origins: dict[str, int]) -> None:
-        """Watch a folder until its pairs are judged, and check the results."""
         words, given = self.options(chance, None)
         real, looks = time.sleep, list[float]()
 

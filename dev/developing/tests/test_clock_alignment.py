@@ -291,7 +291,6 @@ class JudgedPairs(Case):
             self.must(f"{count}: late", item.word == "accepted", item.said)
 
     def judge_drift(self, frames: int) -> JudgedPair:
-        """Judge twenty subtitles whose delay grows steadily to `frames` frames."""
         stl = write_programme(self, make_even_times(20))
         begin, end = make_even_times(20)[0][0], make_even_times(20)[-1][1]
         path = self.write("one.pes", join_pes_packets([

@@ -430,7 +430,6 @@ class Delays(unittest.TestCase):
                  for at in range(len(LATE)) for is_end in (False, True)]
 
     def make_delayed_base(self) -> TimeBase:
-        """Return a time base of page transmissions with the delays in `LATE`."""
         changes = [(TICKS * (cue.frame + by), cue.letters) for cue, by in zip(
             self.CUE_TIMES, (by for pair in self.LATE for by in pair)) if by is not None]
         return find_time_bases([], make_sent_packets(changes), 3)[0].copy_between(self.CUE_TIMES,

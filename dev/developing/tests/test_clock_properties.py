@@ -38,10 +38,7 @@ def make_page_changes(cues: Sequence[ExpectedCue], origin: int) -> list[Sending]
 def make_sent_packets(sendings: Sequence[Sending], every: int = 0,
                       chance: random.Random | None = None) \
         -> Packets:
-    """Return the PES packets of page transmissions.
-
-    If `every` is not 0, each page transmission is repeated every `every` frames.
-    """
+    """Return the PES packets of page transmissions, repeated after `every` frames if not 0."""
     packets = Packets(0)
     shown: bytes | None = None
     for at, (pts, letters) in enumerate(sendings):

@@ -31,7 +31,6 @@ def changes_at(several: Sequence[tuple[int, bytes]], shift: int = 0) -> list[Pag
 
 def make_time_base(cues: Sequence[ExpectedCue], several: Sequence[tuple[int, bytes]],
                    length: int = 9999, within: int = 0, shift: int = 0) -> TimeBase:
-    """Return a time base that lasts `length` frames and has the page changes `several`."""
     return TimeBase(cues, changes_at(several, shift), shift, (shift + TICKS * length) % CLOCK,
                     (0, 99), within)
 
@@ -93,10 +92,7 @@ class TimeBases(unittest.TestCase):
 
     def test_selects_the_time_bases_with_the_most_changes(self) -> None:
         def bases(counts: Sequence[int], inside: tuple[int, int]) -> list[tuple[int, int, int]]:
-            """Return the start, end and number of page changes of each selected time base.
-
-            `counts` contains the number of page changes in each time base.
-            """
+            """Return the start, end and number of page changes of each selected time base."""
             packets = Packets(0, [PacketRun(4 * at, 4, 10 ** 9 - at * 10 ** 6, TICKS, "h", "")
                                   for at in range(len(counts))])
             packets.changes = [PageChange(0, b"", 4 * at + more) for at, count in enumerate(counts)
@@ -437,7 +433,6 @@ class Choices(unittest.TestCase):
         self.assertEqual(find_likeliest_clock(base, base.compare(0), late).start, 0)
 
     def make_delayed_base(self, delays: Sequence[int | None]) -> TimeBase:
-        """Return a time base in which the cues of subtitles have these delays."""
         cues = find_expected_cues([ExpectedSubtitle(100 * at, 100 * at + 50, at, b"%d" % at)
                                    for at in range(1, len(delays) // 2 + 1)])
         return make_time_base(cues, [(TICKS * (cue.frame + by), cue.letters) for cue, by in zip(

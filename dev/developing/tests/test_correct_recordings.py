@@ -63,7 +63,6 @@ class Recording(NamedTuple):
 
 
 def list_even_times(count: int, is_adjoining: bool = False) -> list[tuple[int, int]]:
-    """Return the start and end frames of `count` subtitles that begin every hundred frames."""
     lasts = DISTANCE if is_adjoining else DURATION
     return [(FIRST_TCI + DISTANCE * at, FIRST_TCI + DISTANCE * at + lasts) for at in range(count)]
 
@@ -81,7 +80,6 @@ SHARES: dict[str, tuple[Sequence[int], Sequence[int]]] = {
 
 def make_late_inserter(kind: str, count: int, is_adjoining: bool) -> Callable[[Case],
                                                                               tuple[str, str]]:
-    """Return a function that writes a programme with random delays of in-cues and out-cues."""
     def made(case: Case) -> tuple[str, str]:
         chance = random.Random(f"{kind} {count} {is_adjoining}")
         begins, ends = SHARES[kind]
@@ -253,10 +251,7 @@ def list_services() -> Iterator[Recording]:
 
 
 def make_broken_case(*lengths: int) -> Callable[[Case], tuple[str, str]]:
-    """Return a function that writes a programme with breaks of these lengths in frames.
-
-    A break follows twenty subtitles.
-    """
+    """Return a function that writes a programme with breaks of these lengths in frames."""
     def made(case: Case) -> tuple[str, str]:
         stl = write_programme(case, list_even_times(20 * (len(lengths) + 1)))
         sent = []
@@ -269,7 +264,6 @@ def make_broken_case(*lengths: int) -> Callable[[Case], tuple[str, str]]:
 
 
 def breaks() -> Iterator[Recording]:
-    """Yield recordings with one or two breaks that last 1 to 16 seconds."""
     for lengths in ((25,), (50,), (100,), (124,), (125,), (126,), (250,), (400, 50), (400, 150)):
         yield Recording(BREAKS, f"{lengths}", make_broken_case(*lengths), [
             "--breaks", f"{len(lengths)}", "--every", "40", "--no-complete"])

@@ -342,7 +342,6 @@ class BareClone(Clone):
         return self.call([self.path("subttx"), *PACKET], self.environment)
 
     def prove(self, *args: str) -> list[str]:
-        """Run tools/prove. Return the crates for which it called the prover, in order."""
         self.write(self.called, "")
         self.call([self.path("tools", "prove"), *args], self.environment)
         return (read(self.called) or "").split()

@@ -98,7 +98,6 @@ def list_long_lines(text: str) -> list[int]:
 
 
 def find_cycle(imports: dict[str, set[str]]) -> list[str]:
-    """Return the modules of an import cycle, or an empty list."""
     clear: set[str] = set()
 
     def walk(name: str, way: list[str]) -> list[str]:
@@ -231,10 +230,7 @@ def scripts() -> list[str]:
 
 @contextlib.contextmanager
 def open_mypy_cache(case: Case) -> Iterator[str]:
-    """Return a context manager that yields a cache folder for mypy.
-
-    This is the user's folder. If another process uses it, or if CI is set, it is an empty folder.
-    """
+    """Yield the user's cache folder for mypy; in CI or if it is in use, yield an empty folder."""
     home = os.environ.get("XDG_CACHE_HOME") or os.path.expanduser("~/.cache")
     kept = os.path.join(home, "subttx-mypy")
     with contextlib.ExitStack() as stack:

@@ -220,7 +220,6 @@ class Receiver:
 
 class Transmissions(Case):
     def schedule_texts(self, option: NationalOption, several: list[Text]) -> str:
-        """Run `schedule` on adjoining subtitles with these texts. Return the last printed line."""
         blocks = [make_tti_block(number, begin, begin + LENGTH, item.row, item.justify, item.text)
                   for number, item in enumerate(several) for begin in [FIRST_TCI + LENGTH * number]]
         self.write("a.stl",
@@ -321,7 +320,6 @@ def make_character_set_packet(number: int, character_set: int, designation: int 
 
 
 def flip_header_bits(data: bytes, *bits: int) -> bytes:
-    """Return the data with the given bits flipped."""
     result = bytearray(data)
     for bit in bits:
         result[bit >> 3] ^= 1 << (bit & 7)

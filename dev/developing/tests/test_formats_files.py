@@ -114,10 +114,7 @@ class Files(Case):
     TEXTS = (b"one", b"two \x8f not", b"\x8f\x8f", b"\xc8a", b"x" * 112)
 
     def file(self, chance: random.Random) -> tuple[bytes, list[PlainSubtitle]]:
-        """Return a random subtitle file with comments and user data, and its subtitles.
-
-        Some subtitles have several blocks or invalid times; the last subtitle may be incomplete.
-        """
+        """Return a random subtitle file with comments and user data, and its subtitles."""
         blocks, groups, frame = list[bytes](), list[PlainSubtitle](), chance.randrange(50)
         for number in range(1, chance.randrange(2, 7)):
             begin, end = frame, frame + chance.choice((0, *range(1, 40)))

@@ -192,10 +192,7 @@ class RandomRow:
                                   for (begin, end), text in zip(times, texts))
 
     def wrong(self, due: dict[int, str], texts: list[str]) -> dict[int, str]:
-        """Return the pages in `due` with one random fault.
-
-        `due` maps the first frame of each page to the page. `texts` contains all pages.
-        """
+        """Return the pages in `due`, by their first frames, with one random fault."""
         chance = self.chance
         frame = chance.choice(list(due)[1:] or list(due))
         text, kind = due[frame], chance.randrange(9)

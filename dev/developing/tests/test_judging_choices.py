@@ -235,14 +235,12 @@ def make_number_text(number: int, end: str = "") -> bytes:
 
 class Profiles(Case):
     def write_stl(self, name: str, end: str = "", justify: int = 2, count: int = 12) -> str:
-        """Write a subtitle file, with `end` before and after each line. Return its path."""
         return write_subtitle_file(self, [(begin, begin + DURATION, make_number_text(number, end))
                                     for number in range(count)
                                     for begin in [FIRST_TCI + DISTANCE * number]], name, 0, 20,
                                    justify)
 
     def profile(self, *args: str) -> list[str]:
-        """Run `--measure`, check that it prints a valid profile, and return its lines."""
         process = self.tool("qc", "--measure", *args)
         self.must(f"{args}", process.status == 0 and not process.told, process)
         read_profile(self.write("profile", process.out))

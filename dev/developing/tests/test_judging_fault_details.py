@@ -37,7 +37,6 @@ class FaultDetails(Case):
         "frame 00:00:0{}:05", "5 faults"], "s": ["refused 50 Character block {} at 1", "1 faults"]}
 
     def part(self, kind: str, number: int, stl: str) -> Part:
-        """Return a part that lasts one second, with its subtitles and the causes of its faults."""
         lines = [line.replace("{}", str(number)) for line in self.LINES[kind]]
         times = [f"00:00:0{at}:00" for at in (number, number + 1)]
         frames = range(25, 151, 25)

@@ -40,7 +40,6 @@ def cause(place: int, name: str, frames: int | None = None, words: str = "") -> 
 
 
 def make_causes(*several: Cause, count: int = 9, text: bytes = b"text") -> Any:
-    """Return the causes `several`, in a programme of `count` subtitles with the same text."""
     subtitles = [SimpleNamespace(begin=25 * at, end=25 * at + 20, name=f"subtitle {at + 1}")
                  for at in range(count)]
     page = (b" " * 40,) * 19 + (text.ljust(40),) + (b" " * 40,) * 4

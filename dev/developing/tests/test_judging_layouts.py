@@ -47,10 +47,7 @@ def write_texts(case: Case, texts: list[tuple[bytes, int]], name: str, dsc: byte
 
 def make_random_texts(chance: random.Random, has_codes: bool, between: bytes, count: int
                       ) -> list[tuple[bytes, int]]:
-    """Return `count` random texts of one or two lines, each with a justification code.
-
-    `has_codes` adds control codes to the lines. `between` separates the lines.
-    """
+    """Return `count` random texts of one or two lines, each with a justification code."""
     return [(between.join(line(chance, has_codes) for _ in range(chance.choice([1, 2, 2]))),
              chance.choice([2, 2, 2, 1, 3, 0])) for _ in range(count)]
 
@@ -58,10 +55,7 @@ def make_random_texts(chance: random.Random, has_codes: bool, between: bytes, co
 class OtherLayouts(Case):
     def judge(self, texts: list[tuple[bytes, int]], drawn: str, *args: str,
               sent: list[tuple[bytes, int]] | None = None) -> JudgedPair:
-        """Judge a subtitle file of `texts` with a recording of `sent` in the layout `drawn`.
-
-        If `sent` is not given, the recording contains `texts`.
-        """
+        """Judge a file of `texts` with a recording of `sent` or `texts` in the layout `drawn`."""
         number = str(len(os.listdir(self.folder)))
         stl = write_texts(self, texts, f"{number}.stl")
         other = write_texts(self, sent or texts, f"{number}.sent.stl")

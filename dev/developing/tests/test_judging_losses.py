@@ -28,7 +28,6 @@ def enlarge_pes_packets(data: bytes, count: int) -> bytes:
 
 def lost(result: list[Packet], count: int, is_announced: bool = False, frame: int = WRONG_PAGE_FRAME
          ) -> list[Packet]:
-    """Delete `count` TS packets of the Teletext PID, beginning with those of the frame `frame`."""
     return remove_packets_at(result, frame * TICKS, count, is_announced)
 
 
@@ -42,10 +41,7 @@ class HiddenPages(ProgrammeCase):
                 *sent[WRONG_PAGE_INDEX + 1:]]
 
     def make_stream_packets(self, sent: SentPes, first: int, count: int, size: int) -> list[Packet]:
-        """Return a multiplex with the PES packets of `sent`.
-
-        `count` of them, from the index `first` on, are extended to `size` TS packets.
-        """
+        """Return a stream of `sent`; `count` PES packets from `first` on fill `size` TS packets."""
         result = [make_pes_packet(pts, packets) for pts, packets in sent]
         result[first:first + count] = [enlarge_pes_packets(item, size)
                                        for item in result[first:first + count]]

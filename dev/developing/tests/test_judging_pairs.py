@@ -122,7 +122,6 @@ class UnreadablePackets(ProgrammeCase):
 
 class PtsSteps(Case):
     def pair(self, *args: str, count: int = 0) -> PairJudge:
-        """Return a `PairJudge` for a pair with the options `args` and `count` judged parts."""
         verdict, nothing = make_part_verdict([make_part(0, 9, 0, number=number)
                                               for number in range(1, count + 1)]), mock.Mock()
         verdict.request = make_example_request("one.stl", "one.pes", *args)

@@ -220,14 +220,12 @@ def send_fields_together(sent: SentPes) -> SentPes:
 
 
 def delay_rows_of_pages(sent: SentPes, by: int = 1) -> SentPes:
-    """Return the transmission with rows sent `by` frames after their header."""
     return [item for pts, packets in sent for item in (
         [(pts, packets)] if len(packets) == 2
         else [(pts, packets[:1]), (pts + TICKS * by, packets[1:])])]
 
 
 def spread_over_three_frames(sent: SentPes) -> SentPes:
-    """Return the transmission with the header, the first row and the second row in three frames."""
     return [(pts + TICKS * number, part) for pts, packets in sent for number, part in enumerate(
         [packets] if len(packets) == 2 else [packets[:1], packets[1:2], packets[2:]])]
 

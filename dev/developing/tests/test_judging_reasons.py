@@ -206,7 +206,6 @@ CLEAR = "C4 (erase page) is clear"
 
 
 def change_subcode(header: bytes, digit: int) -> bytes:
-    """Return the header values with a different first digit of the subcode."""
     return header[:2] + bytes([digit]) + header[3:]
 
 

@@ -70,7 +70,6 @@ class RefusedSubtitles(Case):
         self.pes = self.write("one.pes", join_pes_packets(self.sent))
 
     def write_stl(self, *bad: int) -> str:
-        """Write the subtitle file, with an unsupported character in the subtitles `bad`."""
         return self.write("bad.stl", make_stl_of_blocks([
             (begin, end, BAD if number in bad else text)
             for number, (begin, end, text) in enumerate(self.blocks, 1)]))

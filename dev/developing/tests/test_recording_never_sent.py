@@ -287,7 +287,6 @@ class SourcesWithoutPage(ProgrammeCase):
     words = ("--every", "25")
 
     def blank(self, first: int = 0, last: int = 1 << 30) -> SentPes:
-        """Return the transmission with the rows between two frames removed."""
         return [(pts, [packets[0], packets[-1]] if first <= pts // TICKS <= last and packets
                  else packets)
                 for pts, packets in self.sent]

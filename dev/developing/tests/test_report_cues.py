@@ -27,7 +27,6 @@ def page(text: bytes) -> Rows:
 
 
 def make_timeline_of_pages(*changes: tuple[int, Rows]) -> Timeline:
-    """Return a timeline of 1000 frames with pages decoded at these frames."""
     decoded = Timeline(Packets(PES), (0, 0x88), 0)
     decoded.first, decoded.last = 0, 1000
     for frame, rows in changes:

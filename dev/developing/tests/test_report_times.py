@@ -35,7 +35,6 @@ def make_random_subtitles_at(chance: random.Random) -> list[TimedSubtitle]:
 
 
 def edit_subtitles(subtitles: list[TimedSubtitle], chance: random.Random) -> list[TimedSubtitle]:
-    """Move or misspell a quarter of the subtitles, except the first and last subtitle."""
     changed = [*subtitles]
     for place in chance.sample(range(1, COUNT - 1), COUNT // 4):
         (begin, end, text), before, after = changed[place], changed[place - 1], changed[place + 1]

@@ -49,7 +49,6 @@ MODE_OPTIONS = {"--batch", "--watch", "--collect", "--measure", "--help", "-h", 
 
 
 def list_option_arguments(name: str, folder: str) -> list[str]:
-    """Return an option with a valid value, as arguments."""
     if name == "--profile":
         return [name, os.path.join(folder, "house")]
     return [name, VALUES[name]] if name in VALUES else [name]

@@ -188,7 +188,6 @@ class UntrustedResults(Case):
         return words
 
     def read_all_results(self) -> list[dict[str, Any]]:
-        """Collect the results in a folder, and return the pairs of the JSON output."""
         words, typed = self.words(), CommandPaths("tools/qc", self.bench.program)
         with contextlib.redirect_stdout(io.StringIO()), contextlib.redirect_stderr(io.StringIO()):
             status = collection.collect(words)

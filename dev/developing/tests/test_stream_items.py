@@ -101,13 +101,11 @@ def draw_rows(text: bytes, justify: int, layout: Layout, row: int = 18) -> tuple
 
 
 def draw_sent_subtitles(several: Sequence[SentText], layout: Layout = PLAIN) -> list[SentSubtitle]:
-    """Return the subtitles that are transmitted for these texts in a layout."""
     return [SentSubtitle(item.text, 18, item.justify, draw_rows(item.sent, item.justify, layout))
             for item in several]
 
 
 def plain(count: int) -> list[SentText]:
-    """Return texts that are transmitted unchanged."""
     return [SentText(text, text) for at in range(count)
             for text in [SHORT_TEXTS[at % len(SHORT_TEXTS)]]]
 

@@ -79,7 +79,6 @@ def encode_printed_text(printed: str) -> bytes:
 
 
 def draw_with_program(text: bytes, row: int, justify: int, layout: Layout) -> str:
-    """Return the rows that a layout draws, in the notation of DRAWN."""
     result = draw_text(text, row, justify, layout, ENGLISH)
     if isinstance(result, TextFault):
         return f"{result.number} at {result.at}"

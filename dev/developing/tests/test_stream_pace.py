@@ -38,10 +38,7 @@ class Row(NamedTuple):
 
 
 def remove_frames(frames: Sequence[int], *holes: tuple[int, int]) -> list[int]:
-    """Return the frames without those in `holes`.
-
-    A hole is a pair: a frame, and the number of missing frames after it.
-    """
+    """Return the frames outside `holes`. A hole is a frame and a number of missing frames."""
     missing = {frame for first, count in holes for frame in range(first + 1, first + 1 + count)}
     return [frame for frame in frames if frame not in missing]
 
@@ -74,7 +71,6 @@ def measure_regular_pace(name: str, *rows: Sequence[int], frames: int = 2, each:
 
 def measure_pes_pace(name: str, *rows: Sequence[int], frames: int = 1, every: int = 250,
                      pauses: Pauses = (), closer: int = 0) -> Row:
-    """Return a test case in which the PES packets of a file are regularly spaced."""
     return Row(name, rows, REGULAR, frames, 1, every, pauses, closer, False)
 
 
@@ -317,7 +313,6 @@ TIMES = [(BEGIN + 250 * at, BEGIN + 250 * at + 200) for at in range(6)]
 
 
 def fill_missing_frames(sent: SentPes) -> SentPes:
-    """Insert a PES packet without Teletext into each frame that has no PES packet."""
     known = dict(sent)
     return [(pts, known.get(pts, [])) for pts in range(sent[0][0], sent[-1][0] + 1, TICKS)]
 

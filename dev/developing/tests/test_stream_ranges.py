@@ -23,7 +23,6 @@ BAD = b"no letter: \xe6"
 
 
 def three(first: int) -> list[tuple[int, int]]:
-    """Return the start and end frames of three subtitles that follow frame `first`."""
     return [(first + 50 * at, first + 50 * at + 40) for at in range(1, 4)]
 
 

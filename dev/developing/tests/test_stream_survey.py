@@ -55,7 +55,6 @@ def make_video_packet_at(pts: int | None, dts: int | None = None, stream_id: int
 
 class VideoLeadLines(Case):
     def lines_of(self, *programmes: Programme, frames: int = 60) -> list[str]:
-        """Return the `lead` lines of a recording with these programmes."""
         return list_lines_of_kinds(self, multiplex_programmes(programmes, frames).data, "lead")
 
     def test_prints_the_video_lead_once_a_second(self) -> None:

@@ -26,7 +26,6 @@ CLOSING = make_packet(0, 0, [15, 15, 15, 7, 15, 3, 0, 0], b" " * 32)
 
 
 def make_numbered_row(number: int, text: bytes) -> bytes:
-    """Return a packet with one row of page 888."""
     return make_packet(0, number, (), b"\x0b\x0b" + text.ljust(38))
 
 
@@ -114,7 +113,6 @@ def make_delay(by: int, first: int = 0, last: int = 1 << 40) -> Change:
 
 
 def delay_subtitle(number: int, by: int) -> Change:
-    """Return a function that delays the page transmissions of one subtitle by `by` frames."""
     begin = EACH * number * TICKS
     return make_delay(by, begin, begin + LASTS * TICKS - 1)
 
@@ -133,7 +131,6 @@ def write_pipe(case: Case, data: bytes, path: str = "") -> str:
 
 
 def start_feed(path: str, data: bytes) -> None:
-    """Write bytes to an existing named pipe in the background."""
     os.mkfifo(path)
     threading.Thread(target=feed_pipe, args=(path, data), daemon=True).start()
 

@@ -31,7 +31,6 @@ class WiderScenario(Scenario):
         return super().add_fault(sent) if self.has_chance(40) else sent
 
     def write(self, name: str, subtitles: list[WrittenSubtitle]) -> None:
-        """Write a subtitle file, sometimes with another language or a changed field."""
         super().write(name, subtitles)
         if name == "one.stl" and self.has_chance(25):
             with open(name, "r+b") as file:
@@ -113,13 +112,11 @@ class WiderScenario(Scenario):
                 pid]
 
     def repeat(self, packets: list[bytes]) -> list[bytes]:
-        """Send each packet of a random PID twice in a random range of the stream."""
         pid, run = self.chance.choice(PIDS), self.choose_random_run(packets)
         return [item for at, packet in enumerate(packets)
                 for item in [packet] * (1 + (at in run and read_packet_pid(packet) == pid))]
 
     def move_pid(self, packets: list[bytes]) -> list[bytes]:
-        """Move the Teletext to another PID, with or without a new PMT."""
         first, is_told = self.choose_random_run(packets, TELETEXT_PID)[0], self.has_chance(80)
         table = program_map(1, [(VIDEO_PID, MPEG_2, b""),
                                 (SECOND_PID, PRIVATE, make_teletext_descriptor())], VIDEO_PID)
