@@ -186,7 +186,7 @@ WARNING = Record(
         "pts_behind", "pts_early", "pts_changed", "page", "type", "language", "option",
         "character_set", "repeat", "clock_jump", "pause", "blocks", "subtitles", "cut", "hidden")),
     Member("line", Text()),
-    Member("time", Maybe(TIME)))
+    Member("time", Maybe(TIME), "The time of the first occurrence."))
 
 TRUSTED = Record("trusted_frames", "", Member("part", PART),
                  Member("from", TIME), Member("to", TIME, "The last trusted frame."))
@@ -339,8 +339,7 @@ LISTS = (
            lambda known: make_faults(known.verdict)),
     Member("causes", ListOf(LISTED_CAUSE, MAX_LISTED_ITEMS),
            "Each cause also has a key named `part`.", list_cause_rows),
-    Member("subtitles", ListOf(CUE, MAX_SUBTITLES), "The list includes refused "
-           "subtitles. A fault between two subtitles belongs to neither.",
+    Member("subtitles", ListOf(CUE, MAX_SUBTITLES), "The list includes refused subtitles.",
            lambda known: list_subtitle_rows(known.verdict)))
 OMITTED = Record("omitted", "The number of items omitted from each list.", *(
     Member(one.name, COUNT) for one in LISTS))
