@@ -68,7 +68,7 @@ class OriginEstimate:
     airings: list[Range] = dataclasses.field(default_factory=list)
     breaks: int | None = None  # number of breaks, if it differs from --breaks
     ticks_late: int | None = None  # delay of the first part relative to the known origin
-    # Whether all cues of the first part match, or are constantly late or early (`CueOffset`)
+    # Whether all cues of the first part match, or all its in-cues (or out-cues) share a delay
     has_all_cues: bool = True
     matches_every_cue: bool = False  # whether every cue of the file matches the expected page
     first_shift: int | None = None  # first frame from which the delay is different

@@ -391,7 +391,8 @@ class Causes:
     def compare_before(self, frame: int) -> None:
         """Compare the decoded pages with the expected pages before `frame`, the first judged frame.
         Do so only if the recording shows whether the first subtitle is early or late: it must have
-        a page at the first TCI, or begin at least as long before this TCI as `frame` follows it."""
+        a page at the first TCI, or begin before this TCI by at least the time from the TCI to
+        `frame`."""
         begin, held = self.expected.begins[0], self.timeline
         if not (held.frames and held.frames[0] <= begin or
                 self.find_covered_span().first <= 2 * begin - frame):

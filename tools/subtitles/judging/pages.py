@@ -119,7 +119,8 @@ def describe_row_ends(due: bytes, sent: bytes) -> str:
 
 
 def find_extent(row: bytes) -> tuple[int, int]:
-    """Return the first column without a space, and the column after the last one."""
+    """Return the column of the first cell that is no space, and the column after the last such
+    cell."""
     return len(row) - len(row.lstrip(b" ")), len(row.rstrip(b" "))
 
 

@@ -364,7 +364,7 @@ def describe_first_fault(facts: Facts) -> str:
 
 def describe_other_faults(facts: Facts) -> str:
     """Describe the faults with other numbers than the first fault. Omit the numbers in
-    `WITH_CAUSE`, since these faults are described by their causes."""
+    `FAULTS_WITH_CAUSE`, since these faults are described by their causes."""
     first = facts.first.number if facts.first else None
     others = [count for count in facts.counts
               if count.number not in FAULTS_WITH_CAUSE and count.number != first]

@@ -160,7 +160,7 @@ def refuse_wrong_clock(search: PartSearch, recording: Recording, part: TimedPart
 
 
 def describe_wrong_clock(request: Request, clock: Clock, delay: int) -> str:
-    """Describe by how much a given clock is wrong: the subtitles are `delay` frames late by it."""
+    """Describe how wrong a given clock is. With this clock, subtitles are `delay` frames late."""
     if clock.source == GIVEN:
         return f"with --origin {clock.origin}, all subtitles would be " \
             f"{describe_duration(abs(delay))} {'late' if delay > 0 else 'early'}, so the " \

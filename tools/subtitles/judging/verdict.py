@@ -130,17 +130,12 @@ class Unjudged(NamedTuple):
 
 @dataclasses.dataclass
 class Verdict:
-    """The result of judging a pair. Its texts appear here:
+    """The result of judging a pair, with the texts about it.
 
-        word                   JSON, CSV, JUnit, reports; decides the exit status
-        line                   the last line on standard output; JSON, CSV
-        worst_line             reports, tables of many pairs, JUnit, JSON: with the worst fault
-        sentence               standard output, before the last line; reports, JSON, CSV
-        format_part_lines      standard output, first: a line for each of several parts
-        list_notes             reports and JSON; standard error has only `notes`
-        estimated_clock_note   standard output; elsewhere in `list_notes`
-        unjudged_reason        standard error, reports, JUnit; JSON and CSV as `reason`
-        suggestions            standard error, reports; if the pair is not judged
+    `sentence` and `line` are the last lines on standard output. `format_part_lines` and
+    `estimated_clock_note` come before them. Standard error has `notes`, `unjudged_reason` and
+    `suggestions`. Reports and tables of many pairs show `worst_line` instead of `line`; JSON has
+    both. Reports and JSON have the notes from `list_notes`.
     """
 
     request: Request
@@ -276,8 +271,8 @@ class Verdict:
         return clock.delay_frames or 0 if clock and is_measured else 0
 
     def add_transmission_facts(self, facts: Facts, valid_subtitles: ValidSubtitles) -> Facts:
-        """Return a copy of `said` with facts about the transmission added, for a file with refused
-        subtitles. `beside` holds the valid subtitles, which are judged nevertheless."""
+        """Return a copy of `facts` with facts about the transmission added, for a file with refused
+        subtitles. `valid_subtitles` holds the other subtitles, which are judged nevertheless."""
         outputs = [part.check_output for part in self.parts]
         parts = [part for part in self.parts if part.worst_transmission_fault]
         part = find_worst_part(parts, lambda item: item.worst_transmission_fault)
@@ -331,7 +326,7 @@ class Verdict:
 
     @property
     def worst_line(self) -> str | None:
-        """Return the first line of reports and batch tables: a `line` about the worst fault."""
+        """Return the line for reports and batch tables. It names the worst fault, not the first."""
         if self.worst_named_fault:
             return self.format_check_line(self.worst_named_fault.line)
         return self.format_check_line(self.worst_part.first_text if self.worst_part else None)

@@ -192,8 +192,8 @@ def find_repeat_notices(headers: Sequence[int], request: Request, origin: int,
                      "to notice a missing repeat")
 
 
-# Uncertainty of a PMT's time, in ticks. The time is that of the last PCR in the list, which has one
-# PCR a second.
+# Uncertainty of a PMT's time, in ticks. A PMT is dated by the last PCR listed before it, and PCRs
+# are listed once a second.
 PMT_TOLERANCE = 2 * SECOND
 
 
@@ -242,7 +242,7 @@ def find_unsent(announced: Sequence[Announcement], carriers: Collection[int], be
               end: int) -> Announcement | None:
     """Return the first announcement, between the PTS `begin` and `end`, of a page that is sent only
     on other PIDs, if there is one. `carriers` has the PIDs that send the page. If a programme
-    announces the page on a PID in `carriers`, ignore programmes that do not."""
+    announces the page on one of these PIDs, ignore the programmes that do not."""
     carrying_programmes = {announcement.number for announcement in announced if announcement.pids &
                            {*carriers}}
     return next((announcement for announcement in announced

@@ -50,8 +50,8 @@ def copy_piped(name: str, path: str, printer: Printer) -> SummedFile:
 
 
 OUTPUT = "/dev/stdout"  # file name with which the program writes to standard output
-# In Teletext, a PES header has 45 bytes (EN 300 472). The last of its `FIXED_HEADER_BYTES` first
-# bytes, PES_header_data_length, is the number of header bytes after them: `TELETEXT`.
+# In Teletext, a PES header has 45 bytes (EN 300 472): 9 fixed bytes, and 36 (24 hex) more. The last
+# fixed byte is PES_header_data_length, the number of header bytes that follow.
 HEADER_LENGTH_OFFSET, FIXED_HEADER_BYTES, TELETEXT = 8, 9, 0x24
 
 
