@@ -178,8 +178,8 @@ class ValidSubtitles(NamedTuple):
 
 def has_valid_subtitles(numbers: set[int]) -> bool:
     """Return whether `check` judges some subtitles although others are refused. `numbers` contains
-    the fault numbers for the subtitle file alone. If subtitles were judged, they include `EMPTY`,
-    the fault for missing PES packets."""
+    the fault numbers for the subtitle file alone. If subtitles were judged, these numbers include
+    `EMPTY`, the fault for missing PES packets."""
     return EMPTY in numbers and bool(numbers & STL_FAULTS)
 
 

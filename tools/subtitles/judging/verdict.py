@@ -316,7 +316,7 @@ class Verdict:
     def line(self) -> str | None:
         """Return the last line on standard output. This is the line of `check` for the first error.
         Without errors it is the line for the first waived fault. Without faults it is the
-        `accepted` line; if there are several parts, it has the sum of their frames."""
+        `accepted` line, with the total number of frames if there are several parts."""
         faults: list[FaultLine | NamedFault] = [
             fault for part in self.parts for fault in part.check_output.first_faults.values()]
         faults += self.named_faults

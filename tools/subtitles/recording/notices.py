@@ -182,8 +182,7 @@ def find_pause_notices(pts: Sequence[int], request: Request, origin: int) -> Ite
 
 def find_repeat_notices(headers: Sequence[int], request: Request, origin: int,
                         times: list[tuple[int, int]]) -> Iterator[Notice]:
-    """Yield a warning if the page is repeated so often that --every does not show a missing repeat.
-    """
+    """Yield a warning if --every is too long to show a missing repeat of the page."""
     every = repeat_distance((compute_frame(pts, origin, request.within) for pts in headers),
                             list_cue_frames(times))
     if every is not None and every * 2 < request.every:
@@ -321,7 +320,7 @@ def find_origin(request: Request, survey: Survey, pid: int) -> int | None:
 def refuse_dead_source(request: Request, survey: Survey, packets: Packets,
                 times: Sequence[tuple[int, int]]) -> None:
     """Raise `NeverSent` if a subtitle is expected in the recording, but no row of the page is sent
-    from the first TCI to the last TCO.
+    before the last TCO.
 
     If the origin is unknown, search the whole recording for rows. Return if no header of the page
     is sent, since the page may be the wrong one, or if some PES packets can't be read. `times` has
