@@ -13,15 +13,15 @@ from .survey import Survey
 
 SECOND = 90_000  # ticks
 MAX_LISTED_PLACES = 20  # maximum number of places to list
-PAUSE = 10  # if a PCR step has less than 1/10 of the usual TS packets, the clock jumped
+PAUSE = 10  # the clock jumped if a PCR step has less than 1/10 of the usual number of TS packets
 
 
 @dataclasses.dataclass
 class LossPlace:
     """A place between two PES packets where packets are missing."""
 
-    before: int | None  # PTS of the PES packet before it
-    after: int | None = None  # PTS of the PES packet after it
+    before: int | None  # PTS of the PES packet before the place
+    after: int | None = None  # PTS of the PES packet after the place
     # Number of missing TS packets according to the continuity counters, which count modulo 16 and
     # show no loss at an announced jump
     lost: int = 0
@@ -60,7 +60,7 @@ def find_loss_places(packets: Packets, announced: Iterable[PTSPair] = ()) -> lis
 
 
 def find_pcr_loss(pcr_step: PCRStep) -> LossPlace | None:
-    """Return the loss that a late PCR shows, or `None` if no other PID lost packets."""
+    """Return the loss that a late PCR shows, if the counters of other PIDs show a loss too."""
     if pcr_step.counters != "broken" or pcr_step.ticks <= 0:
         return None
     return LossPlace(pcr_step.before, pcr_step.after,
@@ -83,7 +83,7 @@ def is_within(ticks: int, place: LossPlace) -> bool:
 
 
 def do_overlap(place: LossPlace, other: LossPlace) -> bool:
-    """Return whether neither of two places is after the other."""
+    """Return whether two places overlap."""
     return not is_after(place, other) and not is_after(other, place)
 
 
@@ -109,7 +109,7 @@ def describe_loss(place: LossPlace) -> str:
 
 
 def describe_loss_place(place: LossPlace, first: int | None) -> str:
-    """Describe the PTS and missing packets of a place. `first` is the recording's first PTS."""
+    """Describe a loss: its PTS and its missing packets. `first` is the recording's first PTS."""
     known = [pts for pts in (place.before, place.after) if pts is not None]
     names = " and ".join(map(str, known))
     times = " and ".join(format_frame(wrap_pts(pts - (first or 0)) // TICKS) for pts in known)
@@ -119,16 +119,15 @@ def describe_loss_place(place: LossPlace, first: int | None) -> str:
 
 
 def limit_lines(lines: Sequence[str]) -> list[str]:
-    """Return the first `MAX_LISTED_PLACES` lines and, if there are more, a line with their
-    number."""
+    """Return the first `MAX_LISTED_PLACES` lines. If more exist, add a line with their number."""
     more = len(lines) - MAX_LISTED_PLACES
     return [*lines[:MAX_LISTED_PLACES],
             *([f"and at {counted(more, 'more place')}"] if more > 0 else [])]
 
 
 def describe_gap_markers(packets: Packets) -> list[str]:
-    """Return a line for each gap marker. If there are too many, the last line has the number of the
-    omitted ones."""
+    """Return a line for each gap marker. If there are more than `MAX_LISTED_PLACES`, the last line
+    has the number of omitted gap markers."""
     first = next(packets.pts(), None)
     lines = [describe_loss_place(place, first) for place in find_loss_places(packets)
              if place.gap_marker is not None]
@@ -139,8 +138,8 @@ def describe_gap_markers(packets: Packets) -> list[str]:
 
 
 def explain_refusal(packets: Packets) -> str | None:
-    """Return why a PID has no Teletext or why reading stopped. Return `None` if all PES packets are
-    Teletext."""
+    """Return the reason why a PID has no Teletext or why reading stopped. Return `None` if all PES
+    packets are Teletext."""
     name = format_pid(packets.pid)
     if not packets.refusal and packets.count:
         return None
@@ -161,7 +160,7 @@ def explain_refusal(packets: Packets) -> str | None:
 
 # Anomalies of the distance between PTS and PCR, sampled once a second
 
-MAX_LATE = 60  # number of samples, one a second, among which the largest distance is searched
+MAX_LATE = 60  # number of samples, taken once a second, of which the largest distance is used
 ANOMALY_TEXTS = {"behind": "are behind the PCR", "early": "are more than a second ahead of the PCR",
                  "changed": "moved relative to the PCR by more than half a second"}
 
@@ -178,8 +177,8 @@ class PTSAnomaly(NamedTuple):
 
 
 def find_pts_anomalies(packets: Packets) -> Iterator[PTSAnomaly]:
-    """Yield the anomalies of the PTS. The usual distance to the PCR is the median of the first
-    minute."""
+    """Yield the anomalies of the PTS. The usual distance to the PCR is the median of the distances
+    in the first minute."""
     samples = packets.samples
     first = [ticks_ahead for pts, ticks_ahead in samples
              if 0 <= subtract_pts(samples[0][0], pts) <= 60 * SECOND]
@@ -195,7 +194,7 @@ def find_pts_anomalies(packets: Packets) -> Iterator[PTSAnomaly]:
 
 
 def find_pts_delay(packets: Packets) -> int:
-    """Return the largest delay of recent PTS behind the PCR, in ticks."""
+    """Return the largest number of ticks by which a recent PTS is behind the PCR, or 0."""
     return max([0, *(-ticks_ahead for _, ticks_ahead in packets.samples[-MAX_LATE:])])
 
 

@@ -24,7 +24,7 @@ from .receiver import Rows, Timeline
 # Codes that `check` refuses unless the layout strips them.
 UNUSUAL_CODES = {code for code in CODES if code not in COMMON}
 BOX_CODES, LINE_CODES = b"\x0a\x0b", b"\x0a\x0b\x0d"
-MIN_SUBTITLES, MIN_TENTHS = 10, 9  # at least 10 subtitles, of which 9/10 must be drawn as sent
+MIN_SUBTITLES, MIN_TENTHS = 10, 9  # a layout must draw 9/10 of at least 10 subtitles as sent
 MAX_STRIP_CODES = 5  # maximum number of codes for which all combinations are tried
 MAX_KEPT_CANDIDATES = 6
 Element = TypeVar("Element")
@@ -52,7 +52,7 @@ class SentLine(NamedTuple):
 
 
 def is_found(sent: SentSubtitle, option: NationalOption) -> bool:
-    """Return whether a subtitle has characters and the page has the same characters."""
+    """Return whether a subtitle has text, and its page has the same characters."""
     letters = encode_text_characters(sent.text, option)
     return bool(letters) and list_page_characters(sent.rows) == letters
 
@@ -98,8 +98,8 @@ def most(counts: Counter[Element], size: int) -> list[Element]:
 
 def find_line_beginnings(lines: Counter[tuple[bytes, bytes]],
                          trim: bool) -> list[tuple[bool, bytes, bytes]]:
-    """Return the most frequent ways to begin a line: `white` (whether white is added to a line
-    without a colour), and the codes to add before and after the line's own leading codes."""
+    """Return the most frequent beginnings of lines. Each has three parts: whether white is added to
+    a line without a colour, and the codes to add before and after the line's leading codes."""
     # Counts of pairs: the leading codes of a line, and the leading codes of the row sent for it.
     line_counts = Counter[tuple[bytes, bytes]]()
     for (cells, sent), count in lines.items():
@@ -140,8 +140,8 @@ def find_ends(lines: Counter[tuple[bytes, bytes]]) -> list[bytes]:
 
 
 def find_line_layouts(pairs: Sequence[SentLine]) -> list[Layout]:
-    """Return the layouts that draw the cells of most lines as sent, best first. Rows and columns of
-    the lines don't count."""
+    """Return the layouts that draw the cells of the most lines exactly as sent, sorted from best to
+    worst. Ignore the rows and columns of the lines."""
     scores = Counter[Layout]()
     for strip, trim in itertools.product(find_codes_to_strip(pairs), (False, True)):
         all_lines = Counter((remove_codes(pair.cells, strip), pair.sent) for pair in pairs)
@@ -175,7 +175,7 @@ def make_bit_set(places: Iterable[int]) -> int:
 def find_row_layouts(layout: Layout, pairs: Sequence[SentLine],
                      all_lines: Sequence[Sequence[bytes]],
                      subtitles: Sequence[SentSubtitle]) -> Iterator[tuple[Layout, int]]:
-    """Yield variants of a layout that differ in the rows of lines, each with a bit mask of the
+    """Yield variants of a layout that place lines in other rows, each with a bit mask of the
     subtitles that have a line in a wrong row."""
     lines = [[prepare_line(remove_codes(line, layout.strip), layout) for line in all_line]
              for all_line in all_lines]
@@ -193,7 +193,7 @@ def find_row_layouts(layout: Layout, pairs: Sequence[SentLine],
 
 def find_column_layouts(layout: Layout, pairs: Sequence[SentLine], subtitles: Sequence[SentSubtitle]
               ) -> Iterator[tuple[Layout, int]]:
-    """Yield variants of a layout that differ in the columns of lines, each with a bit mask of the
+    """Yield variants of a layout that place lines in other columns, each with a bit mask of the
     subtitles that have a wrong line."""
     wrong_places, kinds = set[int](), dict[tuple[bytes, int, int], set[int]]()
     for pair in pairs:
@@ -234,7 +234,7 @@ def count_misdrawn(layout: Layout, subtitles: Sequence[SentSubtitle], option: Na
 
 
 def simplify(layout: Layout, subtitles: Sequence[SentSubtitle], option: NationalOption) -> Layout:
-    """Return a layout without the items whose removal makes no further subtitle wrong."""
+    """Remove each item of a layout that does not reduce the number of wrongly drawn subtitles."""
     most = count_misdrawn(layout, subtitles, option, len(subtitles))
     for names in (("strip",), ("before", "behind"), ("behind",), ("after",), *(
             (name,) for name in Layout._fields[4:])):
@@ -273,35 +273,35 @@ def find_candidates(subtitles: Sequence[SentSubtitle], option: NationalOption) -
 
 # Evidence for the items of a layout
 #
-# The layout that draws the largest number of subtitles as sent may have an item that only
-# reproduces a wrongly sent page. So each item needs evidence: subtitles that the layout draws
-# differently without the item. Items can cancel each other, as `last` and `row=1` do for a text of
-# two lines, so each group of items needs evidence too. An item that removes something visible needs
-# the operator's decision.
+# The layout that draws the most subtitles as sent may contain an item that only reproduces a
+# wrongly sent page. So each item needs evidence: subtitles that the layout draws differently
+# without the item. Items can cancel each other, as `last` and `row=1` do for a text of two lines,
+# so each group of items needs evidence too. An item that removes something visible needs the
+# operator's decision.
 
-STAR = "*"  # name of the item for codes after a line's own leading codes
+STAR = "*"  # name of the item for codes inserted after the leading codes of a line
 SINGLE_VALUE_ITEMS = ("after", "fit", "white", "trim", "text", "up", "left", "right", "free",
                       "double", "pack", "last", "row")
 MAX_ITEMS = 12  # maximum number of items for which all groups are tried
 # Visible codes of a text: colours other than white, flash, backgrounds.
 VISIBLE_CODES = (*range(0x01, 0x07), 0x08, 0x1C, 0x1D)
-RESTORABLE_CODES = (DOUBLE, START_BOX)  # codes that `before` may restore
+RESTORABLE_CODES = (DOUBLE, START_BOX)  # stripped codes that the item `before` can add again
 # Codes that replace the colour, flash or double height of a line if they come after its own codes.
 OVERRIDING_CODES = (*COLOURS, 0x09, 0x0C)
 FLASH = 0x08
-BOXES_SHOWN = 2  # number of start boxes that libzvbi needs before a line to show the line
+BOXES_SHOWN = 2  # number of start boxes that libzvbi needs in order to show a line
 MAX_MOVED_ROWS = 2  # maximum number of rows by which a broadcaster is likely to move all lines
-LayoutItem = tuple[str, int]  # name of an item, and the code for `strip`
+LayoutItem = tuple[str, int]  # name of an item; for `strip` also the removed code, else 0
 Group = frozenset[LayoutItem]
-Page = Optional[Rows]  # the page that a layout draws, if it can
+Page = Optional[Rows]  # page that a layout draws, or `None` if it can't draw the text
 
 
 class ItemEvidence(NamedTuple):
     """The evidence for the layout items in `text`."""
 
     text: str
-    redrawn: int  # number of subtitles whose drawing changes without the items
-    as_sent: int  # number of these that are drawn as sent with the items
+    redrawn: int  # number of subtitles that are drawn differently without the items
+    as_sent: int  # number of redrawn subtitles that are drawn as sent with the items
 
     @property
     def has_evidence(self) -> bool:
@@ -310,32 +310,31 @@ class ItemEvidence(NamedTuple):
 
 
 class RejectedItems(NamedTuple):
-    """Items that were not accepted."""
+    """Layout items that lack evidence or that only the operator can accept."""
 
     text: str
-    # Number of further subtitles that would be drawn as sent with these items
-    more: int
-    whole: str  # the layout with these items
+    more: int  # number of further subtitles that are drawn as sent if the items are added
+    whole: str  # value of `--layout` with the items added
 
 
 class LayoutChoice(NamedTuple):
     """A layout with the evidence for its items."""
 
     layout: Layout
-    as_sent: int  # number of found subtitles that it draws as they were sent
-    total: int  # number of found subtitles
+    as_sent: int  # number of subtitles that the layout draws as they were sent
+    total: int  # number of subtitles whose characters were decoded
     items: tuple[ItemEvidence, ...] = ()
     left: tuple[RejectedItems, ...] = ()  # rejected items that would draw more subtitles as sent
 
     @property
     def is_clear(self) -> bool:
-        """Return whether this is probably the broadcaster's layout."""
+        """Return whether the layout is probably the broadcaster's."""
         return self.total >= MIN_SUBTITLES and self.as_sent * 10 >= self.total * MIN_TENTHS
 
 
 def list_items(layout: Layout) -> list[LayoutItem]:
     """Return the items of a layout. Each stripped code is an item of its own. `STAR` is the item
-    for codes after a line's own leading codes."""
+    for codes inserted after the leading codes of a line."""
     items = [("strip", code) for code in layout.strip]
     if (layout.before, layout.behind) != (PLAIN.before, PLAIN.behind):
         items.append(("before", 0))
@@ -390,14 +389,14 @@ def find_questionable_items(layout: Layout) -> Group:
 
 
 class Evidence:
-    """The found subtitles, and the pages that layouts draw for them."""
+    """The subtitles found in a recording, and the pages that layouts draw for them."""
 
     def __init__(self, subtitles: Sequence[SentSubtitle], option: NationalOption) -> None:
         self.subtitles, self.option = subtitles, option
         self.known: dict[Layout, list[Page]] = {}
 
     def page(self, sent: SentSubtitle, layout: Layout) -> Page:
-        """Return the page that a layout draws for a subtitle, or `None` if it can't."""
+        """Return the page that a layout draws for a subtitle, or `None` if the text has a fault."""
         lines = draw_text(sent.text, sent.row, sent.justify, layout, self.option)
         return None if isinstance(lines, TextFault) else make_page_rows(lines)
 
@@ -408,7 +407,7 @@ class Evidence:
         return self.known[layout]
 
     def count(self, layout: Layout) -> int:
-        """Count the subtitles that a layout draws as sent."""
+        """Count the subtitles that a layout draws exactly as they were sent."""
         return sum(page == sent.rows for page, sent in zip(self.pages(layout), self.subtitles))
 
     def measure_evidence(self, layout: Layout, group: Iterable[LayoutItem],
@@ -428,9 +427,9 @@ class Evidence:
         return ItemEvidence(text, decisive_count, sent_count)
 
     def find_unsupported(self, layout: Layout) -> Group | None:
-        """Return the group of items without enough evidence that changes the smallest number of
-        subtitles, or `None` if every group has enough. If there are more than `MAX_ITEMS` items,
-        return a single item."""
+        """Among the groups of items that lack evidence, return the group that changes the fewest
+        subtitles. Return `None` if every group has evidence. If there are more than `MAX_ITEMS`
+        items, return a single item."""
         items = list_items(layout)
         has_few_items = len(items) <= MAX_ITEMS
         sizes = range(1, len(items) + 1) if has_few_items else (1,)
@@ -462,9 +461,9 @@ class Evidence:
 
     def find_rejected_items(self, layout: Layout, removed_groups: Sequence[Group],
                             whole: Layout) -> list[RejectedItems]:
-        """Return the removed groups of items that would make a layout draw more subtitles as sent.
-        `whole` is the layout with all of these groups. If it draws even more, append all groups as
-        one entry."""
+        """Return the removed groups of items with which a layout would draw more subtitles as sent.
+        `whole` is the layout with all these groups. If `whole` draws even more subtitles as sent,
+        append all groups as one entry."""
         count, left = self.count(layout), list[RejectedItems]()
         for group in removed_groups:
             other, text = add_items(layout, group, whole), format_items(group, whole)
@@ -481,8 +480,8 @@ class Evidence:
 
 def choose_layouts(sent: Sequence[SentSubtitle],
                    option: NationalOption) -> tuple[LayoutChoice, LayoutChoice]:
-    """Return two layouts: the layout that draws the largest number of found subtitles as sent, and
-    a layout with sufficient evidence for each item, which can be recommended."""
+    """Return two layouts: the layout that draws the most subtitles as sent, and a layout that can
+    be recommended, since there is enough evidence for each of its items."""
     subtitles = [item for item in sent if is_found(item, option)]
     evidence = Evidence(subtitles, option)
     best = find_candidates(subtitles, option)
@@ -499,8 +498,8 @@ def choose_layouts(sent: Sequence[SentSubtitle],
 
 def find_sent_subtitles(subtitles: Iterable[Subtitle], held: Timeline,
                         option: NationalOption) -> list[SentSubtitle]:
-    """Return the subtitles during which a page with their characters was decoded, each with the
-    page that lasted longest."""
+    """Return the subtitles whose characters were decoded while they were expected. Each has the
+    page with these characters that lasted longest."""
     drawn_pages = []
     for subtitle in subtitles:
         letters = encode_text_characters(subtitle.text, option)
@@ -514,6 +513,6 @@ def find_sent_subtitles(subtitles: Iterable[Subtitle], held: Timeline,
 
 
 def count_shared_frames(held: Timeline, number: int, subtitle: Subtitle) -> int:
-    """Count the frames of a subtitle in which page `number` is decoded."""
+    """Count the frames in which a subtitle is expected and page `number` is decoded."""
     span = held.get_page_span(number)
     return min(span.last + 1, subtitle.end) - max(span.first, subtitle.begin)

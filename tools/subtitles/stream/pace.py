@@ -12,23 +12,22 @@ from .packets import Packets, Range
 from .repeats import MAX_CUE_DISTANCE
 
 
+# qc chooses the longest interval between PES packets that reveals every loss. It is worse to refuse
+# an intact recording than to note that a loss may be hidden.
+#
 # The continuity counter has four bits: it does not show a loss of 16 TS packets, and after a loss
-# of 15 the next packet looks like a repeat. But if PES packets are sent often enough, a longer
-# interval between them reveals the loss. A PES packet of Teletext has at most nine TS packets, so a
-# loss of 16 destroys at least two PES packets. In a PES file, which has no counter, a single PES
+# of 15 the next packet looks like a repeat. A PES packet of Teletext has at most nine TS packets,
+# so a loss of 16 destroys at least two PES packets. A PES file has no counter, so that a single PES
 # packet may be lost.
 #
 # The interval reveals every loss if the first TS packet of each PES packet has the PTS. Otherwise,
 # after a loss of 16 packets, the start of one PES packet may continue with the middle of another.
-#
-# Use the longest interval that reveals every loss. It is worse to refuse an intact recording than
-# to note that a loss may be hidden.
 
 MIN_PES_PACKETS = 100  # minimum number of PES packets for a measurement
 MAX_EXCEPTIONS, PART = 3, 1000  # maximum number of exceptions: three, or one in 1000
-# at least 1/20 of the intervals are usual, at most 1/100 are longer
+# An interval is usual if at least 1/20 of all have its length and at most 1/100 are longer.
 USUAL_SHARE, RARE_SHARE = 20, 100
-LOSS_DISTANCE = 17  # after a loss of 16 TS packets, the next one is the 17th
+LOSS_DISTANCE = 17  # distance of the TS packets before and after a loss of 16 packets
 # After a loss of two PES packets the next is the third; after a loss of one, the second.
 DISTANCE_IF_TWO_LOST, DISTANCE_IF_ONE_LOST = 3, 2
 UNITS = 4  # Teletext units in a TS packet; a PES header takes the place of one
@@ -54,13 +53,13 @@ class Pace(NamedTuple):
     """The intervals between PES packets, in frames."""
 
     kind: str
-    interval: int = 0  # longest usual interval, or the longest pause if PES packets pause
-    # Shortest interval after a loss. If PES packets are regular, `--pace` with one frame less than
-    # this reveals every loss, except at `hidden_places` of `total` places.
+    interval: int = 0  # longest usual interval, or the longest pause if the kind is `PAUSED`
+    # Shortest interval that a loss causes. If PES packets are regular, a `--pace` one frame shorter
+    # reveals every loss, except at `hidden_places` of `total` places.
     loss_interval: int = 0
     hidden_places: int = 0
     total: int = 0
-    # Whether an interval with two lost PES packets may be no longer than usual
+    # Whether the interval across two lost PES packets can be as short as a usual interval
     is_dense: bool = False
 
     @property
@@ -73,11 +72,11 @@ def compute_pace(rows: Sequence[Sequence[int]], packets_per_pes: int, every: int
                  pauses: Pauses = (), is_stream: bool = True) -> Pace:
     """Measure the intervals between PES packets.
 
-    Each of `rows` has the frames of PES packets between which no loss is known. A PES packet has at
-    most `packets_per_pes` TS packets. A page header is sent at least every `every` frames. `pauses`
-    are the spans without a subtitle. A few longer intervals count as losses, so that damage can't
-    change the result. If most longer intervals are caused by the inserter, the intervals are not
-    regular.
+    Each of `rows` contains the frames of PES packets between which no loss is known. A PES packet
+    has at most `packets_per_pes` TS packets. A page header is sent at least every `every` frames.
+    `pauses` are the spans without a subtitle. A few intervals longer than the usual ones count as
+    losses, so that damage can't change the result. If the inserter causes most of the longer
+    intervals, the intervals are not regular.
     """
     distances = count_distances(rows, 1)
     loss_distances = count_distances(rows, DISTANCE_IF_TWO_LOST if is_stream
@@ -112,8 +111,8 @@ def compute_pace(rows: Sequence[Sequence[int]], packets_per_pes: int, every: int
 
 def find_loss_distance(loss_distances: collections.Counter[int], usual_distance: int,
                        max_exceptions: int) -> int:
-    """Return the shortest interval in frames after a loss of two PES packets. If it does not exceed
-    the usual interval, ignore the `max_exceptions` shortest intervals."""
+    """Return the shortest interval, in frames, after a loss of two PES packets. If it does not
+    exceed the usual interval, skip `max_exceptions` intervals, beginning with the shortest."""
     least = min(loss_distances)
     return least if least > max(usual_distance, 1) else find_number_at_rank(loss_distances,
                                                                             max_exceptions, False)
@@ -121,7 +120,7 @@ def find_loss_distance(loss_distances: collections.Counter[int], usual_distance:
 
 def find_usual_distance(distances: collections.Counter[int], count: int,
                         max_exceptions: int) -> int | None:
-    """Return the usual interval if PES packets are dense (see `Pace`), such as two in a frame.
+    """Return the usual interval if PES packets are dense (see `Pace`), for example two in a frame.
     Return `None` if too many intervals are longer."""
     usual = max([1, *(frames for frames, frequency in distances.items()
                       if frequency * USUAL_SHARE >= count)])
@@ -146,10 +145,9 @@ def find_hidden_loss(rows: Sequence[Sequence[int]], packets_per_pes: int) -> int
 def select_idle_silences(silences: Sequence[Silence], every: int, pauses: Pauses) -> list[Silence]:
     """Return the silences in which the inserter had no PES packet to send.
 
-    These are silences near another silence, since another page of the PID may have ended; silences
-    that are longer than usual but allowed by `--every`; and silences outside of the programme.
-    Silences that last until the end of a pause between subtitles count too, if most pauses of that
-    length end with a silence.
+    Include a silence near another silence, since another page of the PID may have ended. Include a
+    silence that is longer than usual but allowed by `--every`, or that is outside of the programme.
+    If most long pauses between subtitles end with a silence, include these silences.
     """
     inside = [(silence, end - begin) for begin, end in pauses if begin is not None
               and end is not None
@@ -185,7 +183,7 @@ def count_distances(rows: Sequence[Sequence[int]], steps: int) -> collections.Co
 
 def find_number_at_rank(counts: collections.Counter[int], rank: int, is_from_above: bool) -> int:
     """Return the number at a rank in ascending order, or in descending order if `is_from_above`.
-    Ranks begin at 0. `counts` has how often each number occurs."""
+    Ranks begin at 0. `counts` maps each number to its frequency."""
     numbers = sorted(counts, reverse=is_from_above)
     totals = itertools.accumulate(counts[number] for number in numbers)
     return next(number for number, total in zip(numbers, totals) if total > rank)
@@ -193,7 +191,7 @@ def find_number_at_rank(counts: collections.Counter[int], rank: int, is_from_abo
 
 def find_silences(row: Sequence[int], lost: int, steps: int) -> Iterator[Silence]:
     """Yield the silences in a sequence of frames: intervals of at least `lost` frames without a PES
-    packet. Two silences are near each other if fewer than `steps` PES packets lie between them."""
+    packet. A silence is near another silence if fewer than `steps` PES packets separate the two."""
     places = [] if isinstance(row, range) else [
         at for at, (first, last) in enumerate(zip(row, row[1:])) if last - first >= lost]
     for before, at, after in zip([-steps, *places], places, [*places[1:], len(row) + steps]):
@@ -203,9 +201,9 @@ def find_silences(row: Sequence[int], lost: int, steps: int) -> Iterator[Silence
 
 def list_frame_rows(packets: Packets, inside: Range, origin: int,
                     within: int) -> list[Sequence[int]]:
-    """Return the frames of the PES packets `inside` that `check` reads, in sequences. A sequence
-    ends at a gap marker, at a refused packet, at a packet without a frame, and where the frame
-    number decreases."""
+    """Return sequences of frames of the PES packets in the range `inside` that `check` reads. A
+    sequence ends at a gap marker, at a refused packet, at a packet without a frame, and where the
+    frame number decreases."""
     rows, pts = [], array.array("q")
     for run in itertools.chain(packets.list_runs_between(*inside), [None]):
         if run is not None and run.pts is not None and not run.fault:

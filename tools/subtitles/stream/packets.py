@@ -25,10 +25,10 @@ class PacketRun(NamedTuple):
     length: int
     pts: int | None
     step: int
-    flags: str  # letters such as `HEADER`, with the state of the page after each PES packet
+    flags: str  # letters such as `HEADER`: events in each PES packet, then the page's state
     control: str  # eight four-bit values of each page header, in hexadecimal
     units: int = 0  # number of Teletext packets
-    fault: int = 0  # number of the fault for which `packets` refuses these, else 0
+    fault: int = 0  # number of the fault for which `packets` refuses the PES packets, else 0
 
     def pts_of(self, number: int) -> int | None:
         return None if self.pts is None else wrap_pts(self.pts + self.step * (number - self.first))
@@ -79,14 +79,14 @@ class GapMarker(NamedTuple):
 
 
 class PCRStep(NamedTuple):
-    """An unusual step from one PCR to the next, between the PTS `before` and `after` of the PID."""
+    """An unusual step from one PCR to the next, between the Teletext PTS `before` and `after`."""
 
     before: int | None
     after: int | None
-    ticks: int  # its duration
+    ticks: int  # duration of the step
     packets: int  # number of TS packets
     usual: int  # usual duration
-    usual_packets: int  # usual number of TS packets
+    usual_packets: int  # usual number of TS packets in a step
     counters: str  # `broken` if the continuity counters of other PIDs show a loss, else `whole`
 
 
@@ -114,7 +114,7 @@ class Packets:
     counter_jumps: list[int] = dataclasses.field(default_factory=list)
     damage: str | None = None  # reason why the rest of a PES file can't be read
     refusal: int = 0  # 31 (Start) or 32 (Length) if the next PES packet is not Teletext
-    packets: int = 0  # TS packets of the PID
+    packets: int = 0  # number of TS packets of the PID
     scrambled: int = 0  # number of scrambled TS packets
     is_cut: bool = False
     last_pts: int | None = None  # the last PTS, even if its PES packet is cut off

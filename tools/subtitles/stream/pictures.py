@@ -1,4 +1,4 @@
-"""Find the places where pictures drift from Teletext."""
+"""Find the places where the delay between video and Teletext changes."""
 from __future__ import annotations
 
 import math
@@ -18,11 +18,11 @@ from ..common.times import TICKS, subtract_pts, wrap_pts
 # before and after a step are compared, with their standard error. If there are enough leads, their
 # extremes are compared too.
 
-# Numbers of leads to compare on either side of a step. Use 30 only if 10 are unclear.
+# Numbers of leads to compare on each side of a step. Use 30 only if 10 give no clear result.
 SAMPLE_SIZES = (10, 30)
-# With fewer leads, the estimated error of their mean includes their typical change.
+# If there are fewer leads, the estimated error of their mean includes a lead's typical change.
 MIN_OWN_LEADS = 5
-MIN_LEADS = 20  # minimum number of leads on either side to compare their extremes
+MIN_LEADS = 20  # minimum number of leads on each side of a step to compare their extremes
 SIGNIFICANT_ERRORS = 2.5  # number of standard errors that a difference of means must exceed
 
 
@@ -46,8 +46,8 @@ class Departure(NamedTuple):
 
 
 def locate_departures(leads: Sequence[VideoLead]) -> list[Departure] | None:
-    """Return the places where pictures drift or may drift from Teletext. Return `None` if most
-    decoding times are irregular."""
+    """Return the places where the delay between video and Teletext changes or may change. Return
+    `None` if most decoding times are irregular."""
     steps = compute_steps(leads)
     ends = [at for at, step in enumerate(steps, 1) if abs(step) * 4 >= TICKS]
     if len(ends) * 2 > len(leads):
@@ -83,8 +83,8 @@ def compute_steps(leads: Sequence[VideoLead]) -> list[int]:
 
 
 def is_outside(between: Iterable[int], before: Sequence[int]) -> bool:
-    """Return whether one of the leads `between` differs by half a frame or more from all leads
-    `before`."""
+    """Return whether a Teletext lead in `between` is at least half a frame below or above all leads
+    in `before`."""
     half_frame = TICKS // 2
     return any(lead <= min(before) - half_frame or lead >= max(before) + half_frame
                for lead in between)
@@ -94,9 +94,9 @@ def measure_departure(before: Sequence[int], after: Sequence[int], step: int,
                       typical_step: float) -> int | None:
     """Return the ticks by which pictures drift at a step of the decoding times.
 
-    `before` and `after` are the leads around the step, and `typical_step` is the typical change of
-    a lead. The result is 0, the step, or the change of the leads if pictures were lost too. Return
-    `None` if this is unclear.
+    `before` and `after` are the Teletext leads around the step, and `typical_step` is the typical
+    change of a lead. Return 0 if the leads stay the same, the step if they change by the step, and
+    the change of the leads if pictures were lost too. Return `None` if the drift is unclear.
     """
     limit, half_frame = min(abs(step) or TICKS, TICKS) / 2, TICKS // 2
     for most in SAMPLE_SIZES:

@@ -12,7 +12,7 @@ from .packets import BLANK, CLOSED, HEADER, OPEN, PacketRun, Packets, PageChange
 
 # A run of at least this many ticks is not skipped, since the PTS may wrap around within it.
 MAX_SKIPPED_TICKS = 1 << 31
-# number of consecutive PES packets after the last frame at which the search ends
+# The search ends after this number of consecutive PES packets after the last frame.
 PACKETS_AFTER_RANGE = 2
 
 
@@ -29,9 +29,9 @@ class PacketRange(NamedTuple):
 
     range: Range | None  # the first and last PES packet, if there are any
     read: int  # number of PES packets read
-    first: int | None = None  # its first frame
-    last: int | None = None  # its last frame
-    first_packet_frame: int | None = None  # frame of the first PES packet, even without the page
+    first: int | None = None  # first frame of the range
+    last: int | None = None  # last frame of the range
+    first_packet_frame: int | None = None  # frame of the first PES packet, with or without the page
     has_end: bool = False  # whether the last page transmission was found
     is_over: bool = False  # whether no later PES packet can be in the range
 
@@ -50,12 +50,12 @@ def find_range(packets: Packets, begin: int, end: int, origin: int, every: int |
     """Find the PES packets from frame `begin` to `end`, starting with a page header.
 
     If `every` is given, start with the last page transmission that leaves the page blank, at most
-    `every` frames before `begin`, and end with the first page transmission at `end` or up to
-    `every` frames later. If `within` is greater than 0, end with the first PES packet from `end` on
-    that leaves the page blank and closed, or that is `within` frames later.
+    `every` frames before `begin`. End with the first page transmission at `end` or up to `every`
+    frames later. If `within` is not 0, end instead with the first PES packet from `end` on that
+    leaves the page blank and closed, or with the first one after another `within` frames.
 
-    Use only the PES packets `inside`. If `is_continued`, the text of the first frame is expected
-    before that frame, too.
+    Use only the PES packets in the range `inside`. If `is_continued`, the text of the first frame
+    is also expected before that frame.
     """
     low = max(begin - (every or 0), 0)
     high = end if every is None else min(end + max(every, within), FRAMES_OF_A_DAY - 1)
@@ -113,7 +113,7 @@ class PageTexts:
             change.rows == rows for change in self.find_changes(sent))
 
     def is_replaced(self, sent: SentPacket) -> bool:
-        """Return whether a page transmission replaces the text before its header."""
+        """Return whether a page transmission replaces the text that was sent before its header."""
         return self.is_continued or bool(self.find_changes(sent)) and not self.is_repeat(sent)
 
 
@@ -164,10 +164,10 @@ class RangeStart:
 
 
 class RangeEnd:
-    """Finds the last PES packet of a range, which lies between the frames `low` and `high`. This is
-    the last PES packet in the frame of the first header from `end` on. If pages may be late, it is
-    the first PES packet from `end` on that leaves the page blank (and closed, if the page was
-    closed before), or that is `within` frames later."""
+    """Finds the last PES packet of a range, between the frames `low` and `high`. Usually it is the
+    last PES packet in the frame of the first header from `end` on. If pages may be late, it is the
+    first PES packet from `end` on that leaves the page blank (and closed, if the page was closed
+    before), but at the latest the first PES packet `within` frames after `end`."""
 
     def __init__(self, low: int, high: int, end: int, within: int, is_bound: bool) -> None:
         self.low, self.high, self.end, self.within = low, high, end, within
@@ -177,9 +177,9 @@ class RangeEnd:
         self.closed = -1  # the last PES packet that closed the page
 
     def take(self, sent: SentPacket, first: int | None) -> bool:
-        """Read a PES packet, and return whether no later one can be in the range. One PES packet
-        after the range usually does not suffice, since its PTS may be wrong. `first` is the number
-        of the range's first PES packet, if known."""
+        """Read a PES packet. Return whether the range is complete. One PES packet after the range
+        usually does not suffice, since its PTS may be wrong. `first` is the number of the range's
+        first PES packet, if known."""
         frame = sent.frame
         if CLOSED in sent.flags:
             self.closed = sent.number
@@ -200,7 +200,7 @@ class RangeEnd:
         return False
 
     def is_last(self, sent: SentPacket, frame: int, first: int) -> bool:
-        """Return whether a PES packet not before the last out-cue is the last of the range."""
+        """Return whether a PES packet, at or after the last out-cue, ends the range."""
         if not self.within:
             return HEADER in sent.flags
         is_page_over = BLANK in sent.flags and not (OPEN in sent.flags and self.closed >= first)
@@ -219,9 +219,9 @@ def read_packets_between(packets: Packets, low: int, high: int, origin: int, wit
 
 
 def is_outside(run: PacketRun, low: int, high: int) -> bool:
-    """Return whether a run lies a frame or more before PTS `low` or after `high`. These may be a
-    day apart, but the order of two PTS is certain only if they are less than 13 hours apart, half
-    of the clock's range."""
+    """Return whether a run lies a frame or more before PTS `low` or after PTS `high`. A simple
+    comparison is not possible: `low` and `high` may be a day apart, more than half of the clock's
+    range."""
     first, last = run.pts, run.last
     if first is None or last is None or not 0 <= run.step * run.length < MAX_SKIPPED_TICKS:
         return first is None

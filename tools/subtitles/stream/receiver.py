@@ -56,7 +56,7 @@ def clear_unsent_cells(rows: Rows) -> Rows:
 
 
 PAUSE = 2  # a longer interval in frames without a PES packet is a pause
-PACKETS_PER_PAUSE = 20  # pauses are frequent if there are fewer PES packets per pause
+PACKETS_PER_PAUSE = 20  # pauses are frequent if there are fewer PES packets per pause than this
 
 
 class SpanIndex:
@@ -77,11 +77,11 @@ class SpanIndex:
 class ReceivedPackets:
     """The PES packets that were received, in runs of consecutive packets.
 
-    `begins` and `ends` are the first and last frame of each run. `first` and `last` are the first
-    and last frame of all runs. `uneven_frames` has the frames of the runs with gaps or repeated
-    frames, by index. `uncertain_spans` are the frames around gap markers and around PES packets
-    that were not received. `lost` has frames with other losses. `halt` is the first PES packet that
-    has an earlier frame than the packet before it; from there on nothing is received.
+    `begins` and `ends` contain the first and last frame of each run. `first` and `last` are the
+    first and last frame of all runs. `uneven_frames` contains the frames of each run with gaps or
+    repeated frames, by the index of the run. `uncertain_spans` contains the frames around gap
+    markers and around PES packets that were not received. `halt` is the first PES packet with an
+    earlier frame than the previous packet. No packet after it is received.
     """
 
     def __init__(self, lost: Iterable[Span] = ()) -> None:
@@ -99,8 +99,8 @@ class ReceivedPackets:
         self.uncertain_spans, self.pauses = list[Span](), list[Span]()
 
     def add_run(self, run: PacketRun, frames: Sequence[int]) -> bool:
-        """Add PES packets with ascending frames. If these or earlier packets go back to an earlier
-        frame, ignore them and return `False`."""
+        """Add PES packets with ascending frames. If the frame number has decreased, now or before,
+        ignore the packets and return `False`."""
         if self.halt is None and frames[0] < self.last:
             self.halt = run.first
         if self.halt is not None:
@@ -184,13 +184,12 @@ MIN_FRAMES = 250  # minimum number of frames to decode before and after a span
 class Timeline(ReceivedPackets):
     """The pages that a receiver decodes.
 
-    From the end of each frame in `frames`, the page at the same index in `pages` is decoded.
-    `states` has the initial state, and the state after each PES packet of `state_packets`;
-    `state_frames` has the frames of these packets. `open_changes` has the frames at whose ends the
-    page opens or closes. `header_frames` has the frames with a page header, and `erasure_frames`
-    those with a header that erases the page. If the frame number decreases before frame `begin`,
-    everything received before is forgotten. `first_packet_frame` is the frame of the first PES
-    packet, if known.
+    The page `pages[i]` is decoded from the end of frame `frames[i]`. `states` contains the initial
+    state, and the state after each PES packet of `state_packets`. `state_frames` contains the
+    frames of these packets. The page opens or closes at the ends of the frames `open_changes`.
+    `header_frames` contains the frames with a page header, and `erasure_frames` the frames with a
+    header that erases the page. If the frame number decreases before frame `begin`, all earlier
+    packets are forgotten. `first_packet_frame` is the frame of the first PES packet, if known.
     """
 
     def __init__(self, packets: Packets, page: Page, origin: int, within: int = 0,
@@ -231,9 +230,9 @@ class Timeline(ReceivedPackets):
             self.receive_run(run, held.get(run.first), stray_texts)
 
     def receive_run(self, run: PacketRun, texts: Texts | None, stray_texts: Texts = ()) -> None:
-        """Receive a run. `texts` are the rows that `survey` printed after the run's first PES
-        packet, if any. If that packet is not received, the receiver may not have decoded these
-        rows. `stray_texts` are rows received outside a transmission of the page."""
+        """Receive a run of PES packets. `texts` contains the rows that `survey` printed after the
+        first packet, if any. If that packet is not received, the receiver may not have decoded
+        these rows. `stray_texts` contains rows received outside a transmission of the page."""
         has_texts = texts is not None
         self.is_erased = self.is_erased or ERASE in run.flags
         if texts is not None:
@@ -269,8 +268,8 @@ class Timeline(ReceivedPackets):
             self.update_state(run, frames[0], has_texts)
 
     def update_state(self, run: PacketRun, frame: int, has_texts: bool) -> None:
-        """Update the state after a run. `has_texts` is true if `survey` printed rows after the
-        run's first packet."""
+        """Update the state after a run of PES packets. `has_texts` is true if `survey` printed rows
+        after the first packet."""
         before = self.states[-1]
         self.is_outdated = self.is_outdated and not (ERASE in run.flags or has_texts)
         rows = before.rows if self.is_outdated else self.printed_rows
@@ -295,7 +294,7 @@ class Timeline(ReceivedPackets):
             self.record_page(frame, clear_unsent_cells(rows))
 
     def record_opening(self, frame: int) -> None:
-        """Record that the page opens or closes at the end of a frame."""
+        """Record that the transmission of the page begins or ends at the end of a frame."""
         if self.open_changes and self.open_changes[-1] == frame:
             self.open_changes.pop()
         else:
@@ -312,8 +311,8 @@ class Timeline(ReceivedPackets):
 
     @functools.cached_property
     def page_frames(self) -> dict[Rows, array.array[int]]:
-        """Return, for each page, the frames from which it was decoded. Call it only after the last
-        PES packet."""
+        """Return the start frames of each decoded page. Call this only after the last PES
+        packet."""
         frames_by_page: dict[Rows, array.array[int]] = {}
         for frame, page in zip(self.frames, self.pages):
             frames_by_page.setdefault(page, array.array("i")).append(frame)
@@ -338,7 +337,7 @@ class Timeline(ReceivedPackets):
         return self.states[bisect.bisect_right(self.state_packets, number)]
 
     def list_page_numbers(self, begin: int, end: int) -> Iterator[int]:
-        """Yield the indexes of the pages decoded from frame `begin` up to `end`, exclusive."""
+        """Yield the indexes of the pages decoded in the frames from `begin` to `end - 1`."""
         number = max(self.find_page_number_at(begin), 0)
         while number < len(self.frames) and self.frames[number] < end:
             yield number
@@ -365,8 +364,8 @@ def is_of_page(run: PacketRun) -> bool:
 def decode_pages_around(packets: Packets, page: Page, origin: int, within: int, span: Span,
                         every: int, inside: Range | None = None,
                         lost: Iterable[Span] = ()) -> Timeline:
-    """Decode the pages of a span, and of at least 250 frames before and after it, or `every` frames
-    if that is more. `lost` are frames with losses."""
+    """Decode the pages of a span, and of `MIN_FRAMES` or `every` frames before and after it,
+    whichever is more. `lost` lists the spans with losses."""
     more = max(MIN_FRAMES, every)
     packet_range = find_range(packets, max(span.first - more, 0),
                               min(span.last + more, FRAMES_OF_A_DAY - 1), origin, None,
@@ -377,8 +376,8 @@ def decode_pages_around(packets: Packets, page: Page, origin: int, within: int, 
 
 
 def complete_page(texts: Texts, is_erased: bool) -> Rows:
-    """Return a page with the rows `texts`. All other rows are blank if `is_erased`, or else not yet
-    received."""
+    """Return a page with the rows `texts`. The other rows are blank if `is_erased`. Otherwise they
+    have not been received yet."""
     blank: Rows = BLANK_PAGE if is_erased else OLD_PAGE
     if not texts:
         return blank

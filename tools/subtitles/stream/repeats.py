@@ -30,10 +30,10 @@ def list_cue_frames(times: Iterable[tuple[int, int]]) -> list[int]:
 def count_repeats(frames: Iterable[int], edges: Sequence[int]) -> collections.Counter[int]:
     """Count the intervals of repeats, in frames.
 
-    `frames` are the frames of page transmissions, `edges` the frames of cues in ascending order. A
-    repeat is a transmission that no cue separates from the transmission before it. Skip the first
-    repeat after a cue, which may follow at once, and a repeat just before a cue, which may be the
-    next page.
+    A repeat is a transmission that no cue separates from the transmission before it. Skip the first
+    repeat after a cue, because it may follow immediately. Skip a repeat just before a cue, because
+    it may carry the next page. `frames` contains the frames of page transmissions, and `edges` the
+    frames of cues in ascending order.
     """
     known = array.array("i", frames)
     if any(map(operator.ge, known, itertools.islice(known, 1, None))):
@@ -45,8 +45,8 @@ def count_repeats(frames: Iterable[int], edges: Sequence[int]) -> collections.Co
 
 
 def repeat_distance(frames: Iterable[int], edges: Sequence[int]) -> int | None:
-    """Return the usual interval of repeats in frames, or `None` if there are too few repeats. It is
-    the median weighted by time, which also suits pages that are always sent twice in a row."""
+    """Return the typical number of frames between repeats, or `None` if there are too few repeats.
+    The median is weighted by time, which also suits pages that are always sent twice in a row."""
     repeats = count_repeats(frames, edges)
     if sum(repeats.values()) < MIN_REPEATS:
         return None
@@ -55,25 +55,25 @@ def repeat_distance(frames: Iterable[int], edges: Sequence[int]) -> int | None:
     return sorted_repeats[bisect.bisect_left(totals, -(-totals[-1] // 2))]
 
 
-# a repeat was lost in an interval longer than this multiple of the usual one
+# A repeat was lost if an interval is longer than this multiple of the usual interval.
 LOST_REPEAT_FACTOR = 1.5
-RARE_SHARE = 20  # longer intervals are exceptions if they are less than 1/20 of all intervals
+RARE_SHARE = 20  # longer intervals are exceptions if they are fewer than 1/20 of all intervals
 
 
 class Repeats(NamedTuple):
-    """The repeats of a page."""
+    """The intervals between the headers of a page."""
 
     headers: int  # number of page headers
     longest: int  # longest interval in frames
-    longest_start: int  # first frame of this interval
+    longest_start: int  # first frame of the longest interval
     usual: int | None  # usual interval
     exceptions: Sequence[tuple[int, int]] = ()  # longer intervals: first frame and length
 
 
 def measure_repeats(pts: Sequence[int], last: int | None, origin: int,
                     times: Sequence[tuple[int, int]]) -> Repeats | None:
-    """Measure the intervals between page headers with the given PTS, or return `None` if there are
-    fewer than two headers. `last` is the PTS of the last PES packet, and `times` has the cues."""
+    """Measure the intervals between page headers with the given PTS. Return `None` if there are
+    fewer than two headers. `last` is the PTS of the last PES packet. `times` contains the cues."""
     frames = [frame for frame in find_frames_of_day(pts, origin, 1) if frame != NO_FRAME]
     ends = [] if last is None else [frame + 1 for frame in find_frames_of_day([last], origin, 1)
                                     if frame != NO_FRAME and frames and frame >= frames[-1]]

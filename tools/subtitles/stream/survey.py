@@ -53,11 +53,11 @@ class Video:
     """The pictures of a video PID from the first random access point to the next."""
 
     skipped: int = 0
-    pictures: list[int | None] = dataclasses.field(default_factory=list)  # their PTS
+    pictures: list[int | None] = dataclasses.field(default_factory=list)  # PTS of each picture
     lost: int = 0
     scrambled: int = 0
     is_cut: bool = False  # whether the recording ends before the next random access point
-    form: str = ""  # closed, open or unknown group of pictures; empty if it was not printed
+    form: str = ""  # group of pictures: closed, open or unknown; empty if not printed
 
 
 def describe_pid(packets: Packets, programmes: Iterable[ProgramMap]) -> str:
@@ -83,7 +83,7 @@ def parse_rows(word: str) -> Texts:
 
 
 class Survey:
-    """The output of `survey` about a recording, or its first part if the rest was not read yet."""
+    """The output of `survey` about a recording, or about its first part until the rest is read."""
 
     def __init__(self) -> None:
         self.size: int | None = None  # TS packet size, or 0 for a PES file
@@ -95,7 +95,7 @@ class Survey:
         self.pcr_pids: dict[int, list[int]] = {}  # PCR PIDs of each programme, most recent last
         self.by_pid: dict[int, Packets] = {}
         self.videos: dict[int, Video] = {}
-        self.leads: dict[tuple[int, int], list[VideoLead]] = {}  # by PIDs of Teletext and video
+        self.leads: dict[tuple[int, int], list[VideoLead]] = {}  # keys: PIDs of Teletext and video
         self.clocks: dict[int, tuple[int, int]] = {}  # first and last PCR of each PCR PID
 
     def read_line(self, line: str) -> None:
@@ -293,7 +293,7 @@ def survey_runs(program: str, name: str, page: Page) -> Iterator[tuple[PacketRun
 
 
 def pop_first_run(packets: Packets) -> tuple[PacketRun, Texts | None]:
-    """Remove the first run. Return it, and the rows printed after its first PES packet, if any."""
+    """Remove and return the first run of packets, and the rows printed after its first packet."""
     run, held = packets.runs.pop(0), dict(packets.decoded_rows)
     packets.decoded_rows.clear()
     del packets.changes[:-1]
@@ -319,8 +319,7 @@ ANY_LANGUAGE_CODES = {"und", "mul"}  # codes for an undefined language and for s
 
 
 def list_language_codes(code: str) -> list[str]:
-    """Return the language codes of a PMT for an LC of two hexadecimal digits. Return an empty list
-    if the LC is unknown."""
+    """Return the PMT language codes for an LC (two hexadecimal digits), or an empty list."""
     try:
         return CODES.get(int(code, 16), "").split()
     except ValueError:
