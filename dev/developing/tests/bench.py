@@ -59,7 +59,7 @@ class Bench:
         return self.chosen
 
     def make_project_copy(self) -> str:
-        """Create the folder for all tests, readable by other users, unless it exists. Return it."""
+        """Return the folder for all tests. Other users can read it. Create it in the first call."""
         if not self.folder:
             self.folder = tempfile.mkdtemp()
             os.chmod(self.folder, 0o755)

@@ -36,7 +36,7 @@ def format_place_of(frame: FrameType) -> str:
 
 
 def shorten_lines(lines: list[str]) -> str:
-    """Join lines, but replace those after the first MOST with a line that gives their number."""
+    """Join lines, but replace those after MAX_LINES_PRINTED with a line that gives their number."""
     more = [f"  .. {len(lines) - MAX_LINES_PRINTED} more lines"] * (len(lines) > MAX_LINES_PRINTED)
     return "\n".join([*lines[:MAX_LINES_PRINTED], *more])
 

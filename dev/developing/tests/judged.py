@@ -28,7 +28,7 @@ FEW = "there are too few PES packets to measure their interval"  # end of a note
 
 
 class LineRecorder(SilentPrinter):
-    """A printer that records all lines, with `! ` before lines for standard error."""
+    """A printer that records all lines. Lines for standard error begin with `! `."""
 
     def print_error(self, line: str) -> None:
         self.lines.append(f"! {line}")
@@ -110,7 +110,7 @@ def judge_files_with(program: str, *args: str, recorder: LineRecorder | None = N
 class ProgrammeCase(Case):
     """A test case with a subtitle file `stl` and its transmission (`sent`, `pes`).
 
-    `due` contains the subtitles' start and end frames, `words` the arguments for each run of qc.
+    `due` contains the start and end frames of the subtitles. `words` contains arguments for qc.
     """
 
     due: Sequence[tuple[int, int]] = subtitle_times(10)

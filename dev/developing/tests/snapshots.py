@@ -60,7 +60,7 @@ def members(value: Any, path: str = "") -> Iterator[str]:
 
 def format_json_snapshot(text: str, printed: str, head: int) -> list[str]:
     """Return a line for each JSON value that is not in `printed`, and the hash of the text."""
-    result = json.loads(text.replace(" SECONDS,", ' "seconds": 0,'))  # see `without_volatile`
+    result = json.loads(text.replace(" SECONDS,", ' "seconds": 0,'))  # by `replace_volatile_text`
     lines = [line for line in members(result) if "=" not in line
              or line.partition(" = ")[2].strip('"') not in printed]
     return [*shorten_lines(lines, head), f"whole: {compute_short_hash(text)}"]

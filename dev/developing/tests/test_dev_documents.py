@@ -272,7 +272,7 @@ class ModuleLists(Case):
 
 
 STORED_FILE = "dev/bodies-to-read.txt"
-# First lines of functions and impls in STORED. They make system calls that have no contract.
+# First lines of functions and impls in STORED_FILE. They make system calls that have no contract.
 HELD = [
     "fn main(rt: HostRuntime)",
     "impl<'a, R: Files + Eprint> FileSystem for SystemFiles<'a, R>",

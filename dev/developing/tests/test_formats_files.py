@@ -314,7 +314,7 @@ class Order(unittest.TestCase):
                     places = list(range(0, len(times), count))
                     self.assertEqual(programme.find_nearest(places, frame), min(
                         places, key=lambda place: abs(times[place][0] - frame)),
-                                     count)  # the first, if two are equally near
+                                     count)  # the first of two at the same distance
             self.assertEqual([programme.before(at) for at in range(len(times))],
                              [0, *(end for _, end in times)][:len(times)], times)
             self.assertEqual([programme.after(at) for at in range(len(times))],

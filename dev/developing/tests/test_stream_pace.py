@@ -44,12 +44,12 @@ def remove_frames(frames: Sequence[int], *holes: tuple[int, int]) -> list[int]:
 
 
 def list_frames_without(count: int) -> list[int]:
-    """Return the frames of PES packets: two packets in each frame, but none in `count` frames."""
+    """Return the frames of PES packets. Each frame has two, but `count` frames have none."""
     return [at // 2 for at in range(800) if not 200 <= at // 2 < 200 + count]
 
 
 def make_two_silences(steps: int) -> list[int]:
-    """Return frames with two pauses. Between the pauses are `steps` frames."""
+    """Return frames with two pauses that are `steps` frames apart."""
     return remove_frames(range(800 + steps), (299, 100), (399 + steps, 100))
 
 

@@ -35,7 +35,7 @@ def make_packets_with_pts(pts: Sequence[int | None], **more: Any) -> Packets:
 
 
 def clocked(before: int, ticks: int, counters: str, packets: int = 100) -> PCRStep:
-    """Return an unusual step between two PCRs, with 100 TS packets between them by default."""
+    """Return an unusual step between two PCRs that are `packets` TS packets apart."""
     return PCRStep(before, before + 1, ticks, packets, SECOND // 10, 100, counters)
 
 
