@@ -37,7 +37,7 @@ class Recorder:
         self.folder, self.limits = folder, limits
         self.file: int | None = None
         self.is_new = True  # data before the next segment may be missing
-        self.segment_begin = self.latest = 0.0  # segment start: real time, and time in its name
+        self.segment_begin = self.latest = 0.0  # segment start, and the time in the segment's name
 
     def take(self, data: bytes) -> None:
         """Write bytes. If the disk is full, delete the oldest segments. Bytes that still can't be

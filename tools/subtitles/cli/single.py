@@ -392,9 +392,8 @@ class OutputFiles:
         return bool(self.call.out or self.call.json or self.call.csv)
 
     def write(self, recording: Recording | None = None) -> None:
-        """Write all outputs. If an output can't be written, change the verdict to `not judged`, and
-        write the earlier outputs again if possible. Until then the JSON result in the output folder
-        comes last."""
+        """Write all outputs. The JSON result in the output folder comes last. If an output can't be
+        written, change the verdict to `not judged`, and write the earlier outputs again."""
         for output in sorted(self.list_outputs(recording), key=lambda item: not item.is_replaced):
             self.find_changes()
             if self.try_to_write(output):

@@ -214,7 +214,7 @@ class Lateness(NamedTuple):
 
 
 def parse_lateness(text: str) -> Lateness:
-    """Parse a value of --late such as `0:31,1:40/0:100`. The slash precedes the out-cues."""
+    """Parse a value of --late such as `0:31,1:40/0:100`. In-cues come before the slash."""
     kinds = text.split("/")
     if len(kinds) != 2:
         raise argparse.ArgumentTypeError(

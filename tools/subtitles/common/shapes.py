@@ -230,7 +230,7 @@ class Rules(NamedTuple):
     rows: Sequence[dict[str, Shape | Rules]]
 
     def find_misfit(self, value: Any) -> str | None:
-        """Return `None` if the value matches any row, else the path of the first row's member."""
+        """Return `None` if the value matches any row. Otherwise return a path in the first row."""
         is_valid = any(all(shape.find_misfit(value[name]) is None for name, shape in row.items())
                        for row in self.rows)
         return None if is_valid else f".{next(iter(self.rows[0]))}"

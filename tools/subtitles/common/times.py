@@ -105,7 +105,7 @@ def pts_of(frame: int, origin: int) -> int:
 
 def compute_frame(pts: int, origin: int, within: int = 0) -> int:
     """Return the number of the frame that contains a PTS. `origin` is the PTS of frame 0. The
-    number may exceed a day. If `within` is not 0, frames begin a quarter of a frame earlier."""
+    frame may be after the day. If `within` is not 0, frames begin a quarter of a frame earlier."""
     return wrap_pts(pts - origin + EARLY_TICKS * (within > 0)) // TICKS
 
 

@@ -36,7 +36,7 @@ OFF_FRAME, GAP = 61, 73
 # Number of the fault in frames next to refused subtitles, where the expected page is unknown
 UNDECIDED = 78
 STL_FAULTS = {*range(10, 26), *range(50, 58)}
-SKIPPED_PACKETS = {*range(33, 41), 45, 61}  # faults of unreadable packets, or without a frame
+SKIPPED_PACKETS = {*range(33, 41), 45, 61}  # faults of packets that are unreadable or lack a frame
 ENDS_READING = {30, 31, 32, 44}  # faults after which `check` stops reading the recording
 # Faults after which `check` stops reading the subtitle file
 ENDS_FILE = {*range(10, 16), 17, *range(22, 26)}

@@ -19,7 +19,7 @@ from .teletext import ACCENTS, OPTION_BY_WORD, encode_line, decode_text
 
 GSI, TTI, TEXT = 1024, 128, 112  # sizes of the blocks and of a TTI block's text field
 USER_DATA, LAST_BLOCK = 0xFE, 0xFF  # extension block numbers (EBN)
-MAX_STL = GSI + TTI * 99_999 + 1  # number of bytes to read; `check` refuses such a file
+MAX_STL = GSI + TTI * 99_999 + 1  # bytes to read: one more than the largest valid file has
 UNUSED, NEW_LINE = b"\x8f", b"\x8a"
 LAST_CONTINUED = 0xEF  # the highest EBN of a block that is not the last of its subtitle
 
