@@ -1,9 +1,9 @@
 """Find which definitions, lemmas and functions use each other, and which promises depend on them.
 
 A promise is a law (a public function named `law_of_..` or `example_of_..`) or a clause of a public
-function. Files are read as text, with their `use` lines. Therefore a variable with the name of an
-imported item counts as a use, and a method call counts as a use of each method with that name in
-the crate and its dependencies.
+function. The module searches the text of each file for names, and resolves them by the `use` lines.
+Therefore a variable with the name of an imported item counts as a use. A method call counts as a
+use of each method with that name in the crate and its dependencies.
 """
 from __future__ import annotations
 
@@ -81,7 +81,7 @@ class UseGraph:
         return self.resolve(*file.names[name]) if name in file.names else None
 
     def link(self, node: Node, text: str) -> None:
-        """Add the nodes that `text` names to the uses of `node`."""
+        """Record that `node` uses each node that is named in `text`."""
         for source, name in list_names(node.file, node.file.own, text):
             node.add(self.resolve(source, name) if source else self.resolve_in(node.file, name))
 
@@ -116,7 +116,7 @@ class UseGraph:
                     body.add(callee)
 
     def add_lemmas(self, node: Node, text: str) -> None:
-        """Add the lemmas that tactics name, as crate::proofs::M::law, to the uses of a node."""
+        """Record that `node` uses the lemmas in `using(..)`, such as crate::proofs::M::law."""
         for path in filter(None, map(str.strip, ",".join(USING_CLAUSE.findall(text)).split(","))):
             crate, *inner = path.split("::")
             if len(inner) > 1:
@@ -140,9 +140,9 @@ class UseGraph:
                 if not function.owner and (function.file.crate == crate or is_imported)]
 
     def link_proof(self, node: Node) -> None:
-        """Add a lemma in a function's proof folder to the uses of the clause in the lemma's name.
+        """Record which part of a function uses a lemma of the function's proof folder.
 
-        If its name contains no clause, add it to the uses of the function's body.
+        It is the clause in the lemma's name, or the function's body if there is no such clause.
         """
         _, crate, _, *inner, name, _ = node.file.module.split(".")
         functions = self.functions_by_name.get((crate, name), [])
@@ -171,7 +171,7 @@ class UseGraph:
                 and node.file.crate == (crate or node.file.crate)]
 
     def list_promised_definitions(self) -> list[Node]:
-        """Return the definitions on which laws and the clauses of public functions depend."""
+        """Return the definitions used by theorems (laws) and by contracts of public functions."""
         result: dict[Node, None] = {}
         left = [node for node in self.nodes if node.kind == "clause"
                 and (node.is_promised or node.function is not None and node.function.is_promised)]
@@ -190,7 +190,7 @@ class UseGraph:
                 for file in self.files.values() if ".proofs." in file.module}
 
     def find_promises(self, node: Node) -> list[Node]:
-        """Return the guarantees (promises) that use a node, but not by way of another guarantee."""
+        """Return the guarantees (promises) that use a node directly or through other items."""
         result: dict[Node, None] = {}
         visited = {node}
         left = collections.deque(node.used_by)

@@ -158,7 +158,7 @@ def find_defects(looks: Sequence[BrowserView], folder: str) -> list[list[str]]:
 
 
 def write_framed(look: BrowserView, folder: str, number: int) -> str:
-    """Write a report with all details open and the checking script. Return the file's name."""
+    """Write a report with its details open and with SCRIPT added. Return the new file's name."""
     with open(look.path, encoding="utf-8") as file:
         text = file.read()
     name = f"measured-{number}.html"

@@ -44,7 +44,7 @@ class Multiplex:
         pat = make_section(0, 1, PROGRAMME.to_bytes(2, "big") +
                            (0xE000 | PMT_PID).to_bytes(2, "big"))
         pmt = make_section(2, PROGRAMME, make_pmt_body(pid, language, page))
-        # PAT, PMT and TS packet headers for each value of the continuity counter.
+        # The TS packets with PAT and PMT for each value of the continuity counter.
         self.tables = [b"".join((make_packet_header(table_pid, PAYLOAD_START,
                                                     PAYLOAD | counter) + data)
                                 .ljust(PACKET, b"\xff")
@@ -92,7 +92,7 @@ class Multiplex:
 
 
 def compute_crc(data: bytes) -> int:
-    """Return the CRC-32 of a section (annex A), which is 0 for a section with a correct CRC."""
+    """Return the CRC-32 of ISO/IEC 13818-1, annex A. It is 0 for data that end with their CRC."""
     value = 0xFFFFFFFF
     for byte in data:
         value ^= byte << 24

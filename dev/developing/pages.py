@@ -1,10 +1,9 @@
-"""Generate man pages, completion, the table of options in qc's chapter, and the schema.
+"""Generate man pages, shell completion, the option table in qc's chapter, and the JSON schema.
 
-The sources are the usage text of ./subttx and the table of options in docs/manual/reference.md for
-the program, the --help text for tools, and the tables of options and of JSON results for qc.
-
-Generated parts are between the comment lines `made: NAME` and `end`. All other text is written by
-hand.
+The program's page is made from the usage text of ./subttx and the option table in
+docs/manual/reference.md, and each tool's page from its --help text. qc's option table and the
+schema are made from qc's definitions of options and results. Generated parts of a file are between
+the comment lines `made: NAME` and `end`.
 """
 from __future__ import annotations
 
@@ -42,7 +41,7 @@ ENTRY_LINE = re.compile(
 FILES = re.compile(r"FILE|DIR|FOLDER|LIST|STL|PES|OUT|IN|PROGRAM|FEED|TS|WORD")
 LINK = re.compile(r"\[([^]]*)\]\([^)]*\)")
 WIDTH = 100
-PAGE_REFERENCE = "See also "  # text before a reference from help text to a manual page
+PAGE_REFERENCE = "See also "  # text that introduces a reference to a man page in help text
 
 
 class Command(NamedTuple):

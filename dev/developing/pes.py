@@ -112,7 +112,7 @@ def make_pes_packet(pts: int, packets: Sequence[bytes]) -> bytes:
 
 
 def find_starts(data: bytes) -> list[int]:
-    """Return the offsets of the complete PES packets that begin `data`, and the end of the last."""
+    """Return the offsets of the complete PES packets at the start of `data`, and their end."""
     begins = [0]
     while data.startswith(START, begins[-1]) and len(data) - begins[-1] >= HEAD:
         length = HEAD + int.from_bytes(data[begins[-1] + 4:begins[-1] + HEAD], "big")

@@ -148,7 +148,7 @@ class LoadedCopy:
         return list(result)
 
     def run_changed(self, texts: dict[str, str], names: Sequence[str], seconds: float) -> Answer:
-        """Run tests with changed files in the copy, then restore the files."""
+        """Run tests with changed files in the copy of the repository, then restore the files."""
         before = {path: read(os.path.join(self.top, path)) or "" for path in texts}
 
         def run_with_edit() -> Answer:
@@ -161,7 +161,7 @@ class LoadedCopy:
             return run_forked(run_with_edit, seconds)
 
     def trace_calls(self, name: str, seconds: float) -> Answer:
-        """Run a test. Return the called functions, its duration in seconds, and its failure."""
+        """Run a test. Return the functions that it called, its seconds, and its failure, if any."""
         folder = os.path.join(self.top, "watch")
         os.makedirs(folder, exist_ok=True)
         with open(os.path.join(folder, "sitecustomize.py"), "w", encoding="utf-8") as file:

@@ -3,13 +3,13 @@
     sources SUM             the line of tools/sources
     program SUM             the program's SHA-256
     toolchain LINE          the output of `rt version`
-    crate NAME SUM LINE     for each crate, after the crates that it uses: the checksum that
-                            `tools/sources --crates` prints, and the line logic=proved .. that the
-                            prover printed when it proved the crate
+    crate NAME SUM LINE     for each crate, after the crates that it uses: SUM is the checksum that
+                            `tools/sources --crates` prints, LINE is the line `logic=proved ..` that
+                            the prover printed
 
-out/ has the program that was proved and built here, dist/ the committed program. If `rt ci` reuses
-an earlier proof of a crate, it prints no line for the crate. So each line is stored in out/lines,
-with the checksum of the sources that were proved. It is taken from there or from dist/PROVED.
+The program that was proved and built here is in out/. The committed program is in dist/. If `rt ci`
+reuses an earlier proof of a crate, it prints no line. Therefore this module stores each printed
+line in out/lines, with the checksum of the sources, and finds earlier lines there and in dist/.
 """
 from __future__ import annotations
 
@@ -30,7 +30,7 @@ Crates = dict[str, tuple[str, str]]
 
 
 class ProvedProgram(NamedTuple):
-    """The contents of a PROVED file. `crates` maps a name to a checksum and the prover's line."""
+    """The contents of a PROVED file. `crates` has the checksum and `logic=` line of each crate."""
 
     sources: str | None
     program: str | None
@@ -39,7 +39,7 @@ class ProvedProgram(NamedTuple):
 
 
 def parse_proved(text: str | None) -> ProvedProgram:
-    """Parse a PROVED file, or out/lines, which has no `sources` or `program` line."""
+    """Parse a PROVED file or the file out/lines, which has no `sources` and `program` lines."""
     values: dict[str, str | None] = dict.fromkeys(("sources", "program", "toolchain"))
     crates: Crates = {}
     for line in (text or "").splitlines():
@@ -65,7 +65,7 @@ def read_proved(folder: str) -> ProvedProgram:
 
 
 def list_crate_sums(text: str | None = None) -> dict[str, str]:
-    """Return the checksum of each crate's sources by name. A crate comes after those that it uses.
+    """Return the checksum of the sources of each crate. A crate comes after those that it uses.
 
     `text` is the output of `tools/sources --crates`. If it is `None`, run that script.
     """
@@ -91,7 +91,7 @@ def read_toolchain_version() -> str:
 
 
 def parse_log(log: str) -> dict[str, str]:
-    """Return the prover's lines in the output of `rt ci`, by crate, without test crates."""
+    """Return the `logic=proved` line of each crate in the output of `rt ci`. Skip test crates."""
     result: dict[str, str] = {}
     crate: str | None = None
     proof: str | None = None
@@ -106,7 +106,7 @@ def parse_log(log: str) -> dict[str, str]:
 
 
 def store_lines(lines: dict[str, str], sums: dict[str, str]) -> None:
-    """Store the prover's lines in out/lines. `sums` has the checksums of the proved sources."""
+    """Store `logic=proved` lines in out/lines. `sums` has the checksums of the proved sources."""
     version, notes = read_toolchain_version(), parse_proved(read(LINES_FILE))
     crates = notes.crates if notes.toolchain == version else {}
     crates |= {name: (sums[name], line) for name, line in lines.items() if name in sums}
@@ -114,7 +114,7 @@ def store_lines(lines: dict[str, str], sums: dict[str, str]) -> None:
 
 
 def list_known_lines(version: str | None) -> dict[tuple[str, str], str]:
-    """Return the stored lines of the prover for a toolchain version, by crate and checksum."""
+    """Return the stored `logic=proved` lines for a toolchain version, by crate and checksum."""
     result: dict[tuple[str, str], str] = {}
     for proved in (read_proved(DIST), parse_proved(read(LINES_FILE))):
         if proved.toolchain == version:
@@ -123,7 +123,7 @@ def list_known_lines(version: str | None) -> dict[tuple[str, str], str]:
 
 
 def add_known_lines(proved: ProvedProgram) -> ProvedProgram:
-    """Add all stored lines that belong to the current sources."""
+    """Add all stored `logic=proved` lines that belong to the current sources."""
     known = list_known_lines(proved.toolchain)
     return proved._replace(crates={name: (digest, known[name, digest])
                                    for name, digest in list_crate_sums().items()

@@ -1,4 +1,4 @@
-"""Find the command lines of documents with the output shown there, and run them."""
+"""Find the command lines and their expected output in documents, and run the command lines."""
 from __future__ import annotations
 
 import re

@@ -1,4 +1,4 @@
-"""The symbols in definitions, with their meanings; `tools/reading-list` prints them."""
+"""The symbols in the definitions of specs/ and their meanings, for `tools/reading-list`."""
 from __future__ import annotations
 
 import re

@@ -97,7 +97,7 @@ def read_definitions(file: Source, kind: str) -> Iterator[Node]:
 
 
 def is_end_of_head(stripped: str) -> bool:
-    """Return whether a line is the last line of a module's parameters."""
+    """Return whether a line ends the header of a module, `module NAME (parameters) where`."""
     return stripped == "where" or stripped.endswith(" where")
 
 
@@ -117,7 +117,7 @@ def find_head_names(text: str) -> set[str]:
 
 
 def read_functions(file: Source) -> list[str]:
-    """Add the functions in a source file to `file`. Return the lines outside functions."""
+    """Find the functions in `file.text`, and add them to `file.functions`. Return other lines."""
     other_lines: list[str] = []
     attributes: list[str] = []  # attributes of the next function
     owner, at = "", 0
@@ -148,7 +148,7 @@ def read_functions(file: Source) -> list[str]:
 
 
 def find_end_of_function(lines: list[str], at: int, indent: str) -> int:
-    """Return the index of the last line of the function at line `at` with this indentation."""
+    """Return the index of the last line of a function. It begins at `at`, indented by `indent`."""
     depth = 0  # depth of braces in the contract
     for number in range(at, len(lines)):
         line = lines[number].rstrip()

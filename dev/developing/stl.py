@@ -51,7 +51,7 @@ def make_tti_block(number: int, begin: int, end: int, row: int, justify: int, te
 
 def make_subtitle_blocks(number: int, begin: int, end: int, row: int, justify: int,
                          text: bytes) -> bytes:
-    """Return the TTI blocks for a subtitle, as few as its text needs."""
+    """Return the TTI blocks for a subtitle. There are no more blocks than its text needs."""
     fields = [text[at:at + TEXT] for at in range(0, len(text), TEXT)] or [b""]
     numbers = [*range(len(fields) - 1), LAST_BLOCK]
     return b"".join(make_tti_block(number, begin, end, row, justify, field, ebn)
@@ -59,5 +59,5 @@ def make_subtitle_blocks(number: int, begin: int, end: int, row: int, justify: i
 
 
 def make_box_line(text: bytes, colour: bytes = b"") -> bytes:
-    """Return a double-height line with doubled box codes, as most files have them."""
+    """Return a double-height line with the doubled box codes that most files use."""
     return DOUBLE_HEIGHT + colour + START_BOX * 2 + text + END_BOX * 2

@@ -13,8 +13,8 @@ from subtitles.formats.stl import GSI, TTI
 
 NO_MEMORY = re.compile(rb"fault (91 Memory|58 Memory block \d+)\n")
 ANOTHER_USER = 65534
-SECONDS = 2  # time limit of one run in seconds of processor time
-MAX_SECONDS = 600  # time limit of one run in seconds on a busy machine
+SECONDS = 2  # limit on the processor time of one run, in seconds
+MAX_SECONDS = 600  # limit on the duration of one run on a busy machine, in seconds
 MAX_LOG_BYTES = 1 << 20  # bytes of strace's log above which a run is considered endless
 END_FORMAT = "\\0ended\\0"  # printf format that marks the end of a run's output
 RUNS_PER_SHELL = 16
@@ -28,11 +28,11 @@ SHELL_MESSAGES = re.compile(r"(sh|strace): ")
 EXPLANATIONS = [(re.compile(rb"^fault \d+ (Open|Read|Write)\b", re.MULTILINE), "subttx: "),
                 (re.compile(rb"^usage 0 Words$", re.MULTILINE), "error: ")]
 COMMAND_LINE_ERROR = "subttx: cannot read the command line: "  # printed if memory runs out
-# Number of faults that `check --all` reports for each PES packet in an input except the last.
+# For each input, the number of faults that `check --all` reports for each PES packet but the last.
 FAULTS_PER_PACKET = {"long.pes": 0, "even.pes": 2, "unread.pes": 1}
 
 
-# Let the malloc or realloc call with the number REFUSE_AT fail, and create the file REFUSED.
+# Make call number REFUSE_AT to malloc or realloc fail, and create the file named by REFUSED.
 REFUSING_LIBRARY = rb"""
 #define _GNU_SOURCE
 #include <dlfcn.h>
@@ -119,8 +119,8 @@ class Command(NamedTuple):
 class Call(NamedTuple):
     """A system call in a log from strace.
 
-    `on` is the descriptor, or the file name in a call to openat or statx. `number` counts the calls
-    with the same name from 1.
+    `on` is the descriptor, or the file name in a call to openat or statx. The first call of each
+    name has the `number` 1.
     """
 
     name: str
@@ -132,7 +132,7 @@ class Call(NamedTuple):
 
 
 class RunResult(NamedTuple):
-    """The result of a run. `printed` is `None` for unknown output, `written` for a missing file.
+    """The result of a run. `printed` is the output, if known. `written` is the file, if it exists.
 
     If the program could not run, `status` is the reason. `error_text` is standard error. `changed`
     contains the names of other changed files.
@@ -159,7 +159,7 @@ def read(path: str) -> bytes | None:
 
 
 def read_files(place: str, command: Command) -> dict[str, bytes | None]:
-    """Return the files in a folder by name, except strace's log and the command's output."""
+    """Return the contents of a folder's files, except strace's log and the command's output."""
     out = os.path.realpath(os.path.join(place, command.out)) if command.out else ""
     return {name: read(os.path.join(place, name)) for name in os.listdir(place)
             if name not in (command.out, "calls")
@@ -358,8 +358,8 @@ def compare_with_normal_run(command: Command, run_result: RunResult) -> list[str
 def check_memory_failure(command: Command, run_result: RunResult) -> list[str]:
     """Return the faults in a run with little memory.
 
-    The output must be the normal output, or must report that memory ran out. Then the explanation
-    of wrong arguments may be missing or incomplete.
+    The output must be the normal output, or must report that memory ran out. With the normal
+    output, the explanation of wrong arguments may be missing or incomplete.
     """
     result = NO_MEMORY.search(run_result.printed or b"")
     if not result or run_result.printed is None:
@@ -401,15 +401,15 @@ def expect_read_fault(trial: Trial, command: Command, name: str, offset: int) ->
         block = 0 if offset < GSI else (offset - GSI) // TTI + 1
         before = lines[:max(block - 1, 0)] if command.program_args[0] == "show" else []
         if "--all" in command.program_args:
-            # Faults in earlier blocks do not stop reading.
+            # The program continues reading after faults in earlier blocks.
             before = [line for line in lines if b" block " in line and parse_block(line) < block]
         return b"".join(before) + b"fault 26 Read block %d\n" % block
     index = count_packets_before(trial.inputs[name], offset)
     starts = [at for at, line in enumerate(lines) if line.startswith(b"pes ")] + [len(lines) - 1]
     before = lines[:starts[index]] if command.program_args[0] == "packets" else []
     if "--all" in command.program_args:
-        # Lines about the subtitle file are first. Each PES packet has FAULTS_PER_PACKET lines,
-        # except frames without a known expected page. Lines about trusted frames are at the end.
+        # Lines about the subtitle file come first, then FAULTS_PER_PACKET lines for each PES packet
+        # in a frame whose expected page is known, then lines about trusted frames.
         error_text = FAULTS_PER_PACKET[name] * index
         for line in lines:
             if line.startswith(b"refused ") and b" block " not in line and b" 78 " not in line:
@@ -422,7 +422,7 @@ def expect_read_fault(trial: Trial, command: Command, name: str, offset: int) ->
 
 
 def count_bytes_before(calls: list[Call], call: Call) -> int:
-    """Return the bytes transferred by earlier calls of the same name on the same descriptor."""
+    """Return how many bytes earlier calls of the same name transferred on the same descriptor."""
     return sum(other.result or 0 for other in calls[:calls.index(call)]
                if (other.name, other.on, other.file) == (call.name, call.on, call.file))
 
@@ -439,7 +439,7 @@ def is_explanation(call: Call) -> bool:
 
 
 def judge(trial: Trial, command: Command, run_result: RunResult) -> list[str]:
-    """Return the faults of a run under strace in which calls were made to fail.
+    """Return the faults of a run in which strace made system calls fail.
 
     A failed write to standard error must not change the rest of the output.
     """

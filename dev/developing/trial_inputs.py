@@ -11,7 +11,7 @@ from .stl import make_box_line, make_tti_block
 from .trial import Trial, read
 
 SUBTITLES = 1700  # enough subtitles to fill each 64 KiB buffer three times
-FLAGS = 6  # offset of the flags in a PES packet, which begin with the bits 10
+FLAGS = 6  # offset of the flags in a PES packet; the flags begin with the bits 10
 HEADER = "1515d0d015d015d00215" + "20" * 32
 
 # Commands, each with its status if no system call fails. The output file, if any, is the third
@@ -50,7 +50,7 @@ def make_subtitle(number: int) -> bytes:
 def set_even_parity(sent: bytes) -> bytes:
     """Give each row in the transmission one byte with even parity.
 
-    A page transmission has 368 bytes: a header and two rows. The last one has 184 bytes and no row.
+    The last page transmission has no rows. Each earlier one has 368 bytes and two rows.
     """
     data = bytearray(sent)
     for begin in range(0, len(data) - 184, 368):

@@ -24,9 +24,9 @@ START_MEMORY = 8192  # KiB of memory; enough to start the program
 STACK_SIZE = 64  # KiB; each command needs less than 48
 SURVEY_STACK_SIZE = 160  # KiB; `survey` needs between 144 and 152
 MAX_SUBTITLES = 99_999  # maximum number of subtitles in a file, with one block each
-MEMORY_WITHOUT_TEXTS = 10_000_000  # bytes; enough for MAX_SUBTITLES without their texts
+MEMORY_WITHOUT_TEXTS = 10_000_000  # bytes that MAX_SUBTITLES subtitles may need besides their texts
 TOO_LITTLE_MEMORY = 1_000_000  # bytes; not enough for MAX_SUBTITLES subtitles
-# Commands whose memory requests are refused in turn, with files from examples/.
+# Commands whose memory requests are refused in turn. Their files are in examples/.
 REFUSED_REQUESTS = [line.split() for line in f"""
 packet {HEADER}
 packets hello.pes
@@ -79,7 +79,7 @@ def run_with_less_memory(trial: Trial) -> Iterator[Case]:
 
 
 def resolve_examples(program_args: list[str]) -> list[str]:
-    """Return the arguments with the names of example files replaced with their paths."""
+    """Return the arguments with the path of each example file in place of its name."""
     places = [os.path.join(TOP, "examples", word) for word in program_args]
     return [place if os.path.exists(place) else word for word, place in zip(program_args, places)]
 
@@ -122,7 +122,7 @@ def run_with_refused_memory(trial: Trial) -> Iterator[Case]:
 
 
 def run_with_many_subtitles(trial: Trial) -> Iterator[Case]:
-    """Check the maximum number of subtitles in little more memory than their texts need."""
+    """Check that MAX_SUBTITLES subtitles need little more memory than their texts."""
     texts = [make_box_line(b"Subtitle %05d" % number) for number in range(MAX_SUBTITLES)]
     blocks = [make_tti_block(number & 0xFFFF, 20 * number, 20 * number + 20, 22, 2, text)
               for number, text in enumerate(texts)]

@@ -10,7 +10,7 @@ SECOND, TENTH_TICKS = 90_000, 9_000  # ticks
 # Number of intervals for the median, and minimum number of intervals to detect a late PCR.
 MEDIANS, FEWEST = 100, 5
 MAX_BREAKS = 256
-NEAR = 256  # number of TS packets after a PCR that are always near it
+NEAR = 256  # TS packets that follow a PCR within this number count as near it
 PrintLine = Callable[[str], None]
 
 
@@ -86,7 +86,7 @@ class Counters:
 
     def __init__(self) -> None:
         self.first: dict[int, int] = {}
-        self.last: dict[int, tuple[int, int]] = {}  # counter and position by PID
+        self.last: dict[int, tuple[int, int]] = {}  # last counter and its position, by PID
         self.announced: set[int] = set()
         # For each break, the PID and the positions of the TS packets before and after it.
         self.breaks: list[tuple[int, int, int]] = []

@@ -136,7 +136,7 @@ class Stream:
                 teletext.print_jumps(self.place)
 
     def read_packet(self, packet: Packet) -> None:
-        """Detect whether a PID has Teletext or video, from the start of a PES packet."""
+        """Detect from the start of a PES packet whether its PID carries Teletext or video."""
         data = packet.payload
         if packet.is_wrong or not packet.begins or not packet.has_payload or len(data) < 4 \
                 or not data.startswith(START[:3]):

@@ -43,7 +43,7 @@ class DecodedPage:
         self.magazine, self.number = page
         self.rows: Rows = {}
         self.is_open = self.is_received = False
-        self.is_last_header_own = False  # whether the magazine's last header is of this page
+        self.is_last_header_own = False  # whether the magazine's last header belongs to this page
         self.begin()
 
     def begin(self) -> None:

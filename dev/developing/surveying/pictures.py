@@ -1,6 +1,6 @@
 """Compute the output lines of `survey` for a PID with video.
 
-The lines report pictures, and the first group of pictures that has random access.
+The lines report pictures, and the first group of pictures at which decoding can start.
 """
 from __future__ import annotations
 
@@ -10,7 +10,7 @@ from subtitles.common.times import subtract_pts
 from .clocks import PrintLine, number
 from .packets import Packet
 
-MAX_GROUP_TICKS = 900_000  # maximum duration of a group in ticks (10 seconds)
+MAX_GROUP_TICKS = 900_000  # maximum duration of a group of pictures, in ticks (10 seconds)
 VIDEO = 0xE0  # stream_id of video; the lower four bits may differ
 MPEG, H264, HEVC = (1, 2), 0x1B, 0x24  # values of stream_type in a PMT
 GROUP, PICTURE = 0xB8, 0  # start codes
@@ -31,7 +31,7 @@ def has_times(header: bytes) -> bool:
 def find_picture_form(kind: int, data: bytes) -> str | None:
     """Return the form of a group of pictures: `open`, `closed` or `unknown`.
 
-    `data` is from the first picture of the group. Return `None` if more of it is needed.
+    `data` contains the start of the group's first picture. Return `None` if more data are needed.
     """
     if kind == H264:
         return "open"
@@ -63,7 +63,7 @@ class Video:
         self.count = self.passed = 0
         self.decoding: int | None = None  # decoding time of the last picture that has one
         self.number = 0  # number of the last picture that has a decoding time
-        # Whether the first group of pictures has begun and has ended, and its data.
+        # The state and the properties of the first group of pictures.
         self.has_begun = self.has_ended = False
         self.flagged: int | None = None
         self.least: int | None = None
@@ -146,7 +146,7 @@ class Video:
             self.print_line(f"video {self.pid} {self.passed}")
             self.has_begun, self.flagged = True, pts
             self.kind = self.pmt_entries[self.pid][1]
-            self.form = find_picture_form(self.kind, b"")  # known without data for H.264
+            self.form = find_picture_form(self.kind, b"")  # H.264 needs no data
         self.passed += not self.has_begun
         if decoding is not None:
             self.decoding, self.number = decoding, self.count

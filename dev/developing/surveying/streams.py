@@ -19,7 +19,7 @@ from .tables import cached_crc
 FULL = PACKET - 4
 PAYLOAD_START, RANDOM_ACCESS, PCR_FLAG = 0x40, 0x40, 0x10
 MPEG_1, MPEG_2, H264, HEVC = 0x01, 0x02, 0x1B, 0x24  # stream_type
-NO_PCR, FIRST_PCR = 0x1FFF, 0x11F  # PCR_PIDs; the second is used by the first programme
+NO_PCR, FIRST_PCR = 0x1FFF, 0x11F  # PCR_PIDs: of programmes without PCR, of the first programme
 NULL = bytes([SYNC, 0x1F, 0xFF, 0x10]).ljust(PACKET, b"\xff")
 PAGES: list[Page] = [(0, 0x88), (0, 0x88), (0, 0x88), (0, 0x77), (1, 0x88), (0, 0xFF), (7, 0x99)]
 
@@ -145,8 +145,7 @@ def make_teletext_pes(chance: Random, pts: int, packets: list[bytes]) -> bytes:
     return data
 
 
-# Start codes or NAL unit headers that precede a picture, and then those with which a picture
-# begins.
+# Start codes or NAL unit headers before a picture, and those with which a picture begins.
 BEFORE_PICTURE = {MPEG_1: [0xB3, 0xB2, 0xB8], MPEG_2: [0xB3, 0xB5, 0xB2, 0xB8], H264: [0x09],
                   HEVC: [0x46, 0x40, 0x42, 0x44, 0x4E]}
 PICTURE_UNITS = {MPEG_1: [0], MPEG_2: [0], H264: [0x65], HEVC: [2 * unit for unit in (
@@ -347,7 +346,7 @@ def announce_jump(chance: Random, units: list[Unit]) -> None:
     pid = read_unit_pid(units[at])
     announcing = bytearray(make_packet_without_payload(chance, pid, True))
     if units[at].packet[3] & 0x20 and units[at].packet[4] and chance.random() < 0.5:
-        announcing = bytearray(units[at].packet)  # the same TS packet with the announcement
+        announcing = bytearray(units[at].packet)  # announce it in the TS packet itself
         announcing[5] |= 0x80
     if chance.random() < 0.3:
         place, bit = chance.choice([(1, 0x80), (3, 0x40), (3, 0x10), (5, 0x80)])

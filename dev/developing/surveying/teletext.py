@@ -27,7 +27,7 @@ def find_packet_fault(data: bytes) -> int:
 
 
 def step_of(times: list[int | None]) -> int:
-    """Return the ticks from the first PTS to the last, or 0 if one of them is missing."""
+    """Return the number of ticks from the first PTS to the last, or 0 if either is missing."""
     first, second = times[0], times[-1]
     return subtract_pts(first, second) if first is not None and second is not None else 0
 
@@ -40,7 +40,7 @@ class PesLines:
         self.count = self.marks = 0
         self.ends_with_gap = False
         self.page = DecodedPage(page)
-        # The PES packets of the next `pes` line: their PTS, and the fields of this line after STEP.
+        # For the PES packets of the next `pes` line: their PTS, and the line's fields after STEP.
         self.times: list[int | None] = []
         self.rest = ""
         self.printed: dict[str, Rows | None] = {"rows": None, "strays": {}}
@@ -133,7 +133,7 @@ class Teletext:
         self.lines = PesLines(pid, page, line_printer)
         self.packets = self.scrambled = 0
         self.refusal = 0
-        # Used to detect repeated TS packets after a PES packet with a wrong start or length.
+        # Stretch after the TS packet with a wrong PES start or length, to detect repeats of it.
         self.refused_stretch: Stretch | None = None
         # The payloads since the last start of a PES packet, break or announced jump.
         self.stretch = Stretch(None)
@@ -192,7 +192,7 @@ class Teletext:
             self.use_payload(packet.payload)
 
     def use_payload(self, payload: bytes) -> None:
-        """Read the PES packet if this payload completes it."""
+        """Process a payload. If it completes the PES packet, read the packet."""
         length = read_length(self.part) if self.begins else None
         if self.is_payload_used:
             self.has_gap |= payload != b""
@@ -209,7 +209,7 @@ class Teletext:
             self.lines.read(self.part[:length])
 
     def mark(self) -> None:
-        """Print a gap marker if data are missing after a PES packet."""
+        """Print a gap marker if data are missing after the last PES packet. Reset the counts."""
         if self.has_gap and self.lines.count:
             self.lines.gap(self.lost, self.scrambled_there)
         self.has_gap, self.lost, self.scrambled_there = False, 0, 0
@@ -234,7 +234,7 @@ class Teletext:
         self.settled = self.last_pts
 
     def print_jumps(self, place: float) -> None:
-        """Print the oldest pending jumps until few remain and none is too old."""
+        """Print pending jumps in excess of MAX_PENDING_JUMPS or older than MAX_PENDING_PACKETS."""
         while len(self.waiting) > MAX_PENDING_JUMPS or self.waiting \
                 and place - self.waiting[0][0].last > MAX_PENDING_PACKETS:
             jump, before, after = self.waiting.pop(0)
