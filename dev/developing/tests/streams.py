@@ -45,7 +45,6 @@ def convert_bits(text: str) -> bytes:
 
 
 def make_hevc_picture() -> bytes:
-    """Return an HEVC picture with two slice segments."""
     return b"\0\0\0\1\x46\x01\x50" + b"\0\0\1\x26\x01\xaf" + b"\x55" * 40 \
         + b"\0\0\1\x26\x01\x2f" + b"\x55" * 40
 

@@ -22,7 +22,6 @@ class CalledFunctions(NamedTuple):
 
 
 def rows() -> dict[str, list[str]]:
-    """Read tests.tsv. Return the test classes for each module or script."""
     with open(PATH, encoding="utf-8") as file:
         result = [line.rstrip("\n").split("\t") for line in file if not line.startswith("#")]
     return {module: tests.split() for module, tests in result}

@@ -28,7 +28,6 @@ SHARED_MODULES = {"subtitles." + name for name in (
 
 
 def get_module_name(path: str) -> str:
-    """Return the dotted module name for a file; a package is named by its folder."""
     home = TOOLS if path.startswith(TOOLS + os.sep) else DEV
     words = os.path.relpath(path, home).removesuffix(".py").split(os.sep)
     return ".".join(words[:-1] if words[-1] == "__init__" else words)

@@ -159,7 +159,7 @@ def steady(decoded: Timeline) -> None:
 
 
 def fake_answer(spans: list[tuple[int, int]], *edges: tuple[int, int]) -> Any:
-    """Return output of `check` with fault 72 in the frames `spans` and the first faults `edges`."""
+    """Return output of `check`: fault 72 in the frames `spans`, and other faults with frames."""
     firsts = {number: parse_fault_line(f"refused {number} Edge frame {format_frame(frame)}")
               for number, frame in edges}
     return SimpleNamespace(first_faults=firsts, fault_spans={72: Spans(spans)})

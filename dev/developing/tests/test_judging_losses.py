@@ -35,7 +35,6 @@ class HiddenPages(ProgrammeCase):
     due = TIMES
 
     def send_wrong_page(self, every: int = 25) -> SentPes:
-        """Return a transmission with a wrong page, and PES packets in all frames."""
         sent = fill_missing_frames(schedule_pages(self, self.stl, every=every))
         return [*sent[:WRONG_PAGE_INDEX], (sent[WRONG_PAGE_INDEX][0], WRONG),
                 *sent[WRONG_PAGE_INDEX + 1:]]

@@ -210,7 +210,7 @@ def change_subcode(header: bytes, digit: int) -> bytes:
 
 
 def numbers(**places: int) -> bytes:
-    """Return the values of a header that does not erase the page, with `p5=1` as value 5."""
+    """Return the values of a header without erase_page. `p5=1` sets the value at index 5."""
     result = bytearray(KEEPING_NUMBERS)
     for name, value in places.items():
         result[int(name[1:])] = value

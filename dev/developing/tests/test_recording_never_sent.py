@@ -292,7 +292,7 @@ class SourcesWithoutPage(ProgrammeCase):
                 for pts, packets in self.sent]
 
     def exclude(self, last: int) -> SentPes:
-        """Return PES packets with headers only. Up to frame `last` they have no headers either."""
+        """Return the transmission without rows. PES packets up to frame `last` are empty."""
         return [(pts, packets if pts // TICKS > last else []) for pts, packets in self.blank()]
 
     def test_refuses_headers_without_rows_if_a_subtitle_is_expected(self) -> None:

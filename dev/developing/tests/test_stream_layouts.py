@@ -87,7 +87,6 @@ def draw_with_program(text: bytes, row: int, justify: int, layout: Layout) -> st
 
 
 def line(chance: random.Random, has_codes: bool) -> bytes:
-    """Return a random line, with control codes if `has_codes`, or else with at most a colour."""
     text = " ".join(chance.choice(WORDS) for _ in range(chance.randrange(1, 5)))[:30].encode()
     colour = chance.choice([b"", b"", b"\3", b"\6"])
     return b"\x0d" + colour + b"\x0b\x0b" + text + b"\x0a\x0a" if has_codes else colour + text

@@ -38,7 +38,7 @@ class Row(NamedTuple):
 
 
 def remove_frames(frames: Sequence[int], *holes: tuple[int, int]) -> list[int]:
-    """Return the frames outside `holes`. A hole is a frame and a number of missing frames."""
+    """Return the frames outside `holes`, which are pairs of a frame and a number of frames."""
     missing = {frame for first, count in holes for frame in range(first + 1, first + 1 + count)}
     return [frame for frame in frames if frame not in missing]
 
@@ -62,10 +62,7 @@ def repeat_steps(steps: Sequence[int], times: int) -> list[int]:
 
 def measure_regular_pace(name: str, *rows: Sequence[int], frames: int = 2, each: int = 1,
                          every: int = 250, pauses: Pauses = (), closer: int = 0) -> Row:
-    """Return a test case in which the PES packets of a stream are regularly spaced.
-
-    `frames` is the expected longest interval, `each` the size of a PES packet in TS packets.
-    """
+    """Return a test case for a stream. `frames` is the expected maximum interval."""
     return Row(name, rows, REGULAR, frames, each, every, pauses, closer)
 
 

@@ -41,7 +41,6 @@ def write_subtitle_file(case: Case, subtitles: Iterable[ShownSubtitle], name: st
 
 def write_programme(case: Case, times: Sequence[tuple[int, int]], lines: int = 1,
               text: bytes = b"Number %d", first: int = 1, name: str = "one.stl") -> str:
-    """Write a subtitle file with one subtitle for each pair of frames. Return its path."""
     return write_subtitle_file(case, ((begin, end, NEW_LINE.join(
         [text % number if b"%" in text else text] * lines))
         for number, (begin, end) in enumerate(times, first)), name, first)
@@ -92,7 +91,6 @@ def packets(data: bytes) -> list[bytes]:
 
 
 def replace_pts(data: bytes, new_pts: Callable[[int, int], int]) -> bytes:
-    """Return a PES file in which the PTS of each PES packet is `new_pts(number, old_pts)`."""
     return b"".join(packet[:9] + encode_pts(new_pts(number, decode_pts(packet)) % CLOCK)
                     + packet[14:] for number, packet in enumerate(packets(data)))
 
@@ -124,7 +122,6 @@ def add_pauses(sent: SentPes, *shifts: int) -> SentPes:
 
 
 def write_pipe(case: Case, data: bytes, path: str = "") -> str:
-    """Create a named pipe, write bytes to it in the background, and return its path."""
     path = path or case.path(f"feed{len(os.listdir(case.folder))}")
     start_feed(path, data)
     return path
