@@ -29,7 +29,7 @@ MIN_SECONDS, BYTES_PER_SECOND = 60.0, 2_000_000  # time limit: 60 s, plus 1 s fo
 WORK = ".work-"  # prefix of the temporary folder in which a programme is judged
 HEAD_FILE = "head.ts"  # file in the temporary folder with the beginning of the recording
 SPARE_BYTES = 1 << 20  # bytes of disk space to leave free
-MAX_PMT_SECONDS = 1.0  # maximum number of seconds until the next PMT, from which PIDs are known
+MAX_PMT_SECONDS = 1.0  # maximum number of seconds until the next PMT, which lists the PIDs
 PTS_SECOND = FRAMES_A_SECOND * TICKS
 CORRECT_VERDICTS = {ACCEPTED, WAIVED, RELATIVE}  # verdicts without errors
 # Exit statuses of the judging process besides qc's 0 to 3. FAILED: a system error occurred.

@@ -75,14 +75,7 @@ class SpanIndex:
 
 
 class ReceivedPackets:
-    """The PES packets that were received, in runs of consecutive packets.
-
-    `begins` and `ends` contain the first and last frame of each run. `first` and `last` are the
-    first and last frame of all runs. `uneven_frames` contains the frames of each run with gaps or
-    repeated frames, by the index of the run. `uncertain_spans` contains the frames around gap
-    markers and around PES packets that were not received. `halt` is the first PES packet with an
-    earlier frame than the previous packet. No packet after it is received.
-    """
+    """The PES packets that were received, in runs of consecutive packets."""
 
     def __init__(self, lost: Iterable[Span] = ()) -> None:
         self.lost = SpanIndex(lost)  # frames with losses from any source
@@ -90,12 +83,15 @@ class ReceivedPackets:
 
     def clear(self) -> None:
         """Forget all PES packets."""
+        # Runs, and the frames of each run with gaps or repeated frames, by the index of the run
         self.received_runs, self.uneven_frames = list[PacketRun](), dict[int, Sequence[int]]()
-        self.begins, self.ends = array.array("i"), array.array("i")
+        self.begins, self.ends = array.array("i"), array.array("i")  # frames of each run
         self.count = 0  # number of received PES packets
-        self.first = self.last = NO_FRAME
+        self.first = self.last = NO_FRAME  # first and last frame of all runs
+        # First PES packet with an earlier frame than the packet before it. Reception ends there.
         self.halt: int | None = None
         self.is_uncertain = False
+        # Frames around gap markers and unreadable PES packets; frames without a PES packet
         self.uncertain_spans, self.pauses = list[Span](), list[Span]()
 
     def add_run(self, run: PacketRun, frames: Sequence[int]) -> bool:
@@ -182,15 +178,9 @@ MIN_FRAMES = 250  # minimum number of frames to decode before and after a span
 
 
 class Timeline(ReceivedPackets):
-    """The pages that a receiver decodes.
-
-    The page `pages[i]` is decoded from the end of frame `frames[i]`. `states` contains the initial
-    state, and the state after each PES packet of `state_packets`. `state_frames` contains the
-    frames of these packets. The page opens or closes at the ends of the frames `open_changes`.
-    `header_frames` contains the frames with a page header, and `erasure_frames` the frames with a
-    header that erases the page. If the frame number decreases before frame `begin`, all earlier
-    packets are forgotten. `first_packet_frame` is the frame of the first PES packet, if known.
-    """
+    """The pages that a receiver decodes. If the frame number decreases before frame `begin`, all
+    earlier packets are forgotten. `first_packet_frame` is the frame of the first PES packet, if
+    known."""
 
     def __init__(self, packets: Packets, page: Page, origin: int, within: int = 0,
                  inside: Range | None = None, begin: int = NO_FRAME, first_packet_frame: int
@@ -206,9 +196,12 @@ class Timeline(ReceivedPackets):
     def clear(self) -> None:
         """Forget all PES packets and pages."""
         super().clear()
+        # Each page is decoded from the end of the frame with the same index.
         self.frames, self.pages = array.array("i"), list[Rows]()
-        self.states = [INITIAL_STATE]
+        self.states = [INITIAL_STATE]  # then the state after each of `state_packets`
         self.state_frames, self.state_packets = array.array("i"), array.array("q")
+        # Frames in which a transmission of the page begins or ends, frames with a header of the
+        # page, and frames with a header that erases the page
         self.open_changes, self.header_frames, self.erasure_frames = (array.array("i") for _
                                                                       in range(3))
         # Rows received outside a transmission of the page
