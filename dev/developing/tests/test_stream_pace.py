@@ -38,7 +38,7 @@ class Row(NamedTuple):
 
 
 def remove_frames(frames: Sequence[int], *holes: tuple[int, int]) -> list[int]:
-    """Return the frames outside `holes`, which are pairs of a frame and a number of frames."""
+    """Return the frames outside `holes`. A hole (F, N) contains the N frames after frame F."""
     missing = {frame for first, count in holes for frame in range(first + 1, first + 1 + count)}
     return [frame for frame in frames if frame not in missing]
 
