@@ -50,9 +50,9 @@ class SourceNames:
                 self.add_path(top, os.path.relpath(os.path.join(place, name), top))
 
     def add_path(self, top: str, path: str) -> None:
-        """Add a path, also relative to its crate, and the words in a source file's name and text.
+        """Add a path and, for a source file, the words in its name and text.
 
-        `path` is relative to the repository's folder `top`.
+        `path` is relative to `top`. A path in a crate is also added relative to the crate.
         """
         parts = path.split(os.sep)
         for start in {0, *((1, 2) if parts[0] == "crates" else ())}:
@@ -64,7 +64,7 @@ class SourceNames:
             self.read(os.path.join(top, path))
 
     def read(self, path: str) -> None:
-        """Add the words in a file, except those in comments. Skip edits of must-fail/."""
+        """Add the words in a file, except those in comments. Skip edit files."""
         ending = os.path.splitext(path)[1]
         if ending != ".edit":
             with open(path, encoding="utf-8", errors="replace") as file:
@@ -95,7 +95,7 @@ class SourceNames:
 
 
 def find_unknown_names(top: str) -> dict[str, list[str]]:
-    """Return, by document, the quoted names that do not occur in the sources (FILE:LINE: NAME)."""
+    """Return, by document, each quoted name that is not in the sources, as `FILE:LINE: NAME`."""
     sources = SourceNames(top)
     result: dict[str, list[str]] = {}
     for name, start in DOCUMENTS.items():

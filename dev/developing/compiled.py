@@ -28,7 +28,7 @@ def compile_in_place(folder: str) -> None:
 
 
 def share_compiled(folder: str) -> None:
-    """Let a copy of the tools use the compiled modules. It must have the same file times."""
+    """Let a copy of the tools use the compiled modules. Its modification times must be equal."""
     if PREFIX in os.environ:
         place = os.environ[PREFIX] + os.path.realpath(folder)
         os.makedirs(os.path.dirname(place), exist_ok=True)

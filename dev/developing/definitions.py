@@ -377,6 +377,6 @@ def read_braced_text(text: str, start: int) -> str:
 
 def count_lines_to_read(definitions: list[Definition], outside: Iterable[ExternalName]
                   ) -> tuple[int, int, int]:
-    """Return how many definitions, lines of definitions, and names from std there are."""
+    """Return three numbers: the definitions, their lines, and the names used from std."""
     lines = sum(len(item.code()) for item in definitions)
     return len(definitions), lines, sum(item.module is None for item in outside)

@@ -64,7 +64,7 @@ Lines = list[tuple[str, str]]  # key before the colon and text after the colon
 
 
 def read_edit(path: str) -> Lines:
-    """Return the key and the text of each line of an edit file: the parts around the colon."""
+    """Return the key before the colon and the text after it for each line of an edit file."""
     with open(path, encoding="utf-8") as file:
         lines = [line.partition(":") for line in file.read().split("\n") if line.strip()]
     return [(kind, rest.removeprefix(" ")) for kind, _, rest in lines]

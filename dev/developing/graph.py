@@ -140,9 +140,9 @@ class UseGraph:
                 if not function.owner and (function.file.crate == crate or is_imported)]
 
     def link_proof(self, node: Node) -> None:
-        """Record which part of a function uses a lemma of the function's proof folder.
+        """Record which part of a function uses the lemma `node` of the function's proof folder.
 
-        It is the clause in the lemma's name, or the function's body if there is no such clause.
+        This part is the clause in the lemma's name, or the body if the name contains no clause.
         """
         _, crate, _, *inner, name, _ = node.file.module.split(".")
         functions = self.functions_by_name.get((crate, name), [])

@@ -103,7 +103,7 @@ class BuildRecord:
         return hashlib.sha256(text.encode()).hexdigest()
 
     def find_line(self, crate: str) -> str | None:
-        """Return the line that the prover printed for a crate, or `None` if it is not proved."""
+        """Return the prover's output line for a crate, or `None` if it was not proved here."""
         digest, _, line = (read(self.get_note_path(crate)) or "").partition("\n")
         is_there = os.path.exists(self.prover.get_output_path(crate))
         return line.strip() if is_there and digest == self.compute_sum(crate) else None

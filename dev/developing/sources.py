@@ -148,7 +148,7 @@ def read_functions(file: Source) -> list[str]:
 
 
 def find_end_of_function(lines: list[str], at: int, indent: str) -> int:
-    """Return the index of the last line of a function. It begins at `at`, indented by `indent`."""
+    """Return the index of a function's last line. The first is at `at`, indented by `indent`."""
     depth = 0  # depth of braces in the contract
     for number in range(at, len(lines)):
         line = lines[number].rstrip()

@@ -119,8 +119,8 @@ class Command(NamedTuple):
 class Call(NamedTuple):
     """A system call in a log from strace.
 
-    `on` is the descriptor, or the file name in a call to openat or statx. The first call of each
-    name has the `number` 1.
+    `on` is the descriptor, or the file name in a call to openat or statx. `number` is the position
+    of the call among those with the same name, counted from 1.
     """
 
     name: str

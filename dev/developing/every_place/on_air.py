@@ -34,7 +34,7 @@ def find_page_span(packets: Sequence[Packet], page: Page) -> tuple[Sequence[Pack
 
 def find_last_header(packets: Sequence[Packet], page: Page,
                      must_erase: bool = False) -> int | None:
-    """Return the index of the page's last header. With `must_erase`, C4 must be set in it."""
+    """Return the index of the page's last header. If `must_erase`, skip headers with C4 clear."""
     return next((at for at in reversed(range(len(packets))) if get_page(packets[at]) == page
                  and (erases_page(packets[at]) or not must_erase)), None)
 

@@ -1,8 +1,8 @@
 """Subtitle files, each with the lines that `check --all` must print (worked out by hand).
 
 They test limits that neither the crates' tests nor random pairs reach. The line about a faulty file
-names the faulty block. A correct file is checked with an empty PES file, which is refused, and each
-text with a transmission of exactly its cells, which is accepted.
+names the faulty block. A correct file is checked with an empty PES file, which is refused. Each
+text is also checked with a transmission of exactly its cells, which is accepted.
 """
 from __future__ import annotations
 

@@ -27,7 +27,7 @@ MAX_TRIES = 20  # maximum number of tries to make a refused subtitle
 
 
 class Pair(NamedTuple):
-    """Two files and the options of `check`. `is_failing` is true to test a read failure also."""
+    """Two files and the options of `check`. `is_failing` requests a check with a read failure."""
 
     stl: bytes
     pes: bytes

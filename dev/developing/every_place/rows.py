@@ -12,7 +12,7 @@ BLANK = bytes([SPACE]) * (ROWS * COLUMNS)
 
 
 class TextFault(Exception):
-    """Raised for a fault in a text. `number` is the fault number, `at` the offset of the fault."""
+    """Raised for a fault in a text. It has the fault number and the offset in the text or line."""
 
     def __init__(self, number: int, at: int) -> None:
         super().__init__(number, at)

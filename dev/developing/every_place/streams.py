@@ -144,7 +144,7 @@ def multiplex(rng: Random, packets: list[bytes], pid: int, has_jumps: bool) -> l
 
 
 def join_units(rng: Random, units: list[Unit], size: int) -> bytes:
-    """Join units, each after a time stamp (`size` 192), before 16 bytes (204), or alone (188)."""
+    """Join units. For `size` 192, add a time stamp before each; for 204, 16 bytes after each."""
     before, behind = (TIME_STAMP, 0) if size == 192 else (0, size - PACKET)
     data = b"".join(make_random_bytes(rng, before) + unit.packet + make_random_bytes(rng, behind)
                     for unit in units)

@@ -110,7 +110,7 @@ class TrustedFrames:
                 begin = frame + 1
 
     def find_trusted_frames(self) -> Iterator[tuple[int, CleanFrames]]:
-        """Yield each group of trusted frames, and before it the index of the event that follows."""
+        """Yield the index of an event and the group of trusted frames that is printed before it."""
         for run in self.find_runs():
             headers = [packet.frame for packet in self.sent
                        if packet.has_header and run.first <= packet.frame <= run.last]

@@ -10,7 +10,7 @@ SECOND, TENTH_TICKS = 90_000, 9_000  # ticks
 # Number of intervals for the median, and minimum number of intervals to detect a late PCR.
 MEDIANS, FEWEST = 100, 5
 MAX_BREAKS = 256
-NEAR = 256  # TS packets that follow a PCR within this number count as near it
+NEAR = 256  # a PCR that is fewer than 256 TS packets before a position is near it
 PrintLine = Callable[[str], None]
 
 

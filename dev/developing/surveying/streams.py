@@ -346,7 +346,7 @@ def announce_jump(chance: Random, units: list[Unit]) -> None:
     pid = read_unit_pid(units[at])
     announcing = bytearray(make_packet_without_payload(chance, pid, True))
     if units[at].packet[3] & 0x20 and units[at].packet[4] and chance.random() < 0.5:
-        announcing = bytearray(units[at].packet)  # announce it in the TS packet itself
+        announcing = bytearray(units[at].packet)  # add the announcement to the TS packet
         announcing[5] |= 0x80
     if chance.random() < 0.3:
         place, bit = chance.choice([(1, 0x80), (3, 0x40), (3, 0x10), (5, 0x80)])
