@@ -92,7 +92,7 @@ def make_index_page(folder: str, rows: Sequence[Row], date: str) -> bytes:
 
 
 def make_cause_totals(rows: Sequence[Row]) -> Markup:
-    """Return a paragraph with the number of subtitles or faults and of pairs for each cause."""
+    """Return a paragraph with the numbers of subtitles or faults, and of pairs, by cause."""
     causes, pairs = collections.Counter[str](), collections.Counter[str]()
     for row in rows:
         causes.update(row.causes)

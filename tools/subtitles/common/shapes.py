@@ -35,7 +35,7 @@ class Shape:
         return iter(())
 
     def make_reference(self) -> Schema:
-        """Return a schema that refers to this type, or the type's schema if it has no name."""
+        """Return a reference to this type, or the complete schema if the type has no name."""
         return {"$ref": f"#/definitions/{self.name}"} if self.name else self.schema()
 
 
@@ -225,12 +225,12 @@ class Record(Shape):
 
 
 class Rules(NamedTuple):
-    """Rows of types for some members of an object. A valid object matches at least one row."""
+    """Alternative types for some members of an object. At least one of the `rows` must match."""
 
     rows: Sequence[dict[str, Shape | Rules]]
 
     def find_misfit(self, value: Any) -> str | None:
-        """Return `None` if the value matches any row. Otherwise return a path in the first row."""
+        """Return `None` if the value matches any row. Otherwise return the path of a member."""
         is_valid = any(all(shape.find_misfit(value[name]) is None for name, shape in row.items())
                        for row in self.rows)
         return None if is_valid else f".{next(iter(self.rows[0]))}"

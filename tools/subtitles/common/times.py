@@ -104,8 +104,8 @@ def pts_of(frame: int, origin: int) -> int:
 
 
 def compute_frame(pts: int, origin: int, within: int = 0) -> int:
-    """Return the number of the frame that contains a PTS. `origin` is the PTS of frame 0. The
-    frame may be after the day. If `within` is not 0, frames begin a quarter of a frame earlier."""
+    """Return the number of the frame that contains a PTS, even after the end of the day. `origin`
+    is the PTS of frame 0. If `within` is not 0, frames begin a quarter of a frame earlier."""
     return wrap_pts(pts - origin + EARLY_TICKS * (within > 0)) // TICKS
 
 

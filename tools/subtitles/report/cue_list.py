@@ -46,7 +46,7 @@ class CueRow(NamedTuple):
     row_class: str
     kinds: Sequence[str]
     cells: Sequence[Value]
-    is_repeated: bool = False  # whether the previous row has the same fault; print omits repeats
+    is_repeated: bool = False  # whether the previous row has the same fault; omitted on paper
 
 
 class CueList:
@@ -320,7 +320,7 @@ MAX_PLACES = 20
 
 
 def find_places(part: Part) -> dict[int, list[tuple[FaultLine, str]]]:
-    """Return the first faults with each number. Add a text that says where each fault ends."""
+    """For each fault number, return the first faults and a text about the end of each fault."""
     places: dict[int, list[tuple[FaultLine, str]]] = {}
     for fault, end in part.check_output.read_faults():
         fault_places = places.setdefault(fault.number, [])

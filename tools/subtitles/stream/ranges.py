@@ -52,7 +52,7 @@ def find_range(packets: Packets, begin: int, end: int, origin: int, every: int |
     If `every` is given, start with the last page transmission that leaves the page blank, at most
     `every` frames before `begin`. End with the first page transmission at `end` or up to `every`
     frames later. If `within` is not 0, end instead with the first PES packet from `end` on that
-    leaves the page blank and closed, or with the first one after another `within` frames.
+    leaves the page blank and closed, but at the latest `within` frames after `end`.
 
     Use only the PES packets in the range `inside`. If `is_continued`, the text of the first frame
     is also expected before that frame.

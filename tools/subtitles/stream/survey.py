@@ -319,7 +319,7 @@ ANY_LANGUAGE_CODES = {"und", "mul"}  # codes for an undefined language and for s
 
 
 def list_language_codes(code: str) -> list[str]:
-    """Return the PMT language codes for an LC (two hexadecimal digits), or an empty list."""
+    """Return the PMT language codes for an LC of two hexadecimal digits. The list may be empty."""
     try:
         return CODES.get(int(code, 16), "").split()
     except ValueError:
