@@ -46,7 +46,7 @@ class CueRow(NamedTuple):
     row_class: str
     kinds: Sequence[str]
     cells: Sequence[Value]
-    is_repeated: bool = False  # whether the previous row has the same fault; omitted on paper
+    is_repeated: bool = False  # whether the previous row has the same fault; if so, not printed
 
 
 class CueList:
