@@ -177,8 +177,7 @@ def find_places(node: ast.AST, names: str = "", inside: str = MODULE
             is_function = isinstance(child, ast.FunctionDef)
             name_inside = f"{names}.{getattr(child, 'name')}".lstrip(".") \
                 if is_function or isinstance(child, ast.ClassDef) else names
-            # Python evaluates default values in the enclosing scope.
-            is_default = isinstance(child, ast.arguments)
+            is_default = isinstance(child, ast.arguments)  # defaults belong to the enclosing scope
             function = name_inside if is_function else MODULE if is_default else inside
             yield from find_places(child, name_inside, function)
 

@@ -332,7 +332,7 @@ def list_names(file: File, own: Iterable[str], text: str, bound: Iterable[str] =
     """Yield the names in a text that refer to definitions or imports.
 
     A name is yielded with its module if an alias of the module qualifies it, otherwise with `None`.
-    `own` contains the names that the file defines. `bound` contains those of local variables.
+    `own` contains names that the file defines. `bound` contains names of parameters and variables.
     """
     tokens = [token.lstrip("λ") for token in TOKEN.findall(text)]
     for before, token, after in zip(["", *tokens], tokens, [*tokens[1:], ""]):
