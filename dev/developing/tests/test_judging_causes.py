@@ -459,7 +459,7 @@ class CausesByHand(unittest.TestCase):
                                  if name in together)
             self.assertEqual((list_cause_counts(several), format_cause_counts(several),
                               count_causes(several)), (
-                expected, f"causes of faults in {counted(len(together), 'subtitle')}: {expected}",
+                expected, f"{counted(len(together), 'subtitle')} with faults: {expected}",
                 {name: together.count(name) for name in CAUSE_NAMES}), count)
 
 

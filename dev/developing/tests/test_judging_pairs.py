@@ -236,8 +236,7 @@ class Sentences(ProgrammeCase):
                  f"another subtitle's text at its time; received \"{text}\" of subtitle {number} "
                  f"(SN {number + 49})")] and
                 judged_pair.result["cause_counts"]["another subtitle's text"] == 1 and
-                "1 subtitle: 1 another subtitle's text" in judged_pair.lines("causes of faults "
-                                                                             "in "),
+                "1 subtitle with faults: 1 another subtitle's text" in judged_pair.said,
             causes)
 
     def test_reports_where_reading_stops(self) -> None:

@@ -132,12 +132,13 @@ class SeveralParts(ProgrammeCase):
             self.must(f"{changes}: each", [
                 item["complete_after"] for item in judged_pair.result["subtitles"]] == [
                     changes.get(number, 0) for number in range(1, 25)])
-            self.must(f"{changes}: counts", judged_pair.lines("causes of faults in ") == [
-                f"{len(changes)} subtitle{'s' * (len(changes) > 1)}: {len(changes)} late"])
+            self.must(f"{changes}: counts", f"{counted(len(changes), 'subtitle')} with faults: "
+                      f"{len(changes)} late" in judged_pair.said, judged_pair.said)
 
     def test_sums_up_the_delays_of_all_parts(self) -> None:
         result = self.judge_parts((1000, 3000), {10: 2, 19: 4}, "--within", "1")
-        self.must("refused", "subtitles were complete 0 to 4 frames after their TCI (median 0)" in
+        self.must("refused", "all subtitles were complete 0 to 4 frames after their TCI (median "
+                             "0)" in
                   result.said[-5:], result.said)
         result = self.judge_parts((1000, 3000), {10: 2, 19: 4}, "--within", "4")
         self.must("accepted", result.word == "accepted")

@@ -40,7 +40,7 @@ read_seconds = make_number_parser("seconds", 0, 99_999)
 read_limit = make_number_parser("seconds", 1, 99_999)
 
 MODE_OPTIONS = (
-    Option("--batch", "FOLDER|LIST", "judge the pairs of a folder or a list", (BATCH,),
+    Option("--batch", "FOLDER|LIST", "judge the pairs in a folder or a list", (BATCH,),
            field="batch"),
     Option("--collect", "DIR", "combine the JSON results in DIR into one table and one HTML page",
            (COLLECT,), field="collect"),

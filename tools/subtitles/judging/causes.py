@@ -536,7 +536,7 @@ class CauseDescriber:
 def format_cause_counts(several: list[Causes]) -> str:
     """Return a line with the number of subtitles whose fault has a cause, in total and by cause."""
     count = sum(len(item.cause_by_index) for item in several)
-    return f"causes of faults in {counted(count, 'subtitle')}: {list_cause_counts(several)}"
+    return f"{counted(count, 'subtitle')} with faults: {list_cause_counts(several)}"
 
 
 def list_cause_counts(several: list[Causes]) -> str:

@@ -43,7 +43,7 @@ class DelaySpread(NamedTuple):
         never_text = f", except {self.never_complete} that {was(self.never_complete)} never " \
             "complete" if self.never_complete else ""
         delay = f"{format_frame_range(self.minimum, self.maximum)} after" if self.maximum else "at"
-        return f"subtitles were complete {delay} their TCI{middle}{never_text}"
+        return f"all subtitles were complete {delay} their TCI{middle}{never_text}"
 
 
 def summarize_delays(several: Iterable[int | None]) -> DelaySpread | None:
