@@ -196,7 +196,7 @@ ImpliesDrawnHeadline given files code =
     (frames_by_place o.origin (bytes_selected l.reading bytes)))
 
 -- Unless the exit code is 2 (a device failed or memory ran out), it is 0 exactly if the files
--- contain at least one subtitle and a good transmission of their subtitles by the options.
+-- contain subtitles, possibly none, and a good transmission of these subtitles by the options.
 abbrev pub DecidesAcceptance : Result (List Text) UsageFault → MemFilesValue → ℕ → Type 0
 DecidesAcceptance given files code =
     ForChosenOptions given files (λ o file bytes. code ≢ 2 → (code ≡ 0) ↔ IsAcceptedInPlainTerms o
