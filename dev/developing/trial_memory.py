@@ -139,7 +139,7 @@ def run_with_many_subtitles(trial: Trial) -> Iterator[Case]:
     for command in commands:
         def run(command: Command = command) -> list[CaseResult]:
             run_result, short = (trial.run(command, setup=f"ulimit -d {size // 1024};")
-                          for size in (most, TOO_LITTLE_MEMORY))
+                                 for size in (most, TOO_LITTLE_MEMORY))
             kept = check_memory_failure(command, short)
             if short.status != 2:
                 kept.append("the limit has no effect: they fit all the same")

@@ -62,8 +62,8 @@ PTS_CASES = [
     *expect_lines("a PTS of the frame before", SENT,
              ("--origin 901 --within 1", *EARLY_WRONG, format_refused_line("74 Late", "01:24"))),
     *expect_lines("a PTS of the next frame", SENT,
-             ("--origin 8589931892 --within 1", format_refused_line("63 Early", "00:01"),
-              format_trusted_line("00:01", "02:01"))),
+                  ("--origin 8589931892 --within 1", format_refused_line("63 Early", "00:01"),
+                   format_trusted_line("00:01", "02:01"))),
 ]
 
 TOLERANCE_CASES = [*LARGEST_TOLERANCE_CASES, *PTS_CASES, *DAY]
@@ -82,9 +82,9 @@ LATE_PAGE_CASES = [
                   (KEEPING_OPTION, format_accepted_line(51, 3))),
     *expect_lines("a row that was not sent before it is known what is due",
                   make_pes_file("0 h c, 50 k r c, 100 h c"),
-             (KEEPING_OPTION, BAD, *format_lasting_fault("78 Undecided", "00:00", "01:24"),
-              format_trusted_line("04:00", "04:00")),
-             stl=AFTER_REFUSED_STL),
+                  (KEEPING_OPTION, BAD, *format_lasting_fault("78 Undecided", "00:00", "01:24"),
+                   format_trusted_line("04:00", "04:00")),
+                  stl=AFTER_REFUSED_STL),
     *expect_lines("another row before it is known what is due",
                   make_pes_file("0 h o c, 50 k r c, 100 h c"),
                   (KEEPING_OPTION, BAD, format_refused_line("78 Undecided", "00:00"),

@@ -93,7 +93,7 @@ def judge_files_with(program: str, *args: str, recorder: LineRecorder | None = N
         names = OutputNames("one", folder, known.out)
         names.set_subtitle_file(request.stl)
         files = OutputFiles(PairOptions(program, known.out, known.is_kept, known.json, known.csv,
-                               known.junit), verdict, command_paths, names, stamps)
+                                        known.junit), verdict, command_paths, names, stamps)
         verdict.files_at_start = describe_inputs(request)
         pair = PairJudge(verdict, command_paths, names, listener, True)
         judge_pair(pair, files)

@@ -36,7 +36,7 @@ def parse_single_fault(line: str) -> FaultLine:
 
 
 def make_answer(lines: Sequence[str] = ("accepted 10 frames 2 transmissions",),
-           status: int | None = None, path: str = os.devnull) -> CheckOutput:
+                status: int | None = None, path: str = os.devnull) -> CheckOutput:
     """Parse lines printed by `check --all`, and store them in the file `path`."""
     check_output = CheckOutput(path)
     for line in lines:

@@ -152,7 +152,7 @@ def list_schema_violations(known: Any) -> list[str]:
 
 
 def run_call(words: list[str], program: str, more: Sequence[str] = ("-p", "PROGRAM"),
-           wrong: Callable[[Any], list[str]] = list_all_violations) -> CallOutput:
+             wrong: Callable[[Any], list[str]] = list_all_violations) -> CallOutput:
     """Run qc. Return its output, with fixed texts instead of dates and fault explanations."""
     others: list[tuple[Any, str, object]] = [
         *((module, "read_meanings", lambda: MEANINGS) for module in (subtitles, faults, report))]
@@ -175,8 +175,8 @@ def run_call(words: list[str], program: str, more: Sequence[str] = ("-p", "PROGR
     return CallOutput(words, status,
                       [replace_volatile_text(line, program)
                        for line in (out + reported).splitlines()],
-                {name: replace_volatile_text(text, program) for name, text in files.items()},
-                files.get("one.json", ""))
+                      {name: replace_volatile_text(text, program) for name, text in files.items()},
+                      files.get("one.json", ""))
 
 
 if __name__ == "__main__":

@@ -137,7 +137,7 @@ class Folder:
         else:
             words = ["--collect", "out", *expected]
         printed = run_call(words, self.program,
-                        [] if words[0] == "--collect" else ["-p", self.program])
+                           [] if words[0] == "--collect" else ["-p", self.program])
         before, self.before = self.before, dict(self.files())
         return printed._replace(
             lines=[line.replace(TOP, "HERE") for line in printed.lines],

@@ -205,7 +205,7 @@ def multiplex_programmes(programmes: Sequence[Programme], frames: int) -> Stream
 
 
 def multiplex_frames(pes: list[bytes], begin: int, count: int, rounds: int = 66,
-              page: int = 0x88) -> Iterator[bytes]:
+                     page: int = 0x88) -> Iterator[bytes]:
     """Yield the frames of a transport stream.
 
     Each frame has a PCR, PES packets, and 16 * `rounds` video packets. If `rounds` is 66, the bit
@@ -389,7 +389,7 @@ def make_planned_stream(pes: Sequence[bytes], plan: Sequence[tuple[int, int]],
 
 
 def make_stream_with_video(pes: bytes, descriptor: bytes = make_teletext_descriptor(),
-                 ahead: int = PTS_AHEAD) -> bytes:
+                           ahead: int = PTS_AHEAD) -> bytes:
     return make_planned_stream(packets(pes), [(0, TELETEXT_PID)], None, descriptor, ahead)
 
 

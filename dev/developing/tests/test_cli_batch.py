@@ -53,11 +53,11 @@ class Lists(Case):
         with socket.socket(socket.AF_UNIX) as result:
             result.bind(self.path("socket"))
         items = read_pairs(self.write("list", lines.encode() + b"caf\xe9.stl x.ts"),
-                         make_default_options())
+                           make_default_options())
         self.must("names", [item.name for item in items] == [
             "one", "two", "one~2", "line 6", "line 7", "one~3", "none", "one~4", "line 11", "x",
             "x~2", "caf%E9"],
-            [item.name for item in items])
+                  [item.name for item in items])
         self.must("options", [item.request.every for item in items if item.request] ==
                   [50, 250, 250])
         reasons = [item.reason for item in items if item.reason]
@@ -125,7 +125,7 @@ class Lists(Case):
             ("c", f"{at}/c.stl, {at}/c.pes, {at}/c.ts: more than one pair has this name"),
             ("d", f"{at}/d.m2t: no subtitle file has the same name"),
             ("e", f"{at}/e.stl: no recording has the same name"), ("h%1B", None)],
-            [(item.name, item.reason) for item in items])
+                  [(item.name, item.reason) for item in items])
         self.must("files", [(item.request.stl, item.request.recording) for item in items
                             if item.request]
                   == [(f"{at}/{element}", f"{at}/{two}") for element, two in (

@@ -64,8 +64,8 @@ class CurrentResults(Case):
         self.must("no severity", not is_current(accepted_pair, none, PROGRAM))
         names = {field.name for field in dataclasses.fields(request)}
         self.must("all words", names == {*OTHERS, "stl", "recording", "severity", "from_time",
-                                             "to_time", "layout", "is_open", "may_keep",
-                                             "pace_word", "kept_stl", "language"},
+                                         "to_time", "layout", "is_open", "may_keep",
+                                         "pace_word", "kept_stl", "language"},
                   names)  # see test_request_options for the last members
 
     def test_removes_the_earlier_results_of_a_pair(self) -> None:
@@ -131,12 +131,12 @@ class StoredResults(Case):
         causes = {"late": 2, "early": 1}
         found_row = make_row(make_result(faults=faults, fault_count=7, seconds=1.5,
                                          cause_counts={**causes, "never": 0}, hints=["72: a hint"]),
-                                  "name")
+                             "name")
         self.must("all", found_row == Row(
             "name", "one.stl one.ts", "refused", 1, "refused 72 Content", 7,
             {**causes, "5 X": 120}, [f"refused {number}" for number in range(100)], 1.5, "a hint",
             sentence=found_row.sentence, clock=found_row.clock),
-            found_row)
+                  found_row)
         self.must("none", make_row(make_unjudged("name", "why"), "name") == Row(
             "name", "name", "not judged", 2, "why", 0, {}, [], 0.0, ""))
         none: dict[str, Any] = {"format": FORMAT, "verdict": "not judged", "status": 2, "name": "a",
@@ -145,7 +145,7 @@ class StoredResults(Case):
         self.must("reason", make_row(make_result("not judged"), "x").line == "why")
         self.must("the lead",
                   make_row(make_result(line="refused 10 A", worst_fault="refused 72 B"),
-                                            "x").line == "refused 72 B")
+                           "x").line == "refused 72 B")
         self.must("judged", make_row(make_result(), "x").is_judged and not make_row(
             make_unjudged("x", "why"), "x").is_judged)
 
@@ -232,8 +232,8 @@ class WatchedFolders(Case):
     def arguments(self, **more: Any) -> argparse.Namespace:
         arguments = argparse.Namespace(**vars(make_default_options()))
         vars(arguments).update({"watch": self.path("in"), "out": self.path("out"), "settled": 0,
-                            "is_kept": True, "jobs": 3, "limit": 7, "every": 99,
-                            **more})
+                                "is_kept": True, "jobs": 3, "limit": 7, "every": 99,
+                                **more})
         return arguments
 
     def write_pair(self) -> None:
@@ -304,7 +304,7 @@ class WatchedFolders(Case):
                 self.check(f"{now}: {what}", len(pages), count)
 
     def run_watch(self, looks: int, judged: Callable[[PairRunner, BatchItem], Row],
-               change: Callable[[int], None] = lambda look: None) -> list[str]:
+                  change: Callable[[int], None] = lambda look: None) -> list[str]:
         """Run `qc --watch` for `looks` searches of the folder, and return the printed lines."""
         count = 0
 
@@ -339,8 +339,8 @@ class WatchedFolders(Case):
         program = describe_program(self.bench.program)
         for name in ("a", "b", "c"):
             request = make_example_request(self.write(f"in/{name}.stl", b"1"),
-                                self.write(f"in/{name}.ts", b"1"),
-                              "--every", "99")
+                                           self.write(f"in/{name}.ts", b"1"),
+                                           "--every", "99")
             files = {**describe_inputs(request), **({"stl": None} if name == "b" else {})}
             have = make_result(request=REQUEST.to_json(request), files_at_start=files,
                                program=schema.PROGRAM.to_json(program))

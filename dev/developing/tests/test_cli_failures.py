@@ -56,7 +56,7 @@ ANSWERS: dict[str, tuple[list[str], str | None, str | None]] = {
     "a number of schedule": (["refused 82 NoSubtitle", "1 faults"], None, None),
     "trusted frames": (["trusted frames 10:00:00:00 10:00:02:00"], None, None),
     "usage": (["usage 0 Words"], None, None), "a fault of the machine": (["fault 90 Open"], None,
-                                                                        None),
+                                                                         None),
     "nothing": ([], None, None)}
 ENDS = ("exit 0", "exit 1", "exit 2", "kill -9 $$")
 
@@ -79,7 +79,7 @@ class CallCase(Case):
         return json.loads(self.read(name))
 
     def fake_program(self, *lines: str, then: str = "exit 0", alone: Sequence[str] = EMPTY,
-               then_alone: str = "exit 1") -> str:
+                     then_alone: str = "exit 1") -> str:
         """Write a fake subttx that prints `lines` for a recording and `alone` for a file alone."""
         text = PROGRAM.replace("{program}", self.bench.program)
         for place, some, end in (("{said}", lines, then), ("{alone}", alone, then_alone)):

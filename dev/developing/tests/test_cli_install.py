@@ -272,7 +272,7 @@ def blocking_program(case: Case, count: int) -> str:
               "    while [ $(wc -l <'{0}') -gt {1} ] && [ ! -e '{2}' ]; do sleep 0.02; done ;;\n"
               "esac\n"
               "exec '{3}' \"$@\"\n").format(case.path("checked"), count, case.path("goes on"),
-                                         case.bench.program)
+                                            case.bench.program)
     return case.write_program("program", script)
 
 
@@ -317,7 +317,7 @@ def check_watch(case: Case, process: subprocess.Popen[bytes]) -> None:
     """Check how a run with --watch judges slow files, complete files and changed files."""
     def lines() -> list[str]:
         reported = [line.partition("  ")[2] for line in case.read("log").decode().splitlines()
-                if line[:1].isdecimal()]
+                    if line[:1].isdecimal()]
         return [line for line in reported if line.partition("  ")[0] not in too_slow]
 
     too_slow = set[str]()
@@ -335,7 +335,7 @@ def check_watch(case: Case, process: subprocess.Popen[bytes]) -> None:
     rename_example(case, "in/now.pes", "no-erase.pes")
     case.write("in/now.done", b"")
     case.must("at once", wait_until(lambda: any(line.startswith("now  refused: 67 Control ")
-                                           for line in lines())), lines())
+                                                for line in lines())), lines())
     rename_example(case, "in/now.pes", "hello.pes")
     case.must("again", wait_until(
         lambda: "now  relative: no clock was given" in lines()), lines())

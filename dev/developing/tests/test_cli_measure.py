@@ -260,7 +260,7 @@ class Profiles(Case):
                             self.bench.program)
         self.check("one alone", [line.partition(" PTS ")[2] for line in process.out.decode(
             ).splitlines() if line.startswith("# within: 1 of ")],
-            ["differ from their frames, which check refuses with --within 0 (fault 61)"])
+                   ["differ from their frames, which check refuses with --within 0 (fault 61)"])
 
     def test_names_an_unusual_delay_and_refuses_it(self) -> None:
         programme = Programme(self, 7, Inserter("usual", begins=(0, 0, 1)), 40)

@@ -42,7 +42,7 @@ class UnjudgedPairs(Case):
 
     def make_runner(self) -> PairRunner:
         return PairRunner(CommandPaths("tools/qc", self.bench.program), self.path("temporary"),
-                     self.path("out"), False)
+                          self.path("out"), False)
 
     def test_writes_the_reason_to_all_outputs(self) -> None:
         rows: list[tuple[str, str, str, str]] = [
@@ -64,7 +64,7 @@ class UnjudgedPairs(Case):
             with decoded, contextlib.redirect_stdout(io.StringIO()) as out, \
                     contextlib.redirect_stderr(io.StringIO()):
                 status = run_qc(["--batch", "list", "-o", "out", "-p", self.bench.program, "--json",
-                             "all.json", "--csv", "all.csv", "--junit", "all.xml"])
+                                 "all.json", "--csv", "all.csv", "--junit", "all.xml"])
             [known] = json.loads(self.read("all.json"))["pairs"]
             self.must(name, status == 2 and known["verdict"] == "not judged" and why in
                       known["reason"] and b",not judged,2," in self.read("all.csv") and

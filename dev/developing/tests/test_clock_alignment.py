@@ -287,7 +287,7 @@ class JudgedPairs(Case):
             item = judge_files(self, stl,
                                self.write("two.pes",
                                           join_pes_packets(make_delay(2, at, at)(sends))),
-                         *words[2:])
+                               *words[2:])
             self.must(f"{count}: late", item.word == "accepted", item.said)
 
     def judge_drift(self, frames: int) -> JudgedPair:
@@ -326,7 +326,7 @@ class JudgedPairs(Case):
             both = [*right, *((pts + hour, packets) for pts, packets in second)]
             item = judge_files(self, stl, self.write("one.pes", join_pes_packets(both)),
                                "--every", "25",
-                         "--no-complete", *words)
+                               "--no-complete", *words)
             self.must(name, item.word == word and (word == "accepted" or item.told[0] ==
                                                    "the recording contains the programme "
                                                    "twice"), item.said)

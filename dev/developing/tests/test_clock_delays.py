@@ -57,7 +57,7 @@ class Delays(ProgrammeCase):
         self.must("made", process.status == 0, process)
         judged_pair = judge_files(self, STORY,
                                   self.write("cut.pes", self.read("all.pes")[1288:2024]),
-                       "--origin", "0")
+                                  "--origin", "0")
         self.must("not late", "clock: the subtitles match --origin 0" in judged_pair.said
                   and not any(
             "late" in line for line in judged_pair.said if not line.startswith("refused 74 Late"))
@@ -112,8 +112,8 @@ class Delays(ProgrammeCase):
                 (frames[:10], 1, first), (frames[10:], 11, second))
                     for pts,
                     packets in schedule_pages( self,
-                                              write_programme(self, some_frames, first=number,
-                                                              name="sent.stl"))]
+                                               write_programme(self, some_frames, first=number,
+                                                               name="sent.stl"))]
             path = self.write("one.pes", join_pes_packets(sent))
             for given in (False, True):
                 words = ["--origin", str(first)] * given
@@ -123,7 +123,7 @@ class Delays(ProgrammeCase):
                           judged_pair.parts("from", "to", "origin", "verdict") == [
                     (format_frame(frames[0][0]), format_frame(frames[9][1]), first, "accepted"),
                     (format_frame(frames[10][0]), format_frame(frames[19][1]), second, "accepted")],
-                    judged_pair.said)
+                          judged_pair.said)
                 self.must(f"{second} {words}: clocks", [part["clock"]["source"] for part in
                                                         judged_pair.result["parts"]] == sources)
             judged_pair = judge_files(self, stl, path, *WORDS)
@@ -167,7 +167,7 @@ class Delays(ProgrammeCase):
         begin, end = (self.due[at][at] for at in (0, -1))
         around = write_programme(self, [(begin - 1000, begin - 900), *self.due, (end + 3000, end
                                                                               + 3100)], first=0,
-                           name="sent.stl")
+                                 name="sent.stl")
         data = schedule_pages(self, around)
 
         def at(frame: int, by: int) -> SentPes:
@@ -204,12 +204,12 @@ class FirstPictures(Case):
                 self.must(f"{kind} {shift}", judged_pair.word == "accepted" and any(
                     line.startswith("the first picture (") and f"has PTS {first}; 3 earlier PES "
                     "packets of video were skipped" in line for line in judged_pair.said),
-                    judged_pair.said)
+                          judged_pair.said)
                 judged_pair = self.judge(data, "--start", format_frame(BEGIN - START_OFFSET - 2))
                 clock = judged_pair.result["parts"][0]["clock"]
                 self.must(f"{kind} {shift}: late", judged_pair.word == "refused" and clock == {
                     "origin": (shift + 2 * TICKS) % CLOCK, "source": "start", "delay_frames": -2},
-                    clock)
+                          clock)
 
     def test_reports_a_start_that_is_off_by_hours(self) -> None:
         data = add_pictures(read_example_file("story.pes"), FIRST_PTS).data
@@ -283,7 +283,7 @@ class FirstPictures(Case):
                 ("20150100", "begins at 20:15:00:00, before its TCP 20:15:01:00"),
                 ("20000000", "ends at 20:15:09:00, but by the TCP the recording ends at"),
                 *((code, "is not a time: ") for code in ("        ", "2015000a", "25000000",
-                                                            "20150025"))):
+                                                         "20150025"))):
             stl[256:264] = code.encode()
             judged_pair = self.judge(data, "--start", "tcp", stl=self.write("two.stl", stl))
             self.must(code, judged_pair.word == ("not judged" if words else "accepted") and
@@ -345,7 +345,7 @@ class FfmpegStreams(Case):
         if not (shutil.which("ffmpeg") and shutil.which("ffprobe")):
             self.skipTest("streams of MPEG-2, H.264 and HEVC, since there is no ffmpeg")
         stl = write_programme(self, [(begin, begin + 30) for begin in range(60, 161, 50)],
-                        text=make_box_line(b"Number %d"), name="own.stl")
+                              text=make_box_line(b"Number %d"), name="own.stl")
         self.schedule(stl, "own.pes", "--every", "25")
         self.write("own.ts", self.tool("pes2ts", self.path("own.pes"), "0x101").out)
         known = self.call(["ffmpeg", "-v", "quiet", "-encoders"]).out.decode()

@@ -374,7 +374,7 @@ class FirstPictures(unittest.TestCase):
             assert isinstance(result, FirstPicture)
             self.assertEqual((result.picture_offset, result.line()), (
                 away, f"the first picture (MPEG-2, PID 0x200) has PTS {first}{skipped}{more}"),
-                (frames, form, first))
+                             (frames, form, first))
 
     def test_asks_about_a_delay_of_a_picture_distance(self) -> None:
         for away, delay, words in (
@@ -477,7 +477,7 @@ class LastPages(ProgrammeCase):
                               write_programme(self,
                                               [*OWN_TIMES[:2], (OWN_TIMES[2][0], OWN_TIMES[3][1]),
                                                *OWN_TIMES[4:]],
-                                        text=b"The same", name="sent.stl"))
+                                              text=b"The same", name="sent.stl"))
         causes = self.judge(sent).lines("cause: ")
         self.must("its cause", len(causes) == 1 and causes[0].startswith("subtitle 3 at ") and
                   causes[0].endswith("it stays for 20 frames, until subtitle 4, which has the same "

@@ -141,7 +141,7 @@ class Origins(Case):
             ([b"Other", b"Own"], 200 * TICKS), ([b"Own", b"Own"], None)]
         for texts, expected in rows:
             pes = schedule_pes(self, self.stl([(200 * at + 100, 200 * at + 150, text)
-                                         for at, text in enumerate(texts)], "sent.stl"))
+                                               for at, text in enumerate(texts)], "sent.stl"))
             result = self.find(item, pes)
             is_told = any("ambiguous" in line for line in result.lines)
             self.must(f"{texts}", ([part.origin for part in result.parts], is_told) == (

@@ -258,7 +258,7 @@ class Ranges(unittest.TestCase):
 
 
 def find_range_by_rule(packets: Packets, frames: Sequence[int], begin: int, end: int,
-          every: int | None) -> tuple[int, int] | None:
+                       every: int | None) -> tuple[int, int] | None:
     """Return the range of PES packets as the manual defines it.
 
     `frames` contains the frames of the PES packets in ascending order. `every` is the value of

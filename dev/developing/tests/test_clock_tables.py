@@ -105,7 +105,7 @@ class TimeBases(unittest.TestCase):
                 ((0, 19), whole), ((0, 99), whole), ((1, 19), [(1, 4, 1), *whole[1:]]),
                 ((2, 7), [(4, 8, 4)]), ((0, 6), [(0, 4, 2), (4, 7, 3)]), ((7, 7), [(7, 8, 1)]),
                 ((8, 11), []), ((8, 12), [(12, 13, 1)]), ((5, 17), [(5, 8, 3), (12, 16, 1),
-                                                                   (16, 18, 2)])):
+                                                                    (16, 18, 2)])):
             self.assertEqual(bases([2, 4, 0, 1, 3], inside), expected, inside)
         result = bases([1, *[2] * (MAX_BASES - 1), 3, 1], (0, 999))
         self.assertEqual([begin for begin, _, _ in result],
@@ -132,7 +132,7 @@ class Fits(unittest.TestCase):
     SENT = [(0, b"a"), (10, b""), (20, b"b"), (35, b""), (40, b"c"), (50, b"")]
 
     def fit(self, sent: Sequence[tuple[int, bytes]], offs: Sequence[int] = (0,) * 9,
-               length: int = 50, within: int = 0, shift: int = 0, start: int = 10) -> Any:
+            length: int = 50, within: int = 0, shift: int = 0, start: int = 10) -> Any:
         """Match the cues with the page changes of a programme that starts at frame `start`."""
         return make_time_base(self.cues,
                               [(TICKS * frame + off, letters) for (frame, letters), off in
@@ -147,7 +147,7 @@ class Fits(unittest.TestCase):
             (sent[1:], 50, (5, 5, 2, 5, 6, 30, 10)), (sent[:1], 0, (1, 1, 1, 1, 1, 10, None)),
             ([(0, b"x"), *sent[1:2]], 10, (2, 1, 0, 2, 2, None, None)),
             ([*sent[:3], *sent[4:]], 50, (5, 5, 3, 5, 6, 10, 45)), ([], 50, (0, 0, 0, 0, 6, None,
-                                                                           10))]
+                                                                             10))]
         for shift, (some, length, wanted) in itertools.product(SHIFTS, rows):
             fit = self.fit(some, length=length, shift=shift)
             self.assertEqual(fit[1:8], wanted, (some, length))
@@ -177,7 +177,7 @@ class Fits(unittest.TestCase):
                               [(TICKS * 20, b"b"), (TICKS * 21, b"x"), (TICKS * 22, b"b"),
                                (TICKS * 36, b"")], 60, 2)
         for at, start, by in ((2, 10, 0), (2, 9, 1), (2, 8, 0), (2, 7, None), (2, 11, 1),
-                                (3, 10, 1), (3, 9, 0), (3, 8, None), (3, 11, 2)):
+                              (3, 10, 1), (3, 9, 0), (3, 8, None), (3, 11, 2)):
             match = item.find_match(self.cues[at], start)
             self.assertEqual(match and match.delay, by, (at, start))
         fit = make_time_base(self.cues, [(TICKS * 22, b"b")], 60, 2).fit(10)

@@ -72,7 +72,7 @@ class PtsWraps(Case):
                                                                      judged_pair.listed]))
 
     def check_same(self, name: str, word: str, data: bytes, *args: str, stl: str = "",
-                     frames: Sequence[int] = (3 * EACH, 3 * EACH + 21, 6 * EACH + LASTS)) -> None:
+                   frames: Sequence[int] = (3 * EACH, 3 * EACH + 21, 6 * EACH + LASTS)) -> None:
         """Check that a stream is judged in the same way if its PTS wrap at any of these frames."""
         plain = self.judge(stl or self.stl, shift_clocks(data, CLOCK // 3), *args)
         self.must(name, plain[0] == word, plain)
@@ -121,7 +121,7 @@ class PtsWraps(Case):
             self.check_same(f"{words} {word}", word, make_planned_stream(
                 [join_pes_packets([item]) for item in sent], [(0, OLD)]), "--breaks", "1", *words,
                             stl=stl,
-                frames=[ORIGIN // TICKS + more for more in (500, 1200, 2000, 2050)])
+                            frames=[ORIGIN // TICKS + more for more in (500, 1200, 2000, 2050)])
 
     def test_reports_late_subtitles(self) -> None:
         self.schedule(self.stl, "one.pes", "--every", "25")

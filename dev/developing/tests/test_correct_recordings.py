@@ -362,7 +362,7 @@ class IndistinguishableFaults(Case):
                 stl, path = inserter.made(self)
                 self.check(inserter.name,
                            [judge_files(self, stl, path, *inserter.words, "--origin", origin).word
-                                      for origin in ("0", f"{TICKS}")], ["accepted", "refused"])
+                            for origin in ("0", f"{TICKS}")], ["accepted", "refused"])
 
 
 SILENT = ("one silence", "two silences", "three silences")

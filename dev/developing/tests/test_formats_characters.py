@@ -99,7 +99,7 @@ class NationalOptions(unittest.TestCase):
                              (b"1B", SWEDISH), (b"1b", SWEDISH), (b"15", ITALIAN), (b"0F", FRENCH),
                              (b"0A", SPANISH), (b"21", SPANISH), (b"06", CZECH), (b"25", CZECH),
                              (b"00", ENGLISH), (b"20", ENGLISH), (b"", ENGLISH), (b"\xff\x00",
-                                                                                   ENGLISH)):
+                                                                                  ENGLISH)):
             self.assertEqual(choose_language_option(code), option, code)
         for track, named in (("fra", FRENCH), ("FRE", FRENCH), ("swe", SWEDISH), ("slo", CZECH),
                              ("por", SPANISH), ("eng", ENGLISH), ("deu", GERMAN)):
@@ -153,7 +153,7 @@ def list_character_texts(option: NationalOption) -> list[tuple[Text, str]]:
     """Return pairs of a character of a national option and a text that contains it."""
     return [(Text(bytes.fromhex(line["stl"]), 5, 0, (
         START_BOX * 2 + bytes([int(line["cell"], 16)]) + END_BOX * 2).ljust(40)),
-        chr(int(line["unicode"][2:], 16)))
+             chr(int(line["unicode"][2:], 16)))
             for line in read_vector_rows("options.tsv") if line["option"] == option.word]
 
 
@@ -311,7 +311,7 @@ ROW = make_packet(0, 20, (), b"a row".ljust(40))
 
 def make_character_set_packet(number: int, character_set: int, designation: int = 0,
                               magazine: int = 0,
-           function: int = 0) -> bytes:
+                              function: int = 0) -> bytes:
     """Return a packet X/28 or M/29 that designates a character set (seven bits)."""
     first = encode_triplet(function | character_set << 7)
     address = magazine + 8 * number
@@ -334,7 +334,7 @@ def check_warnings(case: Case, name: str, process: CompletedCall, kinds: list[st
     case.must(f"{name}: kinds", [item["kind"] for item in result] == kinds, (result, process))
     lines = [item["line"] for item in result]
     printed = [line.removeprefix("qc: warning: ") for line in process.told
-            if line.startswith("qc: warning: ")]
+               if line.startswith("qc: warning: ")]
     case.must(f"{name}: said", printed == lines, process.told)
     report = case.read("out/story.html").decode()
     case.must(f"{name}: in the report", all(
@@ -380,7 +380,7 @@ class Warnings(Case):
         self.must("strict, a feed", process.status == 1
                   and split_output_lines(process)[-1].startswith(
             "not accepted, since --strict treats warnings as faults (character_set): accepted"),
-            process)
+                  process)
 
 
 class Languages(unittest.TestCase):

@@ -76,7 +76,7 @@ class Blocks(unittest.TestCase):
         good = make_gsi_block(b"", 0, 0)
         for data, words in ((good, ""), (good[:-1], "not an EBU STL "
                                                     "file"), (b"", "not an EBU STL "
-                                                                                  "file"),
+                                                                   "file"),
                             (good[:3] + b"STL24" + good[8:], "not an EBU STL file"),
                             (good[:3] + b"STL30" + good[8:], "it has 30 frames a second"),
                             (good[:3] + b"STL25.02" + good[11:], "")):
@@ -210,7 +210,7 @@ class Titles(Case):
                 (b"850", b"One", b"Two", ["One", "Two"]), (b"850", b"One", b"One", ["One"]),
                 (b"850", b"", b"Two", ["Two"]), (b"850", b" ", b"\0", []),
                 (b"850", b"a\0b", b" c ", ["a b", "c"]), (b"850", b"o" * 32, b"t" * 32,
-                                                         ["o" * 32, "t" * 32]),
+                                                          ["o" * 32, "t" * 32]),
                 (b"850", b"\x94", b"\xd0", ["ö", "ð"]), (b"437", b"\xe1", b"\xd0", ["ß", "╨"]),
                 (b"860", b"\x84", b"", ["ã"]), (b"863", b"\x84", b"", ["Â"]),
                 (b"865", b"\x9d", b"", ["Ø"]), (b"999", b"\xd0", b"", ["ð"])]

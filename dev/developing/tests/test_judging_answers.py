@@ -90,7 +90,7 @@ class Answers(Case):
                     expected, "" if expected else "check gave no verdict: "
                     f"{last or 'it printed nothing'}, status {status}"))
                 self.assertEqual(received, [*itertools.takewhile(GOOD.__ne__, lines),
-                                         *[GOOD] * (expected == "accepted")])
+                                            *[GOOD] * (expected == "accepted")])
                 self.assertEqual((check_output.fault_count, check_output.fault_numbers,
                                   [*check_output.read_lines()]), (
                     len(faults), {int(item.split()[1]) for item in faults}, lines))
@@ -193,7 +193,7 @@ class LineOptions(Case):
                 ("--start tcp", "--origin=9 --every 25", (9, None, 25)),
                 ("--start tcp", "--every 25", (None, "tcp", 25))):
             request = make_line_request(["a.stl", "a.ts", *line.split()],
-                                    parser.parse_args(call.split()))
+                                        parser.parse_args(call.split()))
             self.assertEqual((request.origin, request.start, request.every), expected, (call, line))
         for name, wanted_name in (("-", "-"), ("-a", "./-a"), ("a", "a"), ("", ""), (None, None)):
             self.assertEqual(make_example_request("-a.stl", name).recording, wanted_name,
@@ -243,7 +243,7 @@ class ChangingFiles(Case):
                                                        f"{does.replace('FILE', name)})")
             paths = [self.path(item) for item in ("one.stl", "one.ts", "one.severity")]
             result = judge_files(self, *paths[:2], "--origin", "0", "--severity", paths[2],
-                           "-o", self.path("out"), by=program)
+                                 "-o", self.path("out"), by=program)
             word = "accepted" if change == "nothing" else "not judged"
             known = json.loads(self.read("out/one.json"))
             place = f"{change}: {name}, {when}"

@@ -73,12 +73,12 @@ class SenderFaults(ProgrammeCase):
     def test_names_an_extra_row(self) -> None:
         own = next(packets[1] for pts, packets in self.sent if pts == TICKS * (BEGIN + 100))
         for rows, words in (((own, make_numbered_row(11, b"Share prices")),
-                            "an additional row: 11"),
+                             "an additional row: 11"),
                             ((make_numbered_row(3, b"A"), make_numbered_row(11, b"B"), own),
                              "additional rows: 3 and "
                              "11"),
-                             ((make_numbered_row(11, b"Share prices"),
-                               make_numbered_row(22, b"Number 9")), "")):
+                            ((make_numbered_row(11, b"Share prices"),
+                              make_numbered_row(22, b"Number 9")), "")):
             reported = self.judge_pages((100, rows))
             first_cause = reported.result["causes"][0]
             self.must(words, first_cause["name"] == "wrong text"
@@ -86,9 +86,9 @@ class SenderFaults(ProgrammeCase):
                       ("additional" in first_cause["line"]) == bool(words), reported.said)
             self.must(f"{words}: "
                       "sentence", (f"has the wrong text ({words}): "
-                                             "expected " if words else
-                                             "has the wrong text: "
-                                             "expected ") in reported.verdict.sentence,
+                                   "expected " if words else
+                                   "has the wrong text: "
+                                   "expected ") in reported.verdict.sentence,
                       reported.verdict.sentence)
 
     def test_reports_a_header_without_rows(self) -> None:
@@ -253,9 +253,9 @@ class RandomRow:
         pages = {page: text for text in [*(text for _, text in self.sent), "-"]
                  if (page := make_page_named(text))}
         printed = [f"{item.subtitle_index} {item.name} {item.frames} {item.other_index} "
-                f"{'' if item.sent_page is None else pages.get(item.sent_page, 'due')} "
-                f"{item.final_frame} {item.details}"
-                for item in causes.list_causes()]
+                   f"{'' if item.sent_page is None else pages.get(item.sent_page, 'due')} "
+                   f"{item.final_frame} {item.details}"
+                   for item in causes.list_causes()]
         known = [item and item.subtitle_index
                  for item in (causes.find_cause(63, 0), causes.find_cause(74, 0), *(
             causes.find_cause(72, frame) for frame in begins[:3]))]
@@ -283,9 +283,9 @@ ROWS_BY_HAND: list[tuple[str, str, list[tuple[int, str, int | None, int | None, 
         (0, "late", 3, None, "a")]),
     # All subtitles are moved, or one is sent at the time of another subtitle.
     ("100-200 a;200-300 b", "0:- 200:a 300:b 400:-", [(0, "late", 100, None, "a"),
-                                                     (1, "late", 100, None, "b")]),
+                                                      (1, "late", 100, None, "b")]),
     ("200-300 a;300-400 b", "0:- 100:a 200:b 400:-", [(0, "early", 100, None, "a"),
-                                                     (1, "early", 100, None, "b")]),
+                                                      (1, "early", 100, None, "b")]),
     ("100-200 a;200-300 b", "0:- 200:a 250:b 300:-", [
         (0, "never sent", None, None, None), (1, "another subtitle's text", None, 0, "a")]),
     ("100-150 a;200-250 b;300-350 c", "0:- 100:a 150:- 200:c 250:- 300:c 350:-", [
@@ -382,8 +382,8 @@ class CausesByHand(unittest.TestCase):
             causes = Causes(programme, decoded)
             faulty = [frame for frame in range(500) if not causes.finder.is_expected_page(frame)]
             causes.classify_faults(fake_answer([(begin, next(last for last in range(begin, 501)
-                                           if last + 1 not in faulty))
-                              for begin in faulty if begin - 1 not in faulty]))
+                                                             if last + 1 not in faulty))
+                                                for begin in faulty if begin - 1 not in faulty]))
             for begin in faulty:
                 item = causes.find_cause(72, begin)
                 self.assertTrue(item
@@ -407,7 +407,7 @@ class CausesByHand(unittest.TestCase):
                 (100, 100, 149, (0, None)), (101, 97, 149, (0, None)), (101, 98, 149, (None, None)),
                 (101, 98, 150, (None, 0)), (101, 98, 151, (None, 0)), (90, 103, 150, (0, 0))):
             programme, decoded = ExpectedPages([Subtitle(1, 1, 100, 150, 20, 2, b"")],
-                                            [make_page_named("a")]), \
+                                               [make_page_named("a")]), \
                 empty()
             for frame, name in ((held_from, "-"), (103, "a"), (155, "-")):
                 decoded.record_page(frame, make_page_named(name))

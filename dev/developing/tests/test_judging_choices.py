@@ -263,7 +263,7 @@ class Profiles(Case):
             proposal = propose_repeat_limit(some)
             self.must(f"{some}", (proposal.text, *proposal.lines) == (
                 "--every 50", "every: 20 headers of the page, at most 50 frames apart (usually "
-                "26); the longest interval begins at 00:00:00:07"), proposal)
+                              "26); the longest interval begins at 00:00:00:07"), proposal)
 
     def test_a_measured_profile_accepts_its_recording(self) -> None:
         stl = self.write_stl("one.stl")
@@ -312,7 +312,7 @@ class Profiles(Case):
             self.must(f"{name}: early", bool(early) == (name == "early") and all(
                 "subtitle 5 (SN 4) at 10:00:16:00 begins 3 frames early; " in line and
                 "subtitle 6 (SN 5) at 10:00:20:00 ends 1 frame early" in line for line in early),
-                lines)
+                      lines)
         lines = self.profile(stl, self.path("begins.pes"), "--within", "3")
         self.must("no clock", not any(line.startswith(("--within", "--late")) for line in lines) and
                   any("no clock was given" in line for line in lines), lines)

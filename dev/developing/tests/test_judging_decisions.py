@@ -303,7 +303,7 @@ class DecodedPages(Case):
             ((3, 7), [Span(20, 40), Span(60, 80)]), ((0,), [Span(0, 10)]), ((9,), [])]
         for numbers, expected in of_doubts:
             decoded = self.decode(b"".join(broken[at] if at in numbers else item
-                                      for at, item in enumerate(good)))
+                                           for at, item in enumerate(good)))
             self.must(f"{numbers}", decoded.uncertain_spans == expected, decoded.uncertain_spans)
             for first, last in ((0, 15), (15, 25), (30, 30), (65, 66), (85, 90)):
                 is_seen = not any(item.first <= last and first <= item.last for item in expected)
@@ -348,7 +348,7 @@ class DecodedPages(Case):
     def test_finds_pauses_of_a_regular_stream(self) -> None:
         steady = [*range(90), *range(93, 120), *range(124, 200)]
         for frames, expected in (([*range(50), *range(52, 99)], []), (steady, [Span(90, 92),
-                                                                            Span(120, 123)])):
+                                                                               Span(120, 123)])):
             decoded = self.decode(b"".join(make_pes_packet(TICKS * frame, [HEADER, CLOSING])
                                            for frame in frames))
             self.must(f"{expected}", decoded.pauses == expected, decoded.pauses)

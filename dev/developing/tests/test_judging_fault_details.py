@@ -48,7 +48,7 @@ class FaultDetails(Case):
         result = make_part(25 * number, 25 * number + 24, 0, make_answer(lines, path=self.path(
             f"list{number}")), number,
                            request=make_example_request("one.stl", "one.pes", "--from", times[0],
-                                                         "--to", times[1]),
+                                                        "--to", times[1]),
                            causes=causes if kind == "r" else None)
         result.names.program_stl = stl
         return result
@@ -107,7 +107,7 @@ class FaultDetails(Case):
             ("72 Content frame 00:00:01:00 row 1 column 1", "", "drawn otherwise"),
             ("68 Parity frame 00:00:01:00 packet 0", "", "")]
         part = make_part(0, 99, 0, make_answer([*(f"refused {line}" for line, _, _ in rows),
-                                           f"{len(rows)} faults"], path=self.path("list")),
+                                                f"{len(rows)} faults"], path=self.path("list")),
                          packets=survey_packets(self, make_pes_packet(25 * TICKS,
                                                                       [NO_C4, CLOSING])),
                          pes=(0, 0), drawing_differences="drawn otherwise")
@@ -159,7 +159,7 @@ class FaultDetails(Case):
             verdict = make_part_verdict([part])
             verdict.request = make_example_request("one.stl", "one.pes", "--within", str(within),
                                                    "--option",
-                                        option)
+                                                   option)
             self.assertEqual([[(fault[name]["code"], fault[name]["character"]) for name in (
                 "expected", "decoded")] for fault in make_faults(verdict)], [
                     [("5B", letter), ("01", None)], [("62", "b"), ("78", "x")],
@@ -182,7 +182,7 @@ class FaultDetails(Case):
             ((), "a byte"), ((0,), "a byte (start box)"), ((4, 5), "a byte (a space)"),
             ((5,), "a byte (alpha "
                    "red)"), ((3,), 'the character '
-                                                 '"b"'), ((2, 3, 6), 'the character '
+                                   '"b"'), ((2, 3, 6), 'the character '
                                                                                    '"A"'),
             ((0, 6), 'the character "c"')]
         for (hit, words), (frame, whose) in itertools.product(rows, (

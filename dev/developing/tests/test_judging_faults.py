@@ -197,7 +197,7 @@ class Descriptions(Case):
                                  for some in (frames, (last,)))
                 request = make_example_request("one.stl", "one.pes", "--every", str(every),
                                                "--within",
-                                  str(abs(off)))
+                                               str(abs(off)))
                 result = describe_longest_gap((headers, ends), origin, request, numbers, times)
                 self.must(f"{frames} {numbers} {origin} {off}", result ==
                           (expected and f"the page had no header for up to {expected}"), result)

@@ -92,7 +92,7 @@ class HiddenPages(ProgrammeCase):
             judged = self.judge(some, "--every", "25")
             self.must(name, judged.word == word and judged.parts("pace") == [(25,)] and any(
                 "not checked: a missing " in note for note in judged.result["notes"]),
-                judged.said)
+                      judged.said)
 
     def test_finds_a_loss_that_an_announced_jump_hides(self) -> None:
         multiplex = self.make_stream_packets(self.send_wrong_page(), 0, 1 << 20, 3)
@@ -112,7 +112,7 @@ class HiddenPages(ProgrammeCase):
         broken += [(later + at * TICKS, []) for at in range(400)]
         broken += [(pts + more, packets) for pts, packets in own if pts >= later]
         judged = self.judge_stream(lost(self.make_stream_packets(broken, 0, 1 << 20, 3), 3, True),
-                                 "--breaks", "1")
+                                   "--breaks", "1")
         self.must("before a break", judged.word == "lost" and line in judged.told
                   and [item["judged"] for item in judged.result["losses"]] == [True], judged.said)
         # one PES packet and two thirds of another
@@ -143,7 +143,7 @@ class HiddenPages(ProgrammeCase):
                                           (4, True, "lost")):
             judged = self.judge_stream(lost(multiplex, count, is_announced) if count
                                        else multiplex, "--to",
-                              "10:00:18:00")
+                                       "10:00:18:00")
             self.must(f"{count}", judged.word == word and note in judged.told, judged.said)
 
     def test_notes_a_possible_loss_at_an_announced_jump(self) -> None:

@@ -57,7 +57,7 @@ class UnreadablePackets(ProgrammeCase):
                 some[at] = GAP_MARKER if number == 45 else damage_packet(some[at], number)
         judged_pair = judge_files(self, self.stl, self.write("one.pes", b"".join(some)),
                                   *EVERY_OPTION, "--origin",
-                       str(ORIGIN))
+                                  str(ORIGIN))
         listed = [f"{word} {number} {NAMES[number]} pes {at}" for number, first, last in runs
                   for word, at in (("refused", first), *[("ended", last)] * (last > first))]
         self.must("the list", [line for line in judged_pair.listed if " pes " in line] == listed,
@@ -74,7 +74,7 @@ class UnreadablePackets(ProgrammeCase):
         some = [*self.pes[:22], GAP_MARKER, *self.pes[24:61], GAP_MARKER, *self.pes[62:]]
         judged_pair = judge_files(self, self.stl, self.write("one.pes", b"".join(some)),
                                   *EVERY_OPTION, "--origin",
-                       str(ORIGIN))
+                                  str(ORIGIN))
         stretches = [(0, 21, 1), (24, 60, 1), (62, len(self.pes) - 1, 0)]
         self.must("trusted", [(item["part"], item["from"], item["to"])
                               for item in judged_pair.result["trusted_frames"]] ==
@@ -237,7 +237,7 @@ class Sentences(ProgrammeCase):
                  f"(SN {number + 49})")] and
                 judged_pair.result["cause_counts"]["another subtitle's text"] == 1 and
                 "1 subtitle with faults: 1 another subtitle's text" in judged_pair.said,
-            causes)
+                      causes)
 
     def test_reports_where_reading_stops(self) -> None:
         early = [(pts - 3000 * TICKS, packets) for pts, packets in self.sent[-1:]]
@@ -305,7 +305,7 @@ class Sentences(ProgrammeCase):
             [item["remedy"] for item in judged_pair.result["faults"]] == [whole] and any(
                 '"Café" (block 1), the national option lacks' in item
                 for item in judged_pair.lines("Refused: ")),
-            judged_pair.said)
+                  judged_pair.said)
         judged_pair = judge_files(self, write_programme(self, subtitle_times(1), text=b"\xa35"),
                                   "--option", "german")
         self.must("by the option", judged_pair.result["hints"][0].startswith(
@@ -326,7 +326,7 @@ class Sentences(ProgrammeCase):
     def test_judges_by_each_option(self) -> None:
         stl = write_subtitle_file(self,
                                   [(90_000, 90_050, b"Gr\xc8u\xfbe"), (90_100, 90_150, b"Ja")],
-                            "two.stl", language=b"08")
+                                  "two.stl", language=b"08")
         self.schedule(stl, "two.pes", "--page", "1A9", "--option", "german", "--origin", "4242")
         two, no_end = self.path("two.pes"), get_example_path("no-end.pes")
         five = get_example_path("five-faults.pes")

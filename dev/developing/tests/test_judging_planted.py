@@ -101,7 +101,7 @@ class Blocks(Case):
         for name, (text, words, shown) in rows.items():
             stl = write_subtitle_file(self,
                                       [(100, 150, b"One"), (200, 250, text), (300, 350, b"Three")],
-                                first=7)
+                                      first=7)
             result = judge_files(self, stl)
             begin = f'Refused: in subtitle 2 (SN 8) at 00:00:08:00, "{shown}" (block 2), {words}'
             self.check(name, result.verdict.sentence[:len(begin)], begin)
@@ -123,7 +123,7 @@ COUNT, NAMED = 100, 95  # number of programmes, and minimum number of faults tha
 def judge_for_sentence(case: Case, programme: Programme) -> str:
     path = case.write("planted.pes", join_pes_packets(programme.sent()))
     return judge_files(case, programme.stl, path, "--origin", "0",
-                  *programme.inserter.options()).verdict.sentence
+                       *programme.inserter.options()).verdict.sentence
 
 
 class PlantedFaults(Case):

@@ -165,7 +165,7 @@ class Reasons(ProgrammeCase):
 
     def test_estimates_losses_by_the_pcr(self) -> None:
         stl = write_programme(self, [(2000 + 25 * at, 2020 + 25 * at) for at in range(40)],
-                        name="long.stl")
+                              name="long.stl")
         multiplex = make_multiplex(schedule_pes(self, stl, "--every", "1"), Shape(4000, 1800))
         for count, lost, words in (
                 (2, 2, "2 TS packets were lost"),
@@ -462,7 +462,7 @@ class RepeatsWithKeeping(ProgrammeCase):
         judged_pair = self.judged("subcode", "--keeping")
         self.must("by it", judged_pair.word == "refused" and judged_pair.result["hints"] == [
             f"67: {CLEAR}, though the sub-code changes from 0000 to 0001"],
-            judged_pair.said)
+                  judged_pair.said)
 
     def test_rows_of_the_next_frame_make_the_page_late(self) -> None:
         result = self.judged("", "--keeping", "--no-complete", frames=1)

@@ -133,7 +133,7 @@ class Recordings(Case):
                               judged_pair.parts("pid") == [(page,)] and [
                                   (item["judged"], item["lost_ts_packets"]) for item in
                                   judged_pair.result["losses"]] == [(True, 1)] * (lost == page),
-                      judged_pair.said)
+                              judged_pair.said)
 
     def test_reports_foreign_bytes(self) -> None:
         pes = read_example_file("story.pes")

@@ -112,7 +112,7 @@ class RefusedSubtitles(Case):
         self.must("faults", [(item["number"], item["subtitle"] and item["subtitle"]["position"],
                               item["character"]) for item in known["faults"]] == [
             (50, 3, "\u0132"), (50, 7, "\u0132"), (78, None, None), (78, None, None)],
-            known["faults"])
+                  known["faults"])
         verdicts = ["wrong" if position in (3, 7) else "right" for position in range(1, 11)]
         found_verdicts = [item["verdict"] for item in known["subtitles"]]
         self.must("subtitles", found_verdicts == verdicts, found_verdicts)
@@ -177,12 +177,12 @@ class RefusedSubtitles(Case):
         kept = [(pts, [KEEPING_HEADER, *packets[1:]] if at in (2, 40) else packets)
                 for at, (pts, packets) in enumerate(two)]
         for bad, sent, printed in (((7,), two, "all have the right text"),
-                                ((2, 7), two, "all have the right text"),
-                                ((2, 7), kept, " headers; 2 faults in all.")):
+                                   ((2, 7), two, "all have the right text"),
+                                   ((2, 7), kept, " headers; 2 faults in all.")):
             judged_pair = judge_files(self, self.write_stl(*bad),
                                       self.write("two.pes", join_pes_packets(sent)),
-                           "--breaks",
-                           "1", "--every", "100")
+                                      "--breaks",
+                                      "1", "--every", "100")
             self.must(f"{bad} {printed}",
                       judged_pair.word == "refused" and printed in judged_pair.verdict.sentence
                       and len(judged_pair.result["parts"]) == 2 and
@@ -381,7 +381,7 @@ class RandomFiles(Case):
                       valid_subtitles)
             self.must("words", len(first) < 2 or valid_subtitles.describe().startswith(
                 f"{len(first)} of {len(places | valid_subtitles.skipped_positions)} subtitles "),
-                valid_subtitles.describe())
+                      valid_subtitles.describe())
             due = draw_valid_pages(valid_subtitles.judged, PAGE, "english")
             pages = defined.ExpectedPages(expected.records, expected.has_preceding_fault, options)
             decoded = due.timeline

@@ -113,7 +113,7 @@ class Sentences(unittest.TestCase):
             self.assertEqual(result, expected, seen)
         for reported, begin in ((packet, "Refused: in PES packet 0, "),
                                 (block, "Refused: in block 12, "),
-                            (fault, "Refused: at 10:00:00:00, ")):
+                                (fault, "Refused: at 10:00:00:00, ")):
             result = write_sentence(Facts(WAIVED if reported is None else REFUSED, 1,
                                           first=reported, faults=1))
             self.assertTrue(result.startswith(begin) and result.endswith(".") and
@@ -396,15 +396,15 @@ class VisibleRows(Case):
                         for row,
                         item in enumerate(page[:2], 1) if find_visibility(item) != Visibility.ALL]
             printed = [(find_visibility(item) == Visibility.NONE,
-                     f"{subtitle.name} at {format_frame(subtitle.begin)}, "
-                     f"row {row}: {describe_hidden_characters(item, 'english')}",
-                     file.start_blocks[subtitle.index - 1], format_frame(subtitle.begin))
-                    for subtitle, row, item in expected]
+                        f"{subtitle.name} at {format_frame(subtitle.begin)}, "
+                        f"row {row}: {describe_hidden_characters(item, 'english')}",
+                        file.start_blocks[subtitle.index - 1], format_frame(subtitle.begin))
+                       for subtitle, row, item in expected]
             hidden_rows = find_hidden_rows(subtitles, pages, file, "english")
             self.assertEqual(hidden_rows.faults, [NamedFault(NOT_SHOWN, words, block=block)
                                                   for is_none, words, block, _ in printed
                                                   if is_none],
-                                            cells)
+                             cells)
             self.assertEqual(hidden_rows.warnings, [Notice(HIDDEN_KIND, words, when)
                                                     for is_none, words, _,
                                                     when in printed if not is_none],

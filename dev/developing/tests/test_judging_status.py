@@ -130,7 +130,7 @@ class Decisions(unittest.TestCase):
             for severity in ALLOWING_SEVERITIES if is_allowed else [NAMED]:
                 self.check_decision(name,
                                     Grounds(parts, severity, losses, warnings, is_strict, **clock),
-                             is_allowed, clock)
+                                    is_allowed, clock)
 
     def test_considers_named_faults(self) -> None:
         kinds, warned = RIGHT | WRONG, make_severity(
@@ -355,9 +355,9 @@ class LeadingFaults(Case):
         for names, some, expected in rows:
             causes: Any = SimpleNamespace(
                 frames_by_end_fault={}, first_wrong_frames={place: 900_000 + SECOND * (place + 1)
-                                          for place in range(4)},
+                                                            for place in range(4)},
                 cause_by_index={place: Cause(place, name, 1, None, None, "", 0)
-                       for place, name in enumerate(names)})
+                                for place, name in enumerate(names)})
             causes.list_causes = lambda causes=causes: [*causes.cause_by_index.values()]
             lead = find_worst_fault(read_check_lines(*some, path=self.path("list")), causes)
             self.must(f"{names}", lead and lead.fault.line == expected, lead)

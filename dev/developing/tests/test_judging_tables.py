@@ -103,8 +103,8 @@ class Notices(Case):
     def test_warns_of_clock_jumps_in_the_judged_range(self) -> None:
         for origin in (0, CLOCK - 15 * TICKS):
             jumps = [ClockJump(None, 90_000), *(ClockJump((origin + TICKS * frame) % CLOCK, ticks)
-                                           for frame, ticks in (
-                (9, 1), (10, 90_000), (15, -90_000), (20, 8_640_000), (21, 5)))]
+                                                for frame, ticks in (
+                     (9, 1), (10, 90_000), (15, -90_000), (20, 8_640_000), (21, 5)))]
             with mock.patch("subtitles.recording.notices.find_clock_jumps", lambda packets: jumps):
                 result = [(jump_notice.kind, jump_notice.time,
                            jump_notice.line.partition(" at ")[0])
@@ -201,7 +201,7 @@ class Notices(Case):
                                             "25 "), (25, 50, ""), (25, 25, ""),
                                    (1, 3, "frame: give --every "
                                           "1 "), (1, 2, ""), (2, 5, "2 "
-                                                                                        "frames")):
+                                                                    "frames")):
             result = warned(step, every)
             self.assertEqual((len(result), words in "".join(result)), (bool(words), True),
                              (step, every))

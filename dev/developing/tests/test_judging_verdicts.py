@@ -67,7 +67,7 @@ class Verdicts(Case):
         self.write("relative", b"--relative\n")
         untimed = {"request": make_example_request("one.stl", "one.pes")}
         in_profile = {"request": make_example_request("one.stl", "one.pes", "--profile",
-                                           self.path("relative"))}
+                                                      self.path("relative"))}
         is_unused = {"request": make_pair_request("--profile", self.path("relative"))}
         relative = "relative 10 frames 2 transmissions"
         good, content, first = "accepted 10 frames 2 transmissions", REFUSED[0], OTHER_LINES[0]
@@ -178,7 +178,7 @@ class Verdicts(Case):
                                          verdict.parts)
                 result, judged = \
                     verdict.collect_grounds().judged_losses, [frame % 100 < 99 and 0 < frame < 300
-                                                                          for frame in frames]
+                                                              for frame in frames]
                 self.must(f"{shift} {frames}", result == judged and
                           verdict.is_lost == any(judged), result)
 
@@ -188,7 +188,7 @@ class Verdicts(Case):
         for own in ((0,), (1,), (2,), (0, 2), (0, 1, 2), ()):
             parts = [make_part(100 * at, 100 * at + 99, 0, recording=recording, jumps=[
                 (TICKS * (100 * at + 50), TICKS * (100 * at + 60))] * (at in own))
-                for at in range(3)]
+                     for at in range(3)]
             result = [(gap.after, gap.is_judged) for gap in find_gaps(recording, parts)]
             self.must(f"{own}", result == [(format_frame(100 * at + 50), True) for at in own] and [
                 len(part.find_loss_places()) for part in parts] == [at in own for at in range(3)],

@@ -251,7 +251,7 @@ class JudgedStreams(ProgrammeCase):
     def test_reports_that_one_of_several_programmes_never_sends_it(self) -> None:
         first, frames = decode_pts(self.pes[0]), find_frame_of_day(decode_pts(self.pes[-1]), 0) or 0
         result = multiplex_programmes([Programme({OLD: self.pes}, first),
-                      Programme({NEW: []}, first, VIDEO_PID + 1)], frames)
+                                       Programme({NEW: []}, first, VIDEO_PID + 1)], frames)
         judged = self.judge_stream(result.data)
         self.must("asked", judged.word == "not judged" and judged.told[0].endswith(
             "but sent only on PID 0x101, not on PID 0x111") and [
@@ -267,7 +267,7 @@ class JudgedStreams(ProgrammeCase):
         self.must("refused", judged.verdict.line == "refused 50 Character block 3 at 7" and
                   {item["number"] for item in judged.result["faults"]} == {50, None} and
                   judged.told[0].startswith("the other subtitles were not judged: page 888 is "
-                                          "announced on PID 0x111, but was never sent "),
+                                            "announced on PID 0x111, but was never sent "),
                   judged.said)
 
     def test_is_not_judged_if_the_fault_is_waived(self) -> None:
@@ -343,5 +343,5 @@ class SourcesWithoutPage(ProgrammeCase):
         stl = write_programme(self, self.due, text=b" ", name="blank.stl")
         result = judge_files(self, stl, self.write("one.pes", join_pes_packets(self.blank())),
                              *self.words,
-                       "--origin", "0")
+                             "--origin", "0")
         self.check("verdict", "never sent while" in result.verdict.sentence, False)

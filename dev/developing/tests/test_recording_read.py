@@ -25,7 +25,7 @@ FIRST_PID, SECOND_PID, THIRD_PID = 257, 258, 259
 
 
 def read_recording(survey: Survey, *args: str, name: str = "one.ts", kind: int = stat.S_IFREG,
-             folder: str = "") -> Any:
+                   folder: str = "") -> Any:
     lines = list[str]()
     listener: Any = SimpleNamespace(lines=lines, print_line=lines.append,
                                     add_selection=lambda item: lines.append(item.line))
@@ -116,7 +116,7 @@ class ChosenPids(Case):
                 (b"\0\0\1\xe0", None, "stream_id E0 instead of BD"), (b"\0\0\1\xe0", 188, ""),
                 (b"\0\0\1", None, "is not a transport "
                                   "stream"), (b"\0\0\1\xbd", None, "is not a "
-                                                                                      "transport"),
+                                                                   "transport"),
                 (b"\0\0\1\xbd", 0, ""), (b"G", None, "is not a transport stream"), (b"G", 192, "")):
             survey, result = Survey(), ""
             survey.head, survey.size = head, size

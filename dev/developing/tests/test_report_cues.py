@@ -96,7 +96,7 @@ class CueVerdicts(Case):
                 causes=SimpleNamespace(expected=programme) if cause else None, unmarked_losses=[],
                 request=SimpleNamespace(option="english"), trusted_frames=Spans([(first, 199)]),
                 check_output=SimpleNamespace(fault_spans=marks, verdict=REFUSED,
-                                       fault_numbers={*numbers, *[72] * bool(cause)}))
+                                             fault_numbers={*numbers, *[72] * bool(cause)}))
             cue = Cue(subtitle, page(b"one"), cause or None)
             result = [CueJudge(part, severity).judge(cue).word for severity in waived]
             self.check(f"{name}, {numbers}, trusted from {first} on", result, expected_value)
@@ -119,7 +119,7 @@ class TextMarkup(Case):
                 ("", "abc", ("", "[abc]")), ("aXbYc", "a1b2c", ("a[X]b[Y]c", "a[1]b[2]c")),
                 ("aa", "a", ("a[a]", "a")), ("<a>", "<b>", ("&lt;[a]&gt;", "&lt;[b]&gt;"))):
             reported = tuple(markup_text(item).replace("<mark>", "[").replace("</mark>", "]")
-                         for item in mark_difference(first, second))
+                             for item in mark_difference(first, second))
             self.must(f"{first} {second}", reported == expected, reported)
 
     def test_prints_the_first_200_wrong_rows(self) -> None:

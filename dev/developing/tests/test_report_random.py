@@ -271,7 +271,7 @@ class Reports(unittest.TestCase):
             rows = read_cue_rows(root)
             with open(os.path.join(out, "one.txt"), encoding="utf-8") as file:
                 reported = [fault for fault in map(parse_fault_line, file.read().splitlines())
-                        if fault and fault.is_fault]
+                            if fault and fault.is_fault]
             self.check_rows(result, reported, rows)
             self.check_counts(result, root)
             numbers = result.verdict.parts[0].check_output.fault_numbers

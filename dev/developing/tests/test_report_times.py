@@ -50,7 +50,7 @@ def edit_subtitles(subtitles: list[TimedSubtitle], chance: random.Random) -> lis
 class ActualTimes(Case):
     def sent(self, subtitles: list[TimedSubtitle]) -> list[bytes]:
         return schedule_pes(self, write_subtitle_file(self, subtitles, "sent.stl"), "--every", "25",
-                         "--origin", str(ORIGIN))
+                            "--origin", str(ORIGIN))
 
     def judge(self, packets: list[bytes], expected: list[TimedSubtitle], *args: str) -> JudgedPair:
         return judge_files(self, write_subtitle_file(self, expected), self.write(
@@ -89,7 +89,7 @@ class ActualTimes(Case):
     def test_writes_a_csv_row_with_the_reason(self) -> None:
         result = judge_files(self,
                              write_subtitle_file(self, make_random_subtitles_at(random.Random(1))),
-                       self.write("empty.pes", b""), "--csv", self.path("one.csv"))
+                             self.write("empty.pes", b""), "--csv", self.path("one.csv"))
         with open(self.path("one.csv"), encoding="utf-8", newline="") as file:
             rows = [(row["verdict"], row["reason"]) for row in csv.DictReader(file)]
         self.must("row", rows == [("not judged", result.verdict.unjudged_reason)], rows)

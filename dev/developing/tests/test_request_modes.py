@@ -339,7 +339,7 @@ class WrongArguments(Case):
                 self.must(f"{' '.join(words)} <{device}", process.status == 2 and not process.out
                           and process.told
                           == [f"{words[0]}: {words[1]} is a device: give a file or a "
-                                               "pipe"], process)
+                              "pipe"], process)
 
     def test_reads_pipes_and_no_device(self) -> None:
         process = self.tool("poke", "/dev/stdin", data=b"abc")

@@ -136,8 +136,8 @@ class ItemDecisions(Case):
     def test_accepts_an_item_that_fits_nine_in_ten_subtitles(self) -> None:
         for decides, reported, is_seen in ((9, 9, False), (10, 9, True), (10, 8, False),
                                            (0, 0, False),
-                                       (19, 17, False), (19, 18, True), (100, 90, True),
-                                       (100, 89, False)):
+                                           (19, 17, False), (19, 18, True), (100, 90, True),
+                                           (100, 89, False)):
             self.must(f"{decides} {reported}", ItemEvidence("", decides, reported).has_evidence ==
                       is_seen)
 

@@ -225,9 +225,9 @@ class PaceDecisions(Case):
         self.must("words",
                   compute_pace([remove_frames(LONG, (9, 20))], 2, 250)[:3] == (REGULAR, 1, 3)
                   and compute_pace([remove_frames(LONG, (9, 300))], 1, 999,
-                               [(0, 9)])[:3] == (PAUSED, 301, 3)
+                                   [(0, 9)])[:3] == (PAUSED, 301, 3)
                   and compute_pace([remove_frames(LONG, (9, 200), (999, 90), (2999, 94))], 1, 250,
-                               [(999, 1090), (2999, 3094)])[:3] == (PAUSED, 95, 3))
+                                   [(999, 1090), (2999, 3094)])[:3] == (PAUSED, 95, 3))
         closest: list[tuple[list[list[int]], int]] = [
             ([], 0), ([[7]], 0), ([[0, 2, 9]], 7), ([[0, 1, 3], [9, 13, 18]], 1),
             ([[0, 9, 17, 24, 30, 31]], 6)]
@@ -411,7 +411,7 @@ class Losses(ProgrammeCase):
                           silent)
         sent = fill_missing_frames(self.sent)
         self.check_faults("PES packets", self.judge(sent[:660] + sent[676:]), "refused",
-                     "79 Silent frame 10:00:26:10")
+                          "79 Silent frame 10:00:26:10")
 
     def test_notes_undetectable_losses_at_an_irregular_pace(self) -> None:
         multiplex = self.send_in_bursts(TIMES)
@@ -424,7 +424,7 @@ class Losses(ProgrammeCase):
                 (delete_between, 17, "refused")):
             judged = self.judge_stream(cut(multiplex, first, count))
             self.check_faults(f"{cut.__name__} {count}", judged, word,
-                         *["45 Lost pes 155"] * (word == "refused"))
+                              *["45 Lost pes 155"] * (word == "refused"))
             self.must(f"{cut.__name__} {count}: said", IRREGULAR_NOTE in judged.told and
                       IRREGULAR_NOTE in judged.result["notes"] and
                       not judged.lines("pace: ") and judged.parts("pace") == [(None,)], judged.said)

@@ -273,4 +273,4 @@ class AnnouncedJumps(Case):
             reported = find_late_jumps(part, Pace(REGULAR, apart))
             self.must(f"{origin} {apart}", reported == ([
                 (pts_of(item, origin), pts_of(other, origin)) for item, other in late], others),
-                reported)
+                      reported)

@@ -59,7 +59,7 @@ class LossPlaces(Case):
                        for at, item in enumerate(pts)]
                 packets = Packets(5, own, gap_markers=marks, pcr_steps=clocks)
                 reported = [((item.before, item.after), item.is_announced)
-                        for item in find_loss_places(packets, jumps)]
+                            for item in find_loss_places(packets, jumps)]
                 self.must(f"{shift} {marks} {clocks} {jumps}", reported == expected, reported)
                 where = [line.partition(" (")[0] for line in describe_gap_markers(packets)]
                 self.must(f"{shift} {marks}: lines", where == [
@@ -224,8 +224,8 @@ class PaceOptions(Case):
     def test_reads_the_pace_of_each_line_of_a_list(self) -> None:
         line = f"{self.path('one.stl')} {self.path('one.ts')}"
         items = read_pairs(self.write("list", f"{line}\n{line} --pace 9\n{line} --pace none\n"
-                                            f"{line} --pace 0\n".encode()),
-                         self.options("--batch", "list", "--pace", "7"))
+                                              f"{line} --pace 0\n".encode()),
+                           self.options("--batch", "list", "--pace", "7"))
         self.must("lines", [item.request and item.request.pace for item in items] ==
                   [7, 9, None, None]
                   and str(items[3].reason).endswith(
@@ -235,7 +235,7 @@ class PaceOptions(Case):
     def test_judges_again_with_another_pace(self) -> None:
         program = ProgramInfo("1", "0" * 64, None)
         request = [make_example_request(self.path("one.stl"), self.path("one.ts"), *words)
-                 for words in ((), ("--pace", "none"), ("--pace", "16"))]
+                   for words in ((), ("--pace", "none"), ("--pace", "16"))]
         for item in request:
             words = REQUEST.to_json(item)
             known = {"request": words, "files_at_start": describe_inputs(item),

@@ -107,7 +107,7 @@ class DayFiles(Case):
                 for pts, packets in schedule_pages(self, write_programme(self, times))]
         result = judge_files(self, day, self.write("day.pes", join_pes_packets(sent)),
                              "--breaks", "1", "--to",
-                       "00:04:00:00")
+                             "00:04:00:00")
         self.must("accepted", result.word == "accepted" and result.verdict.subtitle_count == 14,
                   result.said)
         commands = result.lines("+ ")
@@ -209,7 +209,7 @@ class AdjoiningSubtitles(ProgrammeCase):
             self.must(f"{frame}", judged.word == "not judged" and judged.result["parts"] == [] and [
                 word.rpartition(" ")[2] for word in judged.verdict.suggestions] ==
                       [*map(format_frame, near)],
-                (judged.said, judged.verdict.suggestions))
+                      (judged.said, judged.verdict.suggestions))
             for end in near:
                 judged = self.judge(self.sent, "--to", format_frame(end))
                 self.must(f"{frame}, {end}", judged.word == "accepted", judged.said)

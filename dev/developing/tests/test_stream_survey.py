@@ -455,7 +455,7 @@ class ClockLines(Case):
         damaged = late[:1] + bytes([late[1] | 0x80]) + late[2:]
         self.check("a PCR",
                    list_lines_of_kinds(self, data[:place] + damaged + data[place + PACKET:],
-                                 "clock", "pcr")[-1], pcr)
+                                       "clock", "pcr")[-1], pcr)
         rows: dict[str, tuple[bytes, list[str]]] = {
             "plain": (announcing(0, 0, 183), []), "error": (announcing(0x80, 0, 183), [line]),
             "scrambled": (announcing(0, 0xC0, 183), []), "wrong": (announcing(0, 0x10, 184), [])}
@@ -578,7 +578,7 @@ class PesLines(Case):
                                        "--pid", f"{TELETEXT_PID:#x}")
             self.must(f"{refusal}: extract", out[0].startswith(
                 f"refused {refusal} " if refusal else "written 5 pes") and status == (refusal > 0),
-                out)
+                      out)
 
     def test_reports_whether_the_last_pes_packet_is_cut(self) -> None:
         long = make_pes_packet(FIRST_PTS, [CLOSING] * 4)
@@ -708,8 +708,8 @@ class Listings(Case):
             "character sets": (
                 replace_teletext(make_pes_packets_with([HEADER,
                                                         make_character_set_packet(28, 0x24)],
-                                   [make_character_set_packet(29, 0x11, 4)],
-                                   [make_character_set_packet(29, 0x11, 1)])),
+                                                       [make_character_set_packet(29, 0x11, 4)],
+                                                       [make_character_set_packet(29, 0x11, 1)])),
                 "sub 257 888; set 257 28 0 4 4; pes 257 0 1 1000000 0 heob/88080810 2 0; "
                 "rows 257 0 -; set 257 29 4 2 1; pes 257 1 2 1003600 3600 ob/ 1 0; "
                 "subs 257 888 1; end 257 3 0 3 0 0 0 1007200; over 0 5"),

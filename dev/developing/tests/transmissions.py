@@ -31,7 +31,7 @@ def make_numbered_row(number: int, text: bytes) -> bytes:
 
 def write_subtitle_file(case: Case, subtitles: Iterable[ShownSubtitle], name: str = "one.stl",
                         first: int = 1,
-                  row: int = 22, justify: int = 2, language: bytes = b"09") -> str:
+                        row: int = 22, justify: int = 2, language: bytes = b"09") -> str:
     """Write a subtitle file whose subtitle numbers count up from `first`. Return its path."""
     blocks = [make_subtitle_blocks(number, begin, end, row, justify, text)
               for number, (begin, end, text) in enumerate(subtitles, first)]
@@ -40,7 +40,7 @@ def write_subtitle_file(case: Case, subtitles: Iterable[ShownSubtitle], name: st
 
 
 def write_programme(case: Case, times: Sequence[tuple[int, int]], lines: int = 1,
-              text: bytes = b"Number %d", first: int = 1, name: str = "one.stl") -> str:
+                    text: bytes = b"Number %d", first: int = 1, name: str = "one.stl") -> str:
     return write_subtitle_file(case, ((begin, end, NEW_LINE.join(
         [text % number if b"%" in text else text] * lines))
         for number, (begin, end) in enumerate(times, first)), name, first)

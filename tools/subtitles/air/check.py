@@ -160,7 +160,7 @@ class Checker:
         if status == FAILED or status < 0:
             return Outcome(None, lines[-1] if lines else "the process that judged it was killed")
         result = read_call_result(os.path.join(self.work, name + ENDING), name,
-                              1 if status == UNFINISHED else status, lines)
+                                  1 if status == UNFINISHED else status, lines)
         return Outcome(result, result["reason"] or result["worst_fault"], status != UNFINISHED)
 
     def judge(self, request: Request, name: str, air_time: float, stretch: UnbrokenRun) -> int:
@@ -177,7 +177,7 @@ class Checker:
 
         begin = BeginCheck(air_time, self.margin, max(first, stretch.begin), count_packets_until)
         call = single.PairOptions(self.program, out=self.out, staging_folder=self.work, name=name,
-                               is_claimed=True, is_kept=self.is_kept, examine=begin.examine)
+                                  is_claimed=True, is_kept=self.is_kept, examine=begin.examine)
         try:
             with open(recording, "xb") as file:
                 file.writelines(stretch.read(first, math.inf))

@@ -275,7 +275,7 @@ class PairRunner:
             if result["verdict"] == NOT_JUDGED and is_overdue:
                 return self.record_unjudged(
                     item, f"it used more than {counted(limit, 'second')} of CPU time: give a "
-                    "greater --limit")
+                          "greater --limit")
             return self.record_unjudged(item, result["reason"]) if "request" not in result else \
                 make_row(result, item.name)
         finally:
@@ -353,7 +353,7 @@ def is_reusable(result: dict[str, Any] | None, item: BatchItem, program: Program
 
 
 def judge_items(calls: PairRunner, items: list[BatchItem], kept_rows: dict[str, Row], jobs: int,
-             handle_row: Callable[[Row], None] = lambda row: None) -> dict[str, Row]:
+                handle_row: Callable[[Row], None] = lambda row: None) -> dict[str, Row]:
     """Judge pairs, show the progress, and return the rows of the pairs. `handle_row` is called with
     each new row. After a signal, return the rows of the pairs judged so far."""
     progress, start_time, rows = Progress(), time.monotonic(), dict(kept_rows)

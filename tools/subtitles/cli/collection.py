@@ -58,7 +58,7 @@ fieldset { border: 1px solid var(--line); display: flex; flex-wrap: wrap; gap: 4
 """)
 VERDICT_SIGNS = {ACCEPTED: "\u2713", WAIVED: "\u2212", REFUSED: "\u2715", LOST: "\u29d6",
                  WARNED: "!",
-          NOT_JUDGED: "?", RELATIVE: "\u223c"}
+                 NOT_JUDGED: "?", RELATIVE: "\u223c"}
 PAGE_HEADS = ("Verdict", "Pair", "What is wrong", "Faults", "Files")
 MAX_CAUSES = 6
 
@@ -114,7 +114,7 @@ def make_pair_row(folder: str, row: Row) -> Markup:
     causes = list(row.causes.items())
     fault_lines = [markup("<b>{}</b>", counted(row.faults, "fault"))] if row.faults else []
     fault_lines += [markup("<small>{} &times; {}</small>", count, cause)
-             for cause, count in causes[:MAX_CAUSES]]
+                    for cause, count in causes[:MAX_CAUSES]]
     fault_lines += [markup("&hellip;")] if len(causes) > MAX_CAUSES else []
     reasons = [row.sentence or row.line, *([row.counts] if row.counts else [])]
     verdict = markup("{} {}", VERDICT_SIGNS.get(row.verdict, ""), row.verdict)
@@ -263,7 +263,7 @@ def format_summary(rows: Sequence[Row], note: str = "") -> Iterator[str]:
     """Yield the lines of a table of pairs, and a line with the number of pairs by verdict. `note`
     explains the exit status if the verdicts do not."""
     lines = [TABLE_HEADS, *((row.name, row.verdict, str(row.faults) if row.is_judged else "",
-                            worst_fault(row)) for row in rows)]
+                             worst_fault(row)) for row in rows)]
     widths = [max(len(line[column]) for line in lines) for column in range(3)]
     for name, verdict, faults, first in lines:
         yield (f"{name:{widths[0]}}  {verdict:{widths[1]}}  {faults:>{widths[2]}}  "
@@ -277,7 +277,7 @@ def format_progress(rows: dict[str, Row], count: int, kept_count: int, start_tim
     """Return the progress line: the number of pairs by verdict, and the estimated time left."""
     verdicts = [row.verdict for row in rows.values()]
     good_counts = [f"{verdicts.count(word)} {word}, " for word in (ACCEPTED, WAIVED, RELATIVE)
-            if word in verdicts or word == ACCEPTED]
+                   if word in verdicts or word == ACCEPTED]
     unjudged_count = verdicts.count(NOT_JUDGED)
     refused = sum(word not in (ACCEPTED, WAIVED, RELATIVE, NOT_JUDGED) for word in verdicts)
     line = f"{len(rows)} of {counted(count, 'pair')}: {''.join(good_counts)}{refused} refused, " \
@@ -317,7 +317,7 @@ def load_result(source: ResultSource) -> dict[str, Any]:
         return source
     name = os.path.basename(source).removesuffix(ENDING)
     return read_result(source) or make_unjudged(name,
-                                                      "its JSON result is gone: judge it again")
+                                                "its JSON result is gone: judge it again")
 
 
 def load_for_csv(source: ResultSource) -> dict[str, Any]:
@@ -333,4 +333,4 @@ def make_junit_chunks(rows: Sequence[Row], date: str) -> Iterator[bytes]:
     """Yield the JUnit file with a test case for each pair."""
     yield make_junit_file([
         TestCase(row.title, row.verdict, row.status, row.line, row.lines, row.seconds,
-                        row.counts, row.sentence) for row in rows], date)
+                 row.counts, row.sentence) for row in rows], date)

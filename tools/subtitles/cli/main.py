@@ -79,7 +79,7 @@ OPTION_MODES = {one.name: one.modes for one in (*OPTIONS, *CALL_OPTIONS)}
 def find_mode(args: argparse.Namespace) -> Mode:
     """Return the mode that a command line selects. Raise `Stop` if it selects more than one."""
     values = {BATCH: args.batch, COLLECT: args.collect, WATCH: args.watch,
-             MEASURE: args.measure}
+              MEASURE: args.measure}
     given_modes = [mode for mode, value in values.items() if value is not None]
     if len(given_modes) > 1:
         raise Stop(f"{given_modes[0].text} and {given_modes[1].text} can't be given together")

@@ -144,14 +144,14 @@ def measure_delays(stl: str, subtitles: Sequence[Subtitle], held: Timeline,
             add_delays(delays.begins, delays.early, late, first - subtitle.begin, f"{name} begins")
         if after is None or after.begin > subtitle.end:
             last = find_text_end(held, subtitle, letters, first,
-                         FRAMES_OF_A_DAY if after is None else after.begin)
+                                 FRAMES_OF_A_DAY if after is None else after.begin)
             if last < held.last:
                 add_delays(delays.ends, delays.early, late, last + 1 - subtitle.end, f"{name} ends")
     return delays
 
 
 def add_delays(counts: collections.Counter[int], early: list[str], late: list[tuple[int, str]],
-         delay: int, name: str) -> None:
+               delay: int, name: str) -> None:
     """Count the delay of a cue in `counts`. If the delay is negative, describe the cue in `early`
     instead. If it is positive, add it to `late` too."""
     if delay < 0:
@@ -192,7 +192,7 @@ def find_text_end(held: Timeline, subtitle: Subtitle, letters: bytes, first: int
 
 
 def propose_lateness(several: Sequence[Delays], names_without_clock: Sequence[str],
-               off_frame: tuple[int, int] = (0, 0)) -> Iterator[Finding]:
+                     off_frame: tuple[int, int] = (0, 0)) -> Iterator[Finding]:
     """Propose --within and --late from the recordings with a given clock. `off_frame` gives the
     number of PTS that are not at the start of a frame, and the number of all PTS. Propose --within
     1 or more unless PTS off the frame start are rare."""
@@ -423,7 +423,7 @@ def measure(args: argparse.Namespace, program_name: str) -> int:
         lines += list_refused([dataclasses.replace(request, **{
             setting.field: setting.value for setting in settings}) for request in requests],
                               command_paths,
-            folder)
+                              folder)
     for line in lines:
         print_stdout(line)
     return 0
@@ -588,15 +588,15 @@ def make_profile_lines(requests: Sequence[Request],
         propose_repeat_limit([repeats for item in recordings for repeats in item.repeats]),
         propose_pace([pace for item in recordings for pace in item.paces]),
         *propose_lateness([delays for item, is_known in zip(recordings, are_known) if is_known
-                     for delays in item.delays],
-                    [request.recording or "" for request, is_known in zip(requests, are_known)
-                     if not is_known],
-                    (sum(item.off_frame[0] for item in recordings),
-                     sum(item.off_frame[1] for item in recordings))),
+                           for delays in item.delays],
+                          [request.recording or "" for request, is_known in zip(requests, are_known)
+                           if not is_known],
+                          (sum(item.off_frame[0] for item in recordings),
+                           sum(item.off_frame[1] for item in recordings))),
         propose_keeping(sum(count for count, _ in counts), sum(count for _, count in counts),
-                   all(item.is_alone for item in recordings)),
+                        all(item.is_alone for item in recordings)),
         propose_layout([sending for item in recordings for sending in item.sendings],
-                     OPTION_BY_WORD[recordings[0].option])]
+                       OPTION_BY_WORD[recordings[0].option])]
     for finding in findings:
         yield from finding.list_subtitles()
 

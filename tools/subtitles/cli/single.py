@@ -470,9 +470,9 @@ class OutputFiles:
         """Yield the JUnit file, which has one test case for the pair."""
         verdict = self.verdict
         case = results.TestCase(make_pair_title(verdict.request), verdict.word, verdict.status,
-                               verdict.worst_line or verdict.unjudged_reason or "",
+                                verdict.worst_line or verdict.unjudged_reason or "",
                                 self.list_lines(), verdict.seconds,
-                               verdict.subtitle_counts.describe() if verdict.subtitle_counts
+                                verdict.subtitle_counts.describe() if verdict.subtitle_counts
                                 else "", verdict.sentence)
         yield results.make_junit_file([case], verdict.date)
 

@@ -398,7 +398,7 @@ def find_likeliest_clock(base: TimeBase, fit: OriginFit, lateness: Lateness) -> 
         return sum(count * math.log(next((
             kinds[not is_begin].get(delay - shift, UNSEEN_SHARE) for delay in delays
             if 0 <= delay - shift <= base.within), UNSEEN_SHARE))
-            for (is_begin, delays), count in patterns.items())
+                   for (is_begin, delays), count in patterns.items())
 
     return base.compare(fit.start - max(range(base.within, -base.within - 1, -1),
                                         key=compute_likelihood))

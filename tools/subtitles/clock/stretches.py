@@ -195,7 +195,7 @@ def fit_parts(subtitles: Sequence[ExpectedSubtitle], bases: Sequence[TimeBase],
     best, early = choose_clock(own, estimate, lateness)
     return [EstimatedPart(min(expected_subtitle.begin for expected_subtitle in subtitles),
                           max(expected_subtitle.end for expected_subtitle in subtitles), best,
-                       select_other_origins(own, estimate.start, best.start), own, number, [],
+                          select_other_origins(own, estimate.start, best.start), own, number, [],
                           early)]
 
 
@@ -348,7 +348,7 @@ def find_changes(base: TimeBase, number: int, start: int) -> dict[int, Place]:
     return {at: (number, place) for at, cue in enumerate(base.cues)
             for place in [next((place for place in range(
                 cue.frame - start, cue.frame - start + base.within + 1)
-                if place in base.changes), None)] if place is not None}
+                                if place in base.changes), None)] if place is not None}
 
 
 def limit_bases(bases: Sequence[TimeBase], low: Place, high: Place) -> list[TimeBase]:

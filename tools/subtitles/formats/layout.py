@@ -20,11 +20,11 @@ NEW_LINE, NO_CELL, CONTROLS = 0x8A, range(0x80, 0x86), (*range(0x20), *range(0x8
 CHARACTER, CONTROL, TOO_LONG, TOO_MANY_ROWS, DOUBLE_ROW, HIDDEN = 50, 51, 52, 53, 54, 55
 FLAGS = ("fit", "white", "trim", "text", "up", "double", "pack", "last")
 NUMBER_RANGES = {"left": range(40), "right": range(40), "free": range(1, 4),
-           "row": range(-MAX_SHIFT, MAX_SHIFT + 1)}
+                 "row": range(-MAX_SHIFT, MAX_SHIFT + 1)}
 ALLOWED_VALUES = {"strip": "codes 00 to 1F, each once",
                   "before": "up to 6 codes 01 to 0D and one * at most",
-         "after": "up to 4 codes 01 to 0D", "left": "0 to 39", "right": "0 to 39",
-         "free": "1, 2 or 3", "row": "-22 to 22"}
+                  "after": "up to 4 codes 01 to 0D", "left": "0 to 39", "right": "0 to 39",
+                  "free": "1, 2 or 3", "row": "-22 to 22"}
 CACHE_SIZE = 1 << 14  # maximum number of cached texts
 NUMBER = re.compile(r"[0-9]{1,2}")
 HEX = re.compile(r"(?:[0-9A-Fa-f]{2})*")

@@ -124,7 +124,7 @@ def read_titles(path: str) -> list[str]:
 # Matches a line in the output of `subttx show`.
 
 SHOW_LINE = re.compile(r"(?P<number>\d{5}) (?P<begin>[\d:]+) (?P<end>[\d:]+) vp (?P<row>\d+) "
-                   r"jc (?P<justify>\d+) text (?P<text>-|[\da-f]+)")
+                       r"jc (?P<justify>\d+) text (?P<text>-|[\da-f]+)")
 NO_TEXT = "-"
 
 

@@ -184,7 +184,7 @@ class CauseFinder(PageTransmissions):
         subtitle, page = self.subtitles[place], self.pages[place]
         return any(span.first < subtitle.end and subtitle.begin <= span.last and any(
             content == page[row - 1] for row, content in texts)
-            for span, texts in self.timeline.stray_rows)
+                   for span, texts in self.timeline.stray_rows)
 
     def describe_closed_page(self) -> str:
         """Return the message that rows were received outside a transmission of the page."""

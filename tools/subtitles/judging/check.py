@@ -247,4 +247,4 @@ def report_file_check(request: Request, command_paths: CommandPaths, listener: L
     """Print the command that checks the subtitle file alone."""
     listener.add_command(command_paths.program_command, "check", request.stl, NO_PES,
                          *request.check_arguments(True),
-                     "--all")
+                         "--all")

@@ -62,7 +62,7 @@ def find_fault_place(fault: FaultLine, packets: Packets, timeline: Timeline | No
             fault, timeline.get_state_after(member.first).rows)), members[-1])]
     run = members[-1] if fault.packet is None else find_pes_packet(members, fault.packet)
     return FaultPlace(run.first, run.pts, timeline.get_state_after(members[-1].first).rows,
-                 find_page_headers(run, timeline.get_state_after(run.first - 1))
+                      find_page_headers(run, timeline.get_state_after(run.first - 1))
                       if fault.number == CONTROL else ())
 
 
@@ -279,7 +279,7 @@ class PartFaults:
         self.letters: list[str] = make_character_table(OPTION_BY_WORD[self.request.option].bits)
         self.read_meanings = {number: (remove_markup(meaning.meaning),
                                        remove_markup(meaning.remedy))
-                         for number, meaning in read_meanings().items()}
+                              for number, meaning in read_meanings().items()}
         self.wording = CauseDescriber(part.causes, self.request.option) if part.causes else None
         self.subtitles = part.open_subtitle_file()
         self.character_advice = OptionAdvice(self.subtitles, self.request.option)

@@ -176,7 +176,7 @@ def find_coded_rows(rows: Rows) -> Iterator[CodedRow]:
         at = [place for place, cell in enumerate(cells) if cell > SPACE]
         if at:
             yield CodedRow(number, len(row) - len(row.lstrip(b" ")), cells[:at[0]],
-                       cells[at[0]:at[-1] + 1], cells[at[-1] + 1:])
+                           cells[at[0]:at[-1] + 1], cells[at[-1] + 1:])
 
 
 def describe_drawing_differences(subtitles: Sequence[Subtitle], pages: Sequence[Rows],

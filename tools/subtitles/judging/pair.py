@@ -285,10 +285,10 @@ class PairJudge:
             raise Unclear(f"{request.stl} has no subtitle")
         clock = get_given_clock(request) or NO_CLOCK
         programme = PartSearch(request, TimedPart(subtitles[0].begin, subtitles[-1].end, clock),
-                              request.pes, self.skipped_positions, self.is_continued(subtitles[0]))
+                               request.pes, self.skipped_positions, self.is_continued(subtitles[0]))
         self.recording = recording = Recording(request, self.command_paths, self.names,
                                                self.listener, [(subtitle.begin, subtitle.end)
-                                                for subtitle in subtitles])
+                                                               for subtitle in subtitles])
         recording.read(self.is_result_written)
         self.verdict.recording = recording.file
         self.refuse_range(recording)

@@ -212,7 +212,7 @@ def find_part_packets(search: PartSearch, part: Part, listener: Listener) -> Ran
         first, last = part_packets.range
         listener.add_selection(Selection(PES_CHOICE, f"{first}-{last}", line, last - first + 1,
                                          part_packets.read,
-                                  part.number))
+                                         part.number))
     if damage and not part_packets.is_over:
         listener.print_line(f"range: {recording.display_name}: {damage}; the recording was read "
                             "up to this point")

@@ -95,7 +95,7 @@ def find_page_notices(page_announcements: list[Announced], request: Request) -> 
     name = request.page_name
     if not any(announced.kind in SUBTITLE_KINDS for announced in page_announcements):
         kinds = '" and "'.join(dict.fromkeys(KINDS.get(announced.kind, "an unknown kind")
-                                           for announced in page_announcements))
+                                             for announced in page_announcements))
         yield Notice("type", f'the PMT announces page {name} as "{kinds}", not as subtitles')
     code = read_language_code(request.stl_path)
     expected_languages = {*list_language_codes(code)}
@@ -238,7 +238,7 @@ def find_announcements(records: Sequence[ProgramMap], page: Page) -> Iterator[An
 
 
 def find_unsent(announced: Sequence[Announcement], carriers: Collection[int], begin: int,
-              end: int) -> Announcement | None:
+                end: int) -> Announcement | None:
     """Return the first announcement, between the PTS `begin` and `end`, of a page that is sent only
     on other PIDs, if there is one. `carriers` has the PIDs that send the page. If a programme
     announces the page on one of these PIDs, ignore the programmes that do not."""
@@ -261,7 +261,7 @@ def find_silent_pids(announced: Sequence[Announcement], carriers: Collection[int
 
 
 def is_page_expected(clock: tuple[int, int] | None, times: Sequence[tuple[int, int]],
-              origin: int | None) -> bool:
+                     origin: int | None) -> bool:
     """Return whether a page is expected between the two PCRs in `clock`. If the origin is known, a
     complete subtitle must lie between them. Otherwise they must be at least as far apart as the
     first TCI and the last TCO."""
@@ -318,7 +318,7 @@ def find_origin(request: Request, survey: Survey, pid: int) -> int | None:
 
 
 def refuse_dead_source(request: Request, survey: Survey, packets: Packets,
-                times: Sequence[tuple[int, int]]) -> None:
+                       times: Sequence[tuple[int, int]]) -> None:
     """Raise `NeverSent` if a subtitle is expected in the recording, but no row of the page is sent
     before the last TCO.
 

@@ -187,8 +187,8 @@ class Recording:
                 f"page {self.request.page_name} is announced by several programmes of {self.name}, "
                 f"but sent only on {' and '.join(map(format_pid, sorted(carriers)))}, not on "
                 f"{' and '.join(map(format_pid, sorted(silent_pids)))}"),
-                *(self.suggest_call("--pid", f"0x{pid:X}")
-                  for pid in sorted({*carriers} | silent_pids)))
+                          *(self.suggest_call("--pid", f"0x{pid:X}")
+                            for pid in sorted({*carriers} | silent_pids)))
 
     def print_choice(self, packets: Packets, explanation: str) -> None:
         """Report the chosen PID, and the reason for the choice."""

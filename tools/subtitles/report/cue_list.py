@@ -124,14 +124,14 @@ class CueList:
                 row_class = ROW_CLASSES[WAIVED if refused.is_waived(self.severity) else WRONG]
                 kinds = [*dict.fromkeys(f"n{fault.number}" for fault in faults)]
                 yield self.make_file_row(subtitle, mark_times(subtitle, faults), text,
-                                    make_fault_lines(self.file, faults), row_class, kinds)
+                                         make_fault_lines(self.file, faults), row_class, kinds)
             elif subtitle and not faults:
                 yield self.make_file_row(subtitle, (subtitle.begin, subtitle.end), "",
                                          NEXT_REFUSED,
-                                    ROW_CLASSES[NOT_KNOWN], [])
+                                         ROW_CLASSES[NOT_KNOWN], [])
 
     def make_file_row(self, subtitle: NamedSubtitle, times: tuple[Value, Value], text: Value,
-                 verdict: Value, row_class: str, kinds: Sequence[str]) -> CueRow:
+                      verdict: Value, row_class: str, kinds: Sequence[str]) -> CueRow:
         """Return the row of a subtitle for which only the subtitle file is checked."""
         begin = parse_frame(subtitle.begin)
         return CueRow(subtitle.position, row_class, kinds, [

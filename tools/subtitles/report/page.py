@@ -71,7 +71,7 @@ def make_verdict_box(verdict: Verdict) -> Markup:
     parts += [make_folded_list(LOST_TITLE, [gap.format_line() for gap in verdict.gaps
                                             if gap.is_judged]),
               make_folded_list(NAMED_FAULTS_TITLE,
-                          [f"{item.line}: {item.text}" for item in verdict.named_faults])]
+                               [f"{item.line}: {item.text}" for item in verdict.named_faults])]
     if not_judged:
         parts += [markup("<p>{}</p>", item)
                   for item in (verdict.unjudged_reason or "").splitlines()[1:]]
@@ -173,7 +173,7 @@ class PartView:
         """Draw the timeline of the part, with the frames that were lost or skipped."""
         lost_spans = [span
                 for span in find_lost_spans([gap.place for gap in self.gaps], self.part.origin or 0,
-                                                 self.part.request.within)
+                                            self.part.request.within)
                 if span.first <= span.last]
         decoded = self.decoded
         for first, last in self.part.check_output.skipped_packets:

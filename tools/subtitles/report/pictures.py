@@ -230,7 +230,7 @@ def draw_picture_pair(time: str, expected: Rows, header: bytes, state: ReceiverS
     decoded = state.rows if state and state.is_received else None
     shown_rows = find_used_rows([expected, decoded] if decoded else [expected])
     left = make_figure(f"Expected at {time}", NO_TEXT * (expected == BLANK_PAGE),
-                  draw_picture(expected, header, shown_rows))
+                       draw_picture(expected, header, shown_rows))
     if state is None or decoded is None or state.header is None:
         reason = "not known" if state is None else "nothing received yet"
         return markup('<div class="pictures">{}{}</div>', left, make_figure(

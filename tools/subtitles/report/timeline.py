@@ -38,7 +38,7 @@ class Lanes:
     def draw(self) -> Markup:
         """Draw all lanes, and the times below them."""
         lanes = [self.draw_lane("expected", "Expected", ((cue.subtitle.begin, cue.subtitle.end)
-                                                    for cue in self.cues.cues))]
+                                                         for cue in self.cues.cues))]
         if self.decoded:
             lanes.append(self.draw_lane("received", "Decoded", (
                 (span.first, span.last + 1) for span in find_text_spans(self.decoded))))

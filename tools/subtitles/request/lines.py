@@ -30,7 +30,7 @@ BYTE_ORDER_MARKS = codecs.BOM_UTF8, codecs.BOM_UTF16_LE, codecs.BOM_UTF16_BE
 LIST_TOKEN = re.compile(r"""(?P<blank>[ \t\r\n]+) | (?P<comment>\#.*)
                        | (?P<plain>[^ \t\r\n\\'"\#]+)
                        | \\(?P<letter>.) | '(?P<single>[^']*)' | "(?P<double>(?:[^"\\]|\\.)*)" """,
-                           re.VERBOSE | re.DOTALL)
+                        re.VERBOSE | re.DOTALL)
 QUOTED_ESCAPE = re.compile(r'\\(["\\])')
 
 
@@ -339,7 +339,7 @@ def read_list_pairs(path: str, lines: Iterable[Line],
         except (Stop, ValueError) as reason:
             yield BatchItem(names.make_line_name(line.number), None,
                             f"{path}, line {line.number}: {reason}",
-                       list_possible_paths(line.arguments, folder))
+                            list_possible_paths(line.arguments, folder))
             continue
         yield BatchItem(names.name_pair(request.stl), request, None)
 

@@ -251,7 +251,7 @@ def add_options(parser: ToolParser, options: Iterable[Option] | None = None) -> 
     """Add options to a parser in groups. By default, add the options for a pair."""
     for option in sorted(OPTIONS if options is None else options, key=group_number):
         arguments: dict[str, Any] = {"help": option.help, "dest": option.field,
-                                 "default": option.default}
+                                     "default": option.default}
         if option.metavar is None:
             arguments |= {"action": "store_const", "const": option.flag_value}
         elif option.choices:

@@ -287,7 +287,7 @@ FAULT_COLUMNS = ["part", "number", "name", "severity", "file", "block", *SUBTITL
             "character", "pes", "pes_time", "packet", "frame", "time", "row", "column", "expected",
             "decoded", "last_time", "last_pes", "line", "meaning", "remedy"]
 CAUSE_COLUMNS = ["cause_name", "cause_frames", "cause_subtitle_number", "cause_expected_text",
-            "cause_decoded_text", "cause_line"]
+                 "cause_decoded_text", "cause_line"]
 PAIR_COLUMNS = ["verdict", "status", "reason"]
 POSITION_COLUMNS = ["subtitle_position", "cause_subtitle_position"]
 PART_COLUMNS = ["part_pid", "part_packet_size", "part_pes"]
@@ -348,7 +348,7 @@ def make_subtitle_lines(verdict: Verdict) -> Iterator[bytes]:
     """Yield the lines of a CSV file about one pair: the verdict, then the subtitles."""
     files: Columns = {"stl": verdict.request.stl, "recording": verdict.request.recording}
     pair: Columns = {**files, "verdict": verdict.word,
-                   "reason": verdict.unjudged_reason or verdict.sentence}
+                     "reason": verdict.unjudged_reason or verdict.sentence}
     rows = ({**files, **row} for row in list_subtitle_rows(verdict))
     return map(str.encode, make_column_lines(itertools.chain([pair], rows), CUE_COLUMNS))
 

@@ -384,12 +384,12 @@ VERDICT = Record(
 
 NO_PAIR = Record(
     "no_pair", "A result without a request: a file or a line of a batch that is not a pair, or a "
-    "call that ended early.",
-    Member("format", OneOf(FORMAT)),
-    Member("verdict", OneOf(NOT_JUDGED)),
-    Member("status", OneOf(STATUSES[NOT_JUDGED])),
-    Member("name", Text()),
-    Member("reason", Text(least=1)))
+               "call that ended early.",
+               Member("format", OneOf(FORMAT)),
+               Member("verdict", OneOf(NOT_JUDGED)),
+               Member("status", OneOf(STATUSES[NOT_JUDGED])),
+               Member("name", Text()),
+               Member("reason", Text(least=1)))
 
 BATCH = Record(
     "batch", "The results for many pairs, in `pairs`.",

@@ -156,8 +156,8 @@ class Survey:
         flags, control = map(sys.intern, actions.split("/"))  # most of these strings are equal
         self.get_packets(pid).runs.append(PacketRun(int(first), int(count),
                                                     parse_optional_number(pts),
-                                                   int(step), flags,
-                                                   control, int(units), int(fault)))
+                                                    int(step), flags,
+                                                    control, int(units), int(fault)))
 
     def parse_rows(self, pid: str, number: str, rows: str, *_: str) -> None:
         packets, texts, behind = self.get_packets(pid), parse_rows(rows), int(number)
@@ -197,8 +197,8 @@ class Survey:
     def parse_set(self, pid: str, number: str, designation: str, region: str, option: str,
                   *_: str) -> None:
         self.get_packets(pid).character_sets.append((int(number), int(designation),
-                                                    parse_optional_number(region),
-                                                    parse_optional_number(option)))
+                                                     parse_optional_number(region),
+                                                     parse_optional_number(option)))
 
     def parse_video(self, pid: str, passed: str, *_: str) -> None:
         self.videos[int(pid)] = Video(int(passed))
