@@ -18,7 +18,7 @@ def pytest_configure() -> None:
     """Prepare the tests in the same way as dev/check-tools."""
     BENCH.chosen = os.path.realpath(os.environ.get("SUBTTX") or find_built_program(None))
     COMPILED.__enter__()
-    BENCH.make_project_copy()
+    BENCH.get_shared_folder()
 
 
 def pytest_runtest_call() -> None:

@@ -21,7 +21,7 @@ class Subtitles(NamedTuple):
     has_preceding_fault: list[bool]
 
 
-def record_faults(record: Record, before: Record | None, options: Options) -> Iterator[str]:
+def list_record_faults(record: Record, before: Record | None, options: Options) -> Iterator[str]:
     """Yield a line for each fault in the record of a subtitle."""
     if before and record.tci < before.tci:
         yield format_refused(56, f"block {record.block}")
@@ -50,7 +50,7 @@ def judge_subtitles(data: bytes, options: Options) -> Subtitles:
             lines.append(format_refused(item.number, f"block {item.block}"))
             groups.append(None)
         elif isinstance(item, Record):
-            faults[len(groups)] = list(record_faults(item, before, options))
+            faults[len(groups)] = list(list_record_faults(item, before, options))
             lines += faults[len(groups)]
             groups.append(item)
             before = item

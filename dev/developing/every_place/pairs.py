@@ -142,7 +142,7 @@ def corrupt_block(rng: Random, data: bytearray, block: int) -> None:
         data[block + rng.randrange(3)] ^= 1  # change the subtitle group or the subtitle number
 
 
-def repeat_block(rng: Random, block: bytearray) -> bytearray:
+def remove_or_repeat_block(rng: Random, block: bytearray) -> bytearray:
     """Remove a block, or repeat it. The repeated blocks sometimes form one subtitle."""
     count = rng.choice([0, 2, 2, 3, 10])
     if rng.random() < 0.6:
@@ -169,7 +169,7 @@ def corrupt_stl_file(rng: Random, whole: bytes) -> bytes:
             data[item:item + TTI], data[other:other + TTI] = \
                 data[other:other + TTI], data[item:item + TTI]
         elif way < 0.91:
-            data[item:item + TTI] = repeat_block(rng, data[item:item + TTI])
+            data[item:item + TTI] = remove_or_repeat_block(rng, data[item:item + TTI])
         elif way < 0.95:
             data[item + 16:item + TTI] = rng.choice([b"xx", b"x\x8a"]) * 56
         else:

@@ -58,7 +58,7 @@ class Bench:
             self.chosen = os.path.realpath(find_built_program(None))
         return self.chosen
 
-    def make_project_copy(self) -> str:
+    def get_shared_folder(self) -> str:
         """Return the folder for all tests. Other users can read it. Create it in the first call."""
         if not self.folder:
             self.folder = tempfile.mkdtemp()
@@ -67,7 +67,7 @@ class Bench:
         return self.folder
 
     def make_folder(self, name: str) -> str:
-        result = os.path.join(self.make_project_copy(), name)
+        result = os.path.join(self.get_shared_folder(), name)
         os.mkdir(result)
         return result
 

@@ -18,7 +18,7 @@ from subtitles.judging.verdict import Verdict
 from subtitles.request.commands import CommandPaths, Listener, OutputNames
 from subtitles.request.lines import read_options
 from subtitles.request.request import make_request
-from subtitles.results.files import describe_inputs, write_result
+from subtitles.results.files import describe_inputs, make_result_chunks
 from .bench import Case
 from .streams import Packet, join_packets
 from .transmissions import (
@@ -98,7 +98,7 @@ def judge_files_with(program: str, *args: str, recorder: LineRecorder | None = N
         pair = PairJudge(verdict, command_paths, names, listener, True)
         judge_pair(pair, files)
         report_pair(verdict, recorder, files)
-        result = json.loads("".join(write_result(verdict, ProgramInfo("1", "0" * 64, None))))
+        result = json.loads("".join(make_result_chunks(verdict, ProgramInfo("1", "0" * 64, None))))
         listed = [line for part in verdict.parts for line in part.check_output.read_lines()]
         # A recording read from a pipe is listed with the name of its stored copy.
         known_files = {request.stl, request.recording, os.devnull}

@@ -205,14 +205,14 @@ class Programme:
         return format_frame(self.times[place][0])
 
 
-def change_random_character(page: Sequence[bytes]) -> list[bytes]:
+def replace_last_letter(page: Sequence[bytes]) -> list[bytes]:
     """Return the page with an X in place of the last letter or digit in its first row."""
     first = page[0]
     at = max(at for at in range(2, 42) if chr(first[at] & 0x7F).isalnum())
     return [first[:at] + bytes([add_odd_parity(0x58)]) + first[at + 1:], *page[1:]]
 
 
-def remove_random_row(page: Sequence[bytes]) -> list[bytes]:
+def move_rows_up(page: Sequence[bytes]) -> list[bytes]:
     """Move all rows of a page up by two rows."""
     result = []
     for item in page:
@@ -222,7 +222,7 @@ def remove_random_row(page: Sequence[bytes]) -> list[bytes]:
     return result
 
 
-def change_random_colour(page: Sequence[bytes]) -> list[bytes]:
+def turn_first_row_yellow(page: Sequence[bytes]) -> list[bytes]:
     """Make the first row of a page yellow."""
     first = page[0]
     at = first.index(add_odd_parity(0x0B)) - 1
@@ -230,7 +230,7 @@ def change_random_colour(page: Sequence[bytes]) -> list[bytes]:
 
 
 CHANGES: dict[str, Callable[[Sequence[bytes]], list[bytes]]] = {
-    CHARACTER: change_random_character, ROW: remove_random_row, COLOUR: change_random_colour}
+    CHARACTER: replace_last_letter, ROW: move_rows_up, COLOUR: turn_first_row_yellow}
 KINDS = (*SENTENCES, EXCHANGED_TEXT)
 
 

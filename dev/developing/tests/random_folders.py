@@ -153,9 +153,9 @@ class Folder:
                 path = os.path.join(folder, name)
                 if os.path.isfile(path):
                     with open(path, encoding="utf-8", errors="surrogateescape") as file:
-                        yield path, self.remove_options(file.read())
+                        yield path, self.replace_changing_text(file.read())
 
-    def remove_options(self, text: str) -> str:
+    def replace_changing_text(self, text: str) -> str:
         """Return a file's text with fixed words in place of dates, times and paths."""
         try:
             text = replace_volatile_text(text, self.program)

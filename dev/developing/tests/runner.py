@@ -148,7 +148,7 @@ class TestProcess:
 def run_all(tests: SeveralTests, process_count: int, is_verbose: bool) -> Counts:
     whole, running = Counts(is_verbose), list[TestProcess]()
     waiting = sorted(group_tests(tests), key=lambda item: get_test_name(item[0]).startswith(LONG))
-    BENCH.make_project_copy()
+    BENCH.get_shared_folder()
     gc.freeze()  # share more memory pages with the forked processes
     while running or waiting:
         while waiting and len(running) < process_count:

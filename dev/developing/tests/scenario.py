@@ -51,7 +51,7 @@ class Scenario:
         self.origin = self.chance.choice((0, 90_000, CLOCK - 900_000 * TICKS, CLOCK - 5))
         self.has_break = self.has_chance(18)
         self.times = self.choose_random_times()
-        self.subtitles = self.write_random_subtitles()
+        self.subtitles = self.list_random_subtitles()
         self.write("one.stl", self.subtitles)
         self.write("sent.stl",
                    self.list_transmitted_subtitles() if self.has_chance(45) else self.subtitles)
@@ -71,7 +71,7 @@ class Scenario:
     def make_random_line(self) -> bytes:
         return make_box_line(self.chance.choice(TEXTS), self.chance.choice((b"", b"", b"\x03")))
 
-    def write_random_subtitles(self) -> list[WrittenSubtitle]:
+    def list_random_subtitles(self) -> list[WrittenSubtitle]:
         chance, result = self.chance, list[WrittenSubtitle]()
         # Subtitle numbers that the file usually does not have.
         of_none, empty = (chance.randrange(200) for _ in range(2))

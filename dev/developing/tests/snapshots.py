@@ -110,7 +110,7 @@ def report_text(number: int) -> list[str]:
     return [result.verdict.word, *page_text(page)]
 
 
-def read_snapshot(name: str) -> list[str]:
+def run_for_snapshot(name: str) -> list[str]:
     """Return the lines to store for a run of qc such as `call 17`, `named a list`, `report 3`."""
     kind, _, rest = name.partition(" ")
     if kind == "call":

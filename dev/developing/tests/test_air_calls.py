@@ -145,7 +145,7 @@ class Calls(Feeds):
                             b"".join(frames))
         self.check("record", (process.status, process.told), (0, []))
 
-    def start_recorder(self, begin: float, *options: str) -> None:
+    def write_schedule_line(self, begin: float, *options: str) -> None:
         date = datetime.datetime.fromtimestamp(begin, datetime.timezone.utc)
         self.write_schedule(" ".join([f"{date:%Y-%m-%dT%H:%M:%SZ}", "one.stl", *options]))
 
@@ -153,7 +153,7 @@ class Calls(Feeds):
         return [get_tool_path("air"), "judge", self.path("schedule"), self.path("segments"), "-o",
                 self.path("out"), "-p", self.bench.program, *args]
 
-    def write_feed(self, begin: float, end: float) -> None:
+    def rename_segments(self, begin: float, end: float) -> None:
         """Rename the segments so that the first begins at `begin`. Set their mtimes to `end`."""
         names = sorted(name for name in os.listdir(self.path("segments")) if name.endswith(".ts"))
         for number, name in enumerate(names):
@@ -170,8 +170,8 @@ class Calls(Feeds):
                 self.write(f"out/{name}", b"")
             begin = time.time()
             self.record(self.feed(is_wrong))
-            self.start_recorder(begin - 120)
-            self.write_feed(begin - 200, begin)
+            self.write_schedule_line(begin - 120)
+            self.rename_segments(begin - 200, begin)
             process = self.call(self.judge_command("--once", "--margin", "110"))
             self.check(f"{verdict}: the call", (process.status, process.told), (0, []))
             self.check(f"{verdict}: results", [*self.verdicts().values()], [verdict])
@@ -187,7 +187,7 @@ class Calls(Feeds):
         assert recorder.stdin
         wait_until(lambda: os.path.exists(self.path("segments/.recorder.lock")))
         begin = time.time() + 2
-        self.start_recorder(begin + LEAD_SECONDS - 1)
+        self.write_schedule_line(begin + LEAD_SECONDS - 1)
         judge = self.start_judge()
         for number, frame in enumerate(frames):
             time.sleep(max(begin + number / 25 - time.time(), 0))

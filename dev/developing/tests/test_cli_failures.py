@@ -279,7 +279,7 @@ class Bugs(CallCase):
                       "judging.check.CheckOutput.read_line", "cli.main.make_parser",
                       "cli.single.make_request",
                       "cli.single.CommandPaths", "cli.single.describe_inputs",
-                      "results.files.write_list", "cli.single.describe_program"):
+                      "results.files.make_list_chunks", "cli.single.describe_program"):
             with self.subTest(place):
                 self.check_bug_message(place, ValueError("odd"))
 

@@ -308,7 +308,7 @@ def write_slowly(case: Case, name: str) -> float:
     return longest
 
 
-def rename_example(case: Case, name: str, of: str) -> None:
+def copy_example_atomically(case: Case, name: str, of: str) -> None:
     """Copy an example so that the final name appears only with the complete contents."""
     os.rename(case.write("whole", read_example_file(of)), case.path(name))
 
@@ -331,12 +331,12 @@ def check_watch(case: Case, process: subprocess.Popen[bytes]) -> None:
     case.must("when it is whole", wait_until(lambda: lines() == whole), lines())
     case.must("a file without a partner, once", wait_until(
         lambda: case.read("log").count(b"lone.stl: no recording") == 1), case.read("log"))
-    rename_example(case, "in/now.stl", "hello.stl")
-    rename_example(case, "in/now.pes", "no-erase.pes")
+    copy_example_atomically(case, "in/now.stl", "hello.stl")
+    copy_example_atomically(case, "in/now.pes", "no-erase.pes")
     case.write("in/now.done", b"")
     case.must("at once", wait_until(lambda: any(line.startswith("now  refused: 67 Control ")
                                                 for line in lines())), lines())
-    rename_example(case, "in/now.pes", "hello.pes")
+    copy_example_atomically(case, "in/now.pes", "hello.pes")
     case.must("again", wait_until(
         lambda: "now  relative: no clock was given" in lines()), lines())
     process.send_signal(signal.SIGTERM)

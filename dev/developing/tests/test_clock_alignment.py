@@ -112,7 +112,7 @@ def measure_inserter_delays(inserter: Inserter) -> Lateness:
     return Lateness(*({by: kind.count(by) for by in sorted({*kind})} for kind in kinds))
 
 
-def do_all_agree(origin: OriginEstimate) -> bool:
+def does_first_part_agree(origin: OriginEstimate) -> bool:
     return any(part.matches == part.total for part in origin.parts[:1])
 
 
@@ -179,10 +179,11 @@ class EstimatedClocks(unittest.TestCase):
                          for (pts, text), cue in zip(make_page_changes(cues, 0), cues)]
                 with self.subTest(name, seed=seed):
                     item = find_origin(shown, make_sent_packets(times), within, late=shares)
-                    self.assertTrue(item.status == 0 and do_all_agree(item), item.lines)
+                    self.assertTrue(item.status == 0 and does_first_part_agree(item), item.lines)
                     item = find_origin(shown, make_sent_packets(times), within)
                     before = [line for line in item.lines if " early compared with" in line]
-                    self.assertTrue(item.status == 0 and do_all_agree(item) or before, item.lines)
+                    self.assertTrue(item.status == 0 and does_first_part_agree(item) or before,
+                                    item.lines)
 
     def test_reports_an_early_cue_of_a_known_inserter(self) -> None:
         for name, (within, inserter) in INSERTERS.items():
@@ -197,7 +198,7 @@ class EstimatedClocks(unittest.TestCase):
                       text) for at,
                      ((pts, text), cue) in enumerate(zip(make_page_changes(cues, 0), cues))]
             item = find_origin(shown, make_sent_packets(sorted(times)), within, late=shares)
-            self.assertFalse(do_all_agree(item), (name, item.lines))
+            self.assertFalse(does_first_part_agree(item), (name, item.lines))
 
 
 class Drifts(unittest.TestCase):

@@ -57,8 +57,9 @@ class CommandLine(Case):
                 "": none, "-1": none, many: none, "\u0661": none}),
             (command_line.parse_break_count, {"0": 0, "999": 999, "1000": none, "-1": none,
                 "": none, "\u0661": none}),
-            (command_line.parse_start, {"tcp": "tcp", "10:00:00:00": "10:00:00:00", "TCP": none,
-                "24:00:00:00": none}),
+            (command_line.validate_start_time,
+             {"tcp": "tcp", "10:00:00:00": "10:00:00:00", "TCP": none,
+              "24:00:00:00": none}),
             (command_line.parse_pid, {"0": 0, "8190": 8190, "0x1FFE": 8190, "8191": none,
                 "-1": none, "0x101": 257, "x": none, "": none})]
         for call, texts in of_words:

@@ -354,7 +354,7 @@ class IndistinguishableFaults(Case):
             for name in names:
                 _, sent = make_paced_programme(self, name, 12, each)
                 self.check(f"{name}, {each} a frame",
-                           remove_single_packets(sent, each) == make_service_stream(sent), True)
+                           make_stream_with_losses(sent, each) == make_service_stream(sent), True)
 
     def test_rare_delays_look_like_early_subtitles(self) -> None:
         for inserter in list_inserters():
@@ -369,7 +369,7 @@ SILENT = ("one silence", "two silences", "three silences")
 MAX_TS_PACKETS = 9  # maximum size of a PES packet in TS packets
 
 
-def remove_single_packets(sent: SentPes, each: int) -> bytes:
+def make_stream_with_losses(sent: SentPes, each: int) -> bytes:
     """Return a stream that has lost all PES packets not in `sent`.
 
     Before the loss, the stream had `each` PES packets in every frame.

@@ -327,7 +327,7 @@ def read_document(name: str) -> str:
         return file.read()
 
 
-def read_source_texts() -> list[str]:
+def list_source_paths() -> list[str]:
     crates = os.path.join(TOP, "crates")
     return [os.path.relpath(os.path.join(place, name), TOP)
             for crate in sorted(os.listdir(crates))
@@ -354,7 +354,7 @@ class ReadBodies(unittest.TestCase):
                               f"read the change of {name}, and store it in {STORED_FILE}")
 
     def test_no_crate_implements_drop(self) -> None:
-        for name in read_source_texts():
+        for name in list_source_paths():
             with self.subTest(name):
                 self.assertFalse(implements_drop(read_document(name)))
 

@@ -15,7 +15,7 @@ from subtitles.judging.check import CheckOutput
 from subtitles.judging.transmissions import (
     ExpectedPages, PageHeader, REPEAT_WITHOUT_ERASE, count_keeping_headers, describe_control_bits,
     describe_effect, describe_header_faults, describe_missing_erase, describe_omitted_rows,
-    find_omitted_rows, find_page_headers)
+    find_page_headers, name_omitted_rows)
 from subtitles.recording.recording import check_pes_header, read_pes_header
 from subtitles.stream.gaps import LossPlace, describe_loss, find_loss_places
 from subtitles.stream.packets import (
@@ -328,7 +328,7 @@ class MissingRows(Case):
         packets = decode_packets(self, make_packets_at(frames), within=within)
         return packets, packets.get_page_at(frames[0][0])
 
-    def check_at_frame(self, frame: int, *before: str) -> CheckOutput:
+    def make_row_fault(self, frame: int, *before: str) -> CheckOutput:
         """Return output of `check --all` with a fault in row 22 at a frame."""
         lines = [*before, f"refused 72 Content {make_frame_text(frame)} row 22 column 0"]
         return make_answer([*lines, f"{len(lines)} faults"], path=self.path("told"))
@@ -339,54 +339,53 @@ class MissingRows(Case):
         for frame, expected in (
                 (0, ""), (24, ""), (50, "row 22"), (60, "row 22"), (75, "rows 20 and 22"),
                 (99, "rows 20 and 22"), (100, "")):
-            omitted_rows = find_omitted_rows(decoded, due, frame, self.check_at_frame(frame))
+            omitted_rows = name_omitted_rows(decoded, due, frame, self.make_row_fault(frame))
             self.must(f"{frame}", omitted_rows == expected, omitted_rows)
         self.must("the row",
-                  [self.check_at_frame(frame).find_fault_row(9) for frame in (0, 9, 10)] ==
+                  [self.make_row_fault(frame).find_fault_row(9) for frame in (0, 9, 10)] ==
                   [22, 22, None])
-        self.must("nothing told", find_omitted_rows(decoded, due, 50, None) == "a row")
-        self.must("another page is due", find_omitted_rows(decoded, BLANK_PAGE, 50, None) == "")
+        self.must("nothing told", name_omitted_rows(decoded, due, 50, None) == "a row")
+        self.must("another page is due", name_omitted_rows(decoded, BLANK_PAGE, 50, None) == "")
         nothing = decode_packets(self, make_packets_at([(5, [CLOSING])]))
-        self.must("no header", find_omitted_rows(nothing, BLANK_PAGE, 5, None) == "")
+        self.must("no header", name_omitted_rows(nothing, BLANK_PAGE, 5, None) == "")
 
     def test_a_changed_row_is_not_missing(self) -> None:
         decoded, due = self.decode((0, COMPLETE_PAGE), (20, COMPLETE_PAGE), (25, ONE_ROW_LESS),
                                    (50, ONE_ROW_LESS))
         for frame, expected in ((0, "row 22"), (19, "row 22"), (20, ""), (25, ""), (26, "row 22")):
-            reported = self.check_at_frame(25,
-                                           f"refused 69 RowChanged {make_frame_text(frame)} packet "
-                                           "1")
-            omitted_rows = find_omitted_rows(decoded, due, 25, reported)
+            reported = self.make_row_fault(
+                25, f"refused 69 RowChanged {make_frame_text(frame)} packet 1")
+            omitted_rows = name_omitted_rows(decoded, due, 25, reported)
             self.must(f"{frame}", omitted_rows == expected, omitted_rows)
         decoded, due = self.decode((0, REPEATED_PAGE), (25, ONE_ROW_LESS))
-        reported = self.check_at_frame(25, f"refused 69 RowChanged {make_frame_text(0)} packet 1")
-        self.must("none erases", find_omitted_rows(decoded, due, 25, reported) == "")
+        reported = self.make_row_fault(25, f"refused 69 RowChanged {make_frame_text(0)} packet 1")
+        self.must("none erases", name_omitted_rows(decoded, due, 25, reported) == "")
 
     def test_counts_rows_up_to_the_tolerance(self) -> None:
         frames = (0, COMPLETE_PAGE), (25, [KEEPING_HEADER]), (26, [FIRST_ROW]), (50, COMPLETE_PAGE)
         decoded, due = self.decode(*frames, within=2)
         self.must("both frames",
-                  find_omitted_rows(decoded, due, 27, self.check_at_frame(27)) == "row 22")
+                  name_omitted_rows(decoded, due, 27, self.make_row_fault(27)) == "row 22")
         decoded, due = self.decode(*frames)
         self.must("one frame",
-                  find_omitted_rows(decoded, due, 25, self.check_at_frame(25)) == "rows 20 and 22")
+                  name_omitted_rows(decoded, due, 25, self.make_row_fault(25)) == "rows 20 and 22")
 
     def test_finds_rows_missing_after_a_keeping_header(self) -> None:
         decoded, due = self.decode((0, COMPLETE_PAGE), (25, WITHOUT_ROWS), (50, ONE_ROW_LESS))
         subtitle = Subtitle(1, 1, 0, 100, 20, 2, b"1")
-        namer = CauseFinder(ExpectedPages([subtitle], [due]), decoded, self.check_at_frame(50))
+        namer = CauseFinder(ExpectedPages([subtitle], [due]), decoded, self.make_row_fault(50))
         for frame, expected in ((0, ""), (25, "rows 20 and 22"), (50, "row 22")):
-            self.must(f"{frame}", namer.list_omitted_rows(frame) == expected,
-                      namer.list_omitted_rows(frame))
+            self.must(f"{frame}", namer.explain_omitted_rows(frame) == expected,
+                      namer.explain_omitted_rows(frame))
         namer.timeline.lost = SpanIndex([Span(50, 50)])
         self.must("not received",
-                  namer.list_omitted_rows(50) == "" and namer.list_omitted_rows(25) != "")
+                  namer.explain_omitted_rows(50) == "" and namer.explain_omitted_rows(25) != "")
         several = (25, [KEEPING_HEADER]), (25, [FIRST_ROW, CLOSING])
         for within, expected in ((0, ""), (1, "row 22")):
             decoded, due = self.decode((0, COMPLETE_PAGE), *several, within=within)
-            namer = CauseFinder(ExpectedPages([subtitle], [due]), decoded, self.check_at_frame(25))
-            self.must(f"in two, {within}", namer.list_omitted_rows(25) == expected,
-                      namer.list_omitted_rows(25))
+            namer = CauseFinder(ExpectedPages([subtitle], [due]), decoded, self.make_row_fault(25))
+            self.must(f"in two, {within}", namer.explain_omitted_rows(25) == expected,
+                      namer.explain_omitted_rows(25))
 
     def test_an_early_header_without_rows_erases_nothing(self) -> None:
         subtitle, faulty = Subtitle(1, 1, 25, 100, 20, 2, b"1"), FaultyFrames()
@@ -397,7 +396,7 @@ class MissingRows(Case):
             due = decoded.get_page_at(50)
             faulty.during = Span(25 if not frame else 30, 35)
             cause = CauseFinder(ExpectedPages([subtitle], [due]), decoded,
-                                self.check_at_frame(25)).find_cause(0, faulty)
+                                self.make_row_fault(25)).find_cause(0, faulty)
             self.must(name, (cause.name, cause.details) == (name, words), cause)
 
 

@@ -158,12 +158,12 @@ def insert_two_faults(sent: SentPes) -> SentPes:
     """Replace a header with a header that does not erase the page, and send a wrong text later."""
     result = list(sent)
     result[1:2] = [(result[1][0], [KEEPING_HEADER, *result[1][1][1:]])]
-    at = next(number for number, (_, some) in enumerate(sent) if b"3" in join_rows(some))
+    at = next(number for number, (_, some) in enumerate(sent) if b"3" in get_first_row(some))
     result[at] = (result[at][0], [HEADER, make_numbered_row(22, b"Wrong"), CLOSING])
     return result
 
 
-def join_rows(packets: list[bytes]) -> bytes:
+def get_first_row(packets: list[bytes]) -> bytes:
     return b"".join(bytes(byte & 0x7F for byte in packet[2:]) for packet in packets[1:2])
 
 

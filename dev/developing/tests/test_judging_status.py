@@ -273,7 +273,7 @@ PACKET_FAULTS_ONLY = {3, 4, 76, 82}  # fault numbers that `check` does not repor
 SECOND = 25
 
 
-def read_check_lines(*lines: str, path: str) -> CheckOutput:
+def make_check_output(*lines: str, path: str) -> CheckOutput:
     return make_answer([*lines, f"{len(lines)} faults"], path=path)
 
 
@@ -310,7 +310,7 @@ class LeadingFaults(Case):
                 ([GAP, UNDECIDED], UNDECIDED),
                 ([CHARACTER_LINE, UNDECIDED, CONTENT], CHARACTER_LINE),
                 ([CONTENT, CHARACTER_LINE], CHARACTER_LINE)):
-            part = make_part(0, 9, 0, read_check_lines(*lines, path=self.path("list")))
+            part = make_part(0, 9, 0, make_check_output(*lines, path=self.path("list")))
             self.must(f"{lines}", part.first_text == expected and part.check_output.line == lines[0]
                       and part.worst_fault_line and part.worst_fault_line.line == expected,
                       part.first_text)
@@ -335,7 +335,7 @@ class LeadingFaults(Case):
             ([CHARACTER_LINE, UNDECIDED, GAP, CONTROL], CONTROL),
             ([CHARACTER_LINE, UNDECIDED], None))
         for lines, expected in rows:
-            part = make_part(0, 9, 0, read_check_lines(*lines, path=self.path("list")))
+            part = make_part(0, 9, 0, make_check_output(*lines, path=self.path("list")))
             sent = part.worst_transmission_fault
             self.must(f"{lines}", (sent and sent.fault.line) == expected, sent)
 
@@ -359,16 +359,16 @@ class LeadingFaults(Case):
                 cause_by_index={place: Cause(place, name, 1, None, None, "", 0)
                                 for place, name in enumerate(names)})
             causes.list_causes = lambda causes=causes: [*causes.cause_by_index.values()]
-            lead = find_worst_fault(read_check_lines(*some, path=self.path("list")), causes)
+            lead = find_worst_fault(make_check_output(*some, path=self.path("list")), causes)
             self.must(f"{names}", lead and lead.fault.line == expected, lead)
         for edges, expected in (({63: 0}, BEGIN), ({74: 0, 63: 0}, BEGIN), ({63: 1}, at(1)),
                                 ({74: 0, 63: 1}, END)):
             causes.frames_by_end_fault = edges
-            lead = find_worst_fault(read_check_lines(BEGIN, *lines, END, path=self.path("list")),
+            lead = find_worst_fault(make_check_output(BEGIN, *lines, END, path=self.path("list")),
                                     causes)
             self.must(f"{edges}", lead and lead.fault.line == expected, lead)
         causes.frames_by_end_fault, causes.first_wrong_frames = {}, {0: 900_000 + SECOND + 9}
-        lead = find_worst_fault(read_check_lines(*lines, path=self.path("list")), causes)
+        lead = find_worst_fault(make_check_output(*lines, path=self.path("list")), causes)
         self.must("the fault that stands then", lead and lead.fault.line == at(1), lead)
         self.must("no cause", find_worst_cause([]) is None)
 

@@ -24,7 +24,7 @@ from subtitles.judging.pages import (
     format_page_text, is_partial_page, is_text_moved, join_page_text)
 from subtitles.judging.subtitles import OptionAdvice
 from subtitles.judging.timing import (
-    PartSearch, cut_packets, find_desync, list_timed_parts, report_estimated_origin)
+    PartSearch, find_desync, find_subtitle_packets, list_timed_parts, report_estimated_origin)
 from subtitles.judging.transmissions import describe_control_bits
 from subtitles.recording.notices import (
     Notice, format_presence, format_duration, find_character_set_notices, find_count_notices,
@@ -78,7 +78,8 @@ class PartClocks(unittest.TestCase):
                     (None, (2, 8), 3, False), ((4, 5), (4, 5), 3, False), (None, (2, 8), 3, True),
                     (None, (2, 8), 5, True)):  # the part begins after the recording's first frame
                 part = programme.full_range._replace(packets=packets, begin=begin)
-                cut_packets(programme._replace(is_continued=is_continued), recording, part, 6)
+                find_subtitle_packets(programme._replace(is_continued=is_continued), recording,
+                                      part, 6)
                 self.assertEqual(cut.call_args.args, (
                     "packets", begin, 9, 7, 30, 6, inside, is_continued and begin == 3))
 

@@ -8,7 +8,7 @@ from developing.stl import make_gsi_block
 from subtitles.common.times import Span, Spans
 from subtitles.formats.stl import NamedSubtitle, Subtitle, SubtitleFile
 from subtitles.judging.causes import Cause, LATE, NEVER, NOT_RECEIVED, UNKNOWN_CAUSE, WRONG_TEXT
-from subtitles.judging.cues import Cue, CueJudge, CueVerdict, find_decoded_times
+from subtitles.judging.cues import Cue, CueJudge, CueVerdict, add_decoded_page
 from subtitles.judging.status import (
     ACCEPTED, LOST, NOT_JUDGED, REFUSED, RELATIVE, WAIVED, WARNED)
 from subtitles.judging.transmissions import ExpectedPages
@@ -53,8 +53,8 @@ class ActualCues(Case):
                 ("up to the end", None, [(100, item)], (100, None))):
             subtitles = [Subtitle(1, 1, 100, 200, 20, 2, b""), Subtitle(2, 2, 200, 300, 20, 2, b"")]
             decoded = make_timeline_of_pages(*changes)
-            decoded_times = find_decoded_times(Cue(subtitles[0], item, cause), 0,
-                                               ExpectedPages(subtitles, [item, two]), decoded, 0)
+            decoded_times = add_decoded_page(Cue(subtitles[0], item, cause), 0,
+                                             ExpectedPages(subtitles, [item, two]), decoded, 0)
             self.must(name, (decoded_times.begin, decoded_times.end) == expected,
                       (decoded_times.begin, decoded_times.end))
             self.must(f"{name}: late", decoded_times.delay_in == (
@@ -64,7 +64,7 @@ class ActualCues(Case):
         subtitles = [Subtitle(1, 1, 100, 200, 20, 2, b""), Subtitle(2, 2, 200, 300, 20, 2, b"")]
         decoded = make_timeline_of_pages((100, self.ONE), (300, BLANK_PAGE))
         due = ExpectedPages(subtitles, [self.ONE, self.ONE])
-        result = [find_decoded_times(Cue(item, self.ONE, None), place, due, decoded, 0)
+        result = [add_decoded_page(Cue(item, self.ONE, None), place, due, decoded, 0)
                   for place, item in enumerate(subtitles)]
         self.must("times",
                   [(item.begin, item.end) for item in result] == [(100, 200), (200, 300)], result)

@@ -7,7 +7,7 @@ from typing import Any
 
 from subtitles.formats.teletext import ENGLISH
 from subtitles.report.pictures import (
-    CellStyle, BLANK_PAGE_ROWS, find_differences, draw_row, draw_frames, is_boxed, draw_picture,
+    CellStyle, BLANK_PAGE_ROWS, find_differences, draw_row, draw_outlines, is_boxed, draw_picture,
     find_used_rows, style_row)
 from subtitles.stream.receiver import BLANK_PAGE, HIT, OLD, Rows
 from .parts import markup_text
@@ -108,11 +108,11 @@ class Drawings(unittest.TestCase):
             ([(5, 1), (6, 1)], [], 1), ([(5, 1), (7, 1)], [], 2), ([(5, 1), (7, 1)], [5], 1),
             ([(5, 1), (6, 1), (6, 2)], [], 2)]
         for cells, tall, count in rows:
-            drawn = markup_text(draw_frames(cells, set(tall)))
+            drawn = markup_text(draw_outlines(cells, set(tall)))
             self.assertEqual(drawn.count('class="d1"'), count, cells)
             self.assertEqual(drawn.count('class="d2"'), count, cells)
         self.assertIn('x="12" y="60" width="12" height="30"',
-                      markup_text(draw_frames([(6, 1), (5, 1)], set())))
+                      markup_text(draw_outlines([(6, 1), (5, 1)], set())))
 
     def test_shows_the_used_rows_and_one_more_on_each_side(self) -> None:
         for pages, expected in (

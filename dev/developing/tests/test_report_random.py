@@ -85,8 +85,9 @@ class RandomPair:
             # `schedule` writes no PES packets for an empty subtitle file.
             pes = split_complete_packets(file.read() or read_example_file("hello.pes"))
         kinds: list[Callable[[list[bytes], int], None]] = [
-            self.remove_packets, self.stop_reading, self.move_packet, self.damage_bytes,
-            self.swap_packets, self.delay_packets, self.cut, self.change_packet_page]
+            self.remove_packets, self.make_packets_undecodable, self.shift_packet_pts,
+            self.damage_bytes,
+            self.swap_packets, self.delay_packets, self.cut, self.overwrite_first_row]
         for kind in self.chance.choices(kinds, (3, 4, 2, 8, 1, 3, 1, 2),
                                         k=self.chance.choice((0, 1, 2, 3, 5))):
             kind(pes, self.chance.randrange(max(1, len(pes))))
@@ -95,13 +96,13 @@ class RandomPair:
     def remove_packets(self, pes: list[bytes], at: int) -> None:
         del pes[at:at + self.chance.choice((1, 1, 3))]
 
-    def stop_reading(self, pes: list[bytes], at: int) -> None:
+    def make_packets_undecodable(self, pes: list[bytes], at: int) -> None:
         """Damage up to two consecutive PES packets so that they cannot be decoded."""
         byte = self.chance.choice((6, 7, 8, 45, 47, 48))
         for number in range(at, min(at + self.chance.choice((1, 1, 2)), len(pes))):
             pes[number] = pes[number][:byte] + b"\5" + pes[number][byte + 1:]
 
-    def move_packet(self, pes: list[bytes], at: int) -> None:
+    def shift_packet_pts(self, pes: list[bytes], at: int) -> None:
         self.shift(pes, at, self.chance.choice((-90, 5, 1800, TICKS)), 1)
 
     def delay_packets(self, pes: list[bytes], at: int) -> None:
@@ -123,7 +124,7 @@ class RandomPair:
             data[byte % len(data)] ^= self.chance.choice((2, 3, 8, 0x80, 0x82))
             pes[at] = bytes(data)
 
-    def change_packet_page(self, pes: list[bytes], at: int) -> None:
+    def overwrite_first_row(self, pes: list[bytes], at: int) -> None:
         """Replace the first row in a PES packet with another row of the page."""
         if pes:
             sent = make_packet(self.page[0], self.chance.choice((1, 2, 24)), (),

@@ -21,7 +21,7 @@ from subtitles.judging.verdict import Unjudged
 from subtitles.request.commands import CommandPaths
 from subtitles.request.lines import BatchItem
 from subtitles.results import files
-from subtitles.results.files import read_result, write_result, make_table_lines, make_unjudged
+from subtitles.results.files import read_result, make_result_chunks, make_table_lines, make_unjudged
 from subtitles.results.schema import (
     FAULT as ROWS_OF_FAULT, FORMAT, LISTS, VERDICT, find_misfit, schema)
 from ..pages import SCHEMA, format_json
@@ -151,7 +151,7 @@ class WrittenResults(Case):
         result = judge_files(self, self.write("story.stl", read_example_file("story.stl")))
         program = ProgramInfo("1", "0" * 64, None)
         result.verdict.unjudged = Unjudged("why")
-        known = json.loads("".join(write_result(result.verdict, program)))
+        known = json.loads("".join(make_result_chunks(result.verdict, program)))
         self.must("not judged", known["verdict"] == "not judged" and find_misfit(known) is None)
 
 

@@ -7,7 +7,7 @@ from typing import Callable
 
 from .bench import BENCH, Case
 from .failures import Mismatch
-from .snapshots import FOLDER, compare, summary, read_snapshot, changes_in
+from .snapshots import FOLDER, compare, summary, run_for_snapshot, changes_in
 
 
 class Snapshots(Case):
@@ -16,7 +16,7 @@ class Snapshots(Case):
 
 def make_test(group: str) -> Callable[[Snapshots], None]:
     def test(_: Snapshots) -> None:
-        failure = compare(group, read_snapshot, BENCH.is_updated)
+        failure = compare(group, run_for_snapshot, BENCH.is_updated)
         if failure:
             raise Mismatch(failure)
 

@@ -9,7 +9,7 @@ from developing.pes import make_pes_packet
 from subtitles.common.times import CLOCK, TICKS
 from subtitles.stream.pace import (
     BY_EVERY, IRREGULAR, MAX_EXCEPTIONS, PAUSED, Pauses, REGULAR, Silence, TOO_FEW, compute_pace,
-    count_ts_packets, find_hidden_loss, find_pauses, find_silences, find_usual_distance,
+    estimate_packets_per_pes, find_hidden_loss, find_pauses, find_silences, find_usual_distance,
     list_frame_rows)
 from subtitles.stream.repeats import list_cue_frames
 from subtitles.stream.packets import PacketRun, Packets
@@ -60,96 +60,99 @@ def repeat_steps(steps: Sequence[int], times: int) -> list[int]:
     return result
 
 
-def measure_regular_pace(name: str, *rows: Sequence[int], frames: int = 2, each: int = 1,
-                         every: int = 250, pauses: Pauses = (), closer: int = 0) -> Row:
+def make_regular_pace_row(name: str, *rows: Sequence[int], frames: int = 2, each: int = 1,
+                          every: int = 250, pauses: Pauses = (), closer: int = 0) -> Row:
     """Return a test case for a stream. `frames` is the expected maximum interval."""
     return Row(name, rows, REGULAR, frames, each, every, pauses, closer)
 
 
-def measure_pes_pace(name: str, *rows: Sequence[int], frames: int = 1, every: int = 250,
-                     pauses: Pauses = (), closer: int = 0) -> Row:
+def make_pes_pace_row(name: str, *rows: Sequence[int], frames: int = 1, every: int = 250,
+                      pauses: Pauses = (), closer: int = 0) -> Row:
     return Row(name, rows, REGULAR, frames, 1, every, pauses, closer, False)
 
 
 TABLE = [
     Row("none", [], TOO_FEW), Row("an empty one", [[]], TOO_FEW), Row("one", [[7]], TOO_FEW),
-    Row("one too few", [range(100)], TOO_FEW), measure_regular_pace("just enough", range(101)),
-    measure_regular_pace("a row for each mark", *[range(50 * at, 50 * at + 40) for at in range(9)]),
+    Row("one too few", [range(100)], TOO_FEW), make_regular_pace_row("just enough", range(101)),
+    make_regular_pace_row("a row for each mark",
+                          *[range(50 * at, 50 * at + 40) for at in range(9)]),
     Row("rows of three", [range(50 * at, 50 * at + 3) for at in range(99)], TOO_FEW),
     Row("few, up to the bound", [range(0, 990, 10)], TOO_FEW, every=30),
     Row("few, over the bound", [range(0, 990, 10)], BY_EVERY, every=29),
     Row("few, one far", [[0, 1, 2, 3, 999]], TOO_FEW),
     Row("three", [[0, 300, 600]], TOO_FEW), Row("four", [[0, 100, 200, 300]], BY_EVERY),
     # Streams with PES packets of one to nine TS packets.
-    *(measure_regular_pace(f"{each} TS packets", FOUR_HUNDRED_FRAMES, each=each)
+    *(make_regular_pace_row(f"{each} TS packets", FOUR_HUNDRED_FRAMES, each=each)
       for each in range(1, 10)),
     # Streams with longer intervals, up to and over the limit.
-    measure_regular_pace("each fifth frame", repeat_steps([5], 200), frames=14),
-    measure_regular_pace("once a second", repeat_steps([25], 200), frames=74, each=2),
-    measure_regular_pace("up to the bound", repeat_steps([25], 200), frames=74, every=75),
+    make_regular_pace_row("each fifth frame", repeat_steps([5], 200), frames=14),
+    make_regular_pace_row("once a second", repeat_steps([25], 200), frames=74, each=2),
+    make_regular_pace_row("up to the bound", repeat_steps([25], 200), frames=74, every=75),
     Row("over the bound", [repeat_steps([25], 200)], BY_EVERY, every=74),
-    measure_regular_pace("over the bound nearly everywhere",
-                         repeat_steps([*[25] * 300, 1, 1, 1], 1), frames=74, every=74, closer=3),
-    measure_regular_pace("four in three frames", repeat_steps([1, 1, 0, 1], 100), frames=1),
+    make_regular_pace_row("over the bound nearly everywhere",
+                          repeat_steps([*[25] * 300, 1, 1, 1], 1), frames=74, every=74, closer=3),
+    make_regular_pace_row("four in three frames", repeat_steps([1, 1, 0, 1], 100), frames=1),
     # Streams with two or more PES packets in some frames.
-    measure_regular_pace("two in a frame", repeat_steps([0, 1], 200), closer=398),
-    measure_regular_pace("three in two frames", repeat_steps([0, 1, 1, 0, 1], 200), closer=998),
-    measure_regular_pace("all in one frame", [5] * 400, closer=397),
-    *(measure_regular_pace(f"two in a frame, {count} frames without", list_frames_without(count),
-                           closer=closer)
+    make_regular_pace_row("two in a frame", repeat_steps([0, 1], 200), closer=398),
+    make_regular_pace_row("three in two frames", repeat_steps([0, 1, 1, 0, 1], 200), closer=998),
+    make_regular_pace_row("all in one frame", [5] * 400, closer=397),
+    *(make_regular_pace_row(f"two in a frame, {count} frames without", list_frames_without(count),
+                            closer=closer)
       for count, closer in ((1, 793), (3, 788), (8, 778), (24, 746))),
-    measure_regular_pace("one frame of 200 without", repeat_steps([*[0, 1] * 198, 0, 2], 5),
-                         closer=1979),
-    measure_regular_pace("one frame of 10 without", repeat_steps([*[0, 1] * 8, 0, 2], 50), frames=3,
-                         closer=898),
+    make_regular_pace_row("one frame of 200 without", repeat_steps([*[0, 1] * 198, 0, 2], 5),
+                          closer=1979),
+    make_regular_pace_row("one frame of 10 without", repeat_steps([*[0, 1] * 8, 0, 2], 50),
+                          frames=3,
+                          closer=898),
     Row("one frame of 40 without", [repeat_steps([*[0, 1] * 38, 0, 2], 25)], IRREGULAR),
     # Streams with jitter, with changes between repetitions, or with bursts.
-    measure_regular_pace("jitter", repeat_steps([1, 1, 2, 1, 1], 100)),
-    measure_regular_pace("more jitter", repeat_steps([1, 1, 2, 0, 1], 100), frames=3, closer=398),
-    measure_regular_pace("a frame of three", repeat_steps([1, 1, 3, 1, 0], 100), frames=4, each=9,
-                         closer=298),
-    measure_regular_pace("changes between", repeat_steps([25, 25, 7, 25, 25, 25, 12], 50),
-                         frames=56, each=2),
+    make_regular_pace_row("jitter", repeat_steps([1, 1, 2, 1, 1], 100)),
+    make_regular_pace_row("more jitter", repeat_steps([1, 1, 2, 0, 1], 100), frames=3, closer=398),
+    make_regular_pace_row("a frame of three", repeat_steps([1, 1, 3, 1, 0], 100), frames=4, each=9,
+                          closer=298),
+    make_regular_pace_row("changes between", repeat_steps([25, 25, 7, 25, 25, 25, 12], 50),
+                          frames=56, each=2),
     Row("bursts", [repeat_steps([1] * 20 + [100], 50)], IRREGULAR),
-    measure_regular_pace("bursts of two TS packets", repeat_steps([1] * 10 + [60], 50),
-                         frames=61, each=2, closer=400),
+    make_regular_pace_row("bursts of two TS packets", repeat_steps([1] * 10 + [60], 50),
+                          frames=61, each=2, closer=400),
     # Streams with few bursts, which are ignored.
-    measure_regular_pace("few bursts", repeat_steps([*[25] * 300, 1, 1, 1], 1), frames=74, each=2,
-                         closer=3),
-    measure_regular_pace("one burst of two", repeat_steps([*[25] * 300, 1, 1, *[25] * 100], 1),
-                         frames=26),
-    measure_regular_pace("one of five", repeat_steps([*[25] * 100, *[1] * 5, *[25] * 100], 1),
-                         frames=26, closer=3),
-    measure_regular_pace("one of six", repeat_steps([*[25] * 100, *[1] * 6, *[25] * 100], 1),
-                         frames=26, closer=4),
+    make_regular_pace_row("few bursts", repeat_steps([*[25] * 300, 1, 1, 1], 1), frames=74, each=2,
+                          closer=3),
+    make_regular_pace_row("one burst of two", repeat_steps([*[25] * 300, 1, 1, *[25] * 100], 1),
+                          frames=26),
+    make_regular_pace_row("one of five", repeat_steps([*[25] * 100, *[1] * 5, *[25] * 100], 1),
+                          frames=26, closer=3),
+    make_regular_pace_row("one of six", repeat_steps([*[25] * 100, *[1] * 6, *[25] * 100], 1),
+                          frames=26, closer=4),
     # Streams with few losses at different places, up to the allowed number.
-    *(measure_regular_pace(f"a hole of {count} behind {first}", remove_frames(LONG, (first, count)))
+    *(make_regular_pace_row(f"a hole of {count} behind {first}",
+                            remove_frames(LONG, (first, count)))
       for first in (0, 2500, 4700) for count in (1, 15, 16, 17, 32, 160, 249)),
-    measure_regular_pace("a hole just before the end", remove_frames(LONG, (4990, 5))),
-    measure_regular_pace("three of 400",
-                         remove_frames(FOUR_HUNDRED_FRAMES, (50, 20), (150, 20), (250, 20))),
+    make_regular_pace_row("a hole just before the end", remove_frames(LONG, (4990, 5))),
+    make_regular_pace_row("three of 400",
+                          remove_frames(FOUR_HUNDRED_FRAMES, (50, 20), (150, 20), (250, 20))),
     Row("four of 400",
         [remove_frames(FOUR_HUNDRED_FRAMES, (50, 20), (150, 20), (250, 20), (300, 20))], IRREGULAR),
-    measure_regular_pace("five of 6000",
-                         remove_frames(range(6000), *((1000 * at, 20) for at in range(5)))),
+    make_regular_pace_row("five of 6000",
+                          remove_frames(range(6000), *((1000 * at, 20) for at in range(5)))),
     Row("six of 6000", [remove_frames(range(6000), *((900 * at, 20) for at in range(6)))],
         IRREGULAR),
-    measure_regular_pace("as many as a pace allows",
-                         remove_frames(FOUR_HUNDRED_FRAMES, *((9 * at, 1) for at in range(40)))),
+    make_regular_pace_row("as many as a pace allows",
+                          remove_frames(FOUR_HUNDRED_FRAMES, *((9 * at, 1) for at in range(40)))),
     # Pauses of the programme in which no PES packet is sent.
     *(Row(f"a pause to {end}", [remove_frames(LONG, (999, 100))], PAUSED, pauses=[(999, end)])
       for end in (1095, 1100, 1105)),
-    *(measure_regular_pace(f"no pause to {end}", remove_frames(LONG, (999, 100)),
-                           pauses=[(999, end)])
+    *(make_regular_pace_row(f"no pause to {end}", remove_frames(LONG, (999, 100)),
+                            pauses=[(999, end)])
       for end in (1094, 1106)),
-    measure_regular_pace("a pause that began later", remove_frames(LONG, (999, 100)),
-                         pauses=[(1000, 1100)]),
+    make_regular_pace_row("a pause that began later", remove_frames(LONG, (999, 100)),
+                          pauses=[(1000, 1100)]),
     Row("a pause in the second row", [range(500), remove_frames(LONG, (999, 100))], PAUSED,
         pauses=[(999, 1100)]),
     Row("behind the last", [remove_frames(LONG, (999, 100))], PAUSED,
         pauses=[(0, 500), (999, None)]),
-    measure_regular_pace("before its end", remove_frames(LONG, (999, 100)),
-                         pauses=[(0, 500), (1000, None)]),
+    make_regular_pace_row("before its end", remove_frames(LONG, (999, 100)),
+                          pauses=[(0, 500), (1000, None)]),
     Row("before the first", [remove_frames(LONG, (999, 100))], PAUSED,
         pauses=[(None, 1095), (1500, 1600)]),
     Row("long before it", [remove_frames(LONG, (999, 100))], PAUSED, pauses=[(None, 3000)]),
@@ -159,55 +162,56 @@ TABLE = [
     Row("three by three", [[*range(2500), *(2600 + 100 * at + one for at in range(3)
                                             for one in range(3))]], PAUSED),
     Row("two, sixteen steps between", [remove_frames(LONG, (999, 100), (1115, 100))], PAUSED),
-    measure_regular_pace("two, seventeen steps between",
-                         remove_frames(LONG, (999, 100), (1116, 100))),
+    make_regular_pace_row("two, seventeen steps between",
+                          remove_frames(LONG, (999, 100), (1116, 100))),
     *(Row(f"two, {steps - less} steps of {each} TS packets between",
           [make_two_silences(steps - less)], PAUSED if less else REGULAR, None if less else 2, each)
       for each, steps in enumerate((17, 9, 6, 5, 4, 3, 3, 3, 3), 1) for less in (0, 1)),
     # Streams without PES packets in most pauses of the programme, or only in some of them.
-    measure_regular_pace("in one pause of two that are as long", remove_frames(LONG, (999, 100)),
-                         pauses=[(999, 1100), (2999, 3100)]),
+    make_regular_pace_row("in one pause of two that are as long", remove_frames(LONG, (999, 100)),
+                          pauses=[(999, 1100), (2999, 3100)]),
     Row("in both", [remove_frames(LONG, (999, 100), (2999, 100))], PAUSED,
         pauses=[(999, 1100), (2999, 3100)]),
     Row("in the longest", [remove_frames(LONG, (999, 100))], PAUSED,
         pauses=[(999, 1100), (2999, 3099)]),
     Row("in two of three", [remove_frames(LONG, (999, 100), (2999, 50))], PAUSED,
         pauses=[(999, 1100), (2900, 3050), (3999, 4120)]),
-    measure_regular_pace("in two of four", remove_frames(LONG, (999, 100), (2999, 50)),
-                         pauses=[(999, 1100), (2900, 3050), (3999, 4120), (4500, 4700)]),
-    measure_regular_pace("one of two", remove_frames(LONG, (999, 100), (2999, 100)),
-                         pauses=[(999, 1100)]),
+    make_regular_pace_row("in two of four", remove_frames(LONG, (999, 100), (2999, 50)),
+                          pauses=[(999, 1100), (2900, 3050), (3999, 4120), (4500, 4700)]),
+    make_regular_pace_row("one of two", remove_frames(LONG, (999, 100), (2999, 100)),
+                          pauses=[(999, 1100)]),
     Row("two of three", [remove_frames(LONG, (999, 100), (1999, 100), (2999, 100))], PAUSED,
         pauses=[(999, 1100), (2999, 3100)]),
     # With a larger `every`, intervals of more than 250 and at most `every` frames are pauses.
-    measure_regular_pace("300 frames by the usual bound", remove_frames(LONG, (999, 299))),
+    make_regular_pace_row("300 frames by the usual bound", remove_frames(LONG, (999, 299))),
     *(Row(f"{count + 1} frames of {every}", [remove_frames(LONG, (999, count))], PAUSED,
           every=every)
       for count, every in ((299, 300), (250, 1500), (1499, 1500), (1999, 9000))),
-    *(measure_regular_pace(f"{count + 1} frames of {every}, which are none",
-                           remove_frames(LONG, (999, count)), every=every)
+    *(make_regular_pace_row(f"{count + 1} frames of {every}, which are none",
+                            remove_frames(LONG, (999, count)), every=every)
       for count, every in ((300, 300), (249, 1500), (1500, 1500), (16, 9000))),
     # Files of PES packets.
-    measure_pes_pace("a file", FOUR_HUNDRED_FRAMES),
-    measure_pes_pace("a file, one missing", remove_frames(FOUR_HUNDRED_FRAMES, (50, 1))),
-    measure_pes_pace("three missing",
-                     remove_frames(FOUR_HUNDRED_FRAMES, (50, 1), (150, 1), (250, 1))),
-    measure_pes_pace("four missing", remove_frames(FOUR_HUNDRED_FRAMES, (50, 1), (150, 1), (250, 1),
-                                                   (300, 1)), frames=2,
-                     closer=386),
-    measure_pes_pace("a file, each fifth frame", repeat_steps([5], 200), frames=5),
-    measure_pes_pace("a file, up to the bound", repeat_steps([25], 200), frames=25, every=26),
+    make_pes_pace_row("a file", FOUR_HUNDRED_FRAMES),
+    make_pes_pace_row("a file, one missing", remove_frames(FOUR_HUNDRED_FRAMES, (50, 1))),
+    make_pes_pace_row("three missing",
+                      remove_frames(FOUR_HUNDRED_FRAMES, (50, 1), (150, 1), (250, 1))),
+    make_pes_pace_row("four missing",
+                      remove_frames(FOUR_HUNDRED_FRAMES, (50, 1), (150, 1), (250, 1),
+                                    (300, 1)), frames=2,
+                      closer=386),
+    make_pes_pace_row("a file, each fifth frame", repeat_steps([5], 200), frames=5),
+    make_pes_pace_row("a file, up to the bound", repeat_steps([25], 200), frames=25, every=26),
     Row("a file, over the bound", [repeat_steps([25], 200)], BY_EVERY, every=25, is_stream=False),
-    measure_pes_pace("a file, over the bound but for some", repeat_steps([10, 15, 25], 70),
-                     frames=25, every=25, closer=70),
+    make_pes_pace_row("a file, over the bound but for some", repeat_steps([10, 15, 25], 70),
+                      frames=25, every=25, closer=70),
     Row("a file, all over the bound", [repeat_steps([10, 16, 25], 70)], BY_EVERY, every=25,
         is_stream=False),
-    measure_pes_pace("a file with changes", repeat_steps([25, 25, 12, 25], 60), frames=25),
-    measure_pes_pace("a file with a change", repeat_steps([*[25] * 99, 12, 13, *[25] * 99], 1),
-                     frames=25, closer=1),
+    make_pes_pace_row("a file with changes", repeat_steps([25, 25, 12, 25], 60), frames=25),
+    make_pes_pace_row("a file with a change", repeat_steps([*[25] * 99, 12, 13, *[25] * 99], 1),
+                      frames=25, closer=1),
     Row("a file, two in a frame", [[at // 2 for at in range(600)]], REGULAR, 1, closer=598,
         is_stream=False),
-    measure_pes_pace("a file, all in one frame", [5] * 400, frames=2, closer=398),
+    make_pes_pace_row("a file, all in one frame", [5] * 400, frames=2, closer=398),
     Row("a file with a pause", [remove_frames(LONG, (999, 100))], PAUSED, pauses=[(999, 1100)],
         is_stream=False),
     Row("a file, too few", [range(100)], TOO_FEW, is_stream=False),
@@ -285,10 +289,11 @@ class PaceDecisions(Case):
             packets = Packets(5, [PacketRun(0, 99, 0, TICKS, "-", "", 3 * (units > 3)),
                                   PacketRun(99, 1, 0, 0, "-", "", units)], packets=total)
             self.must(f"{total} {size} {units}",
-                      count_ts_packets(packets, (0, 99), size) == expected)
-            self.must("without the last", count_ts_packets(packets, (0, 98), size) <= max(
+                      estimate_packets_per_pes(packets, (0, 99), size) == expected)
+            self.must("without the last", estimate_packets_per_pes(packets, (0, 98), size) <= max(
                 1, round((total if size is None else size // 184) / 100)))
-        self.must("no PES packet", count_ts_packets(Packets(5, packets=3), (0, 0), None) == 1)
+        self.must("no PES packet", estimate_packets_per_pes(Packets(5, packets=3), (0, 0), None)
+                  == 1)
 
     def test_finds_silences_between_frames(self) -> None:
         for apart, steps in itertools.product(itertools.product((1, 4, 5, 6), repeat=5), (1, 2, 4)):

@@ -120,8 +120,8 @@ class PictureDepartures(Case):
 
 # Tables of jumps that are reported as faults or as notes.
 
-def survey_leads(steps: Sequence[tuple[float, int]], origin: int = 0, video: int = VIDEO,
-                 jitter: int = 0) -> list[str]:
+def make_lead_survey_lines(steps: Sequence[tuple[float, int]], origin: int = 0, video: int = VIDEO,
+                           jitter: int = 0) -> list[str]:
     """Return `lead` lines for the frames 500 to 2500.
 
     `steps` contains clock jumps: the size of each jump in frames, and the frame at which it occurs.
@@ -145,7 +145,8 @@ def survey_extra_lines(lines: Sequence[str] = ()) -> Survey:
     for line in [f"programme 1 {VIDEO}", f"stream {PID} 6", f"programme 2 {others}",
                  f"stream {others} 2", f"programme 1 {VIDEO}", f"stream {PID} 6",
                  *(f"stream {video} 2" for video in (quiet, VIDEO)),
-                 *survey_leads([], video=quiet), *lines, *survey_leads([(9, 1500)], video=others)]:
+                 *make_lead_survey_lines([], video=quiet), *lines,
+                 *make_lead_survey_lines([(9, 1500)], video=others)]:
         survey.read_line(line)
     return survey
 
@@ -155,7 +156,8 @@ class DepartureFaults(Case):
                               source: str = GIVEN,
               origin: int = 0) -> tuple[list[tuple[str | None, str | None, str]], list[str]]:
         """Return the start, end and direction of each fault, and all notes."""
-        faults, notes = find_desync(survey_extra_lines(survey_leads(steps, origin)), PID, TimedPart(
+        faults, notes = find_desync(survey_extra_lines(make_lead_survey_lines(steps, origin)), PID,
+                                    TimedPart(
             1000, 2000, Clock(origin, source)), within, 1)
         self.check("kinds",
                    {(fault.name, fault.part) for fault in faults} - {(PICTURES_LEFT, 1)}, set())
@@ -208,7 +210,7 @@ class DepartureFaults(Case):
     def test_notes_a_missing_usual_step(self) -> None:
         chance = random.Random(1)
         steps = [(chance.randrange(-9, 9), frame) for frame in range(500, 2500, SECOND)]
-        lines = [line for line in survey_leads([(by + 0.5, at) for by, at in steps])]
+        lines = [line for line in make_lead_survey_lines([(by + 0.5, at) for by, at in steps])]
         for name, survey, expected in (
                 ("at random", survey_extra_lines(lines),
                  [f"{NOT_CHECKED}: the video's decoding times have no usual step"]),

@@ -211,7 +211,8 @@ class PaceOptions(Case):
         for word, pace in (("none", None), ("1", 1), ("0025", 25), ("2160000", 2160000)):
             request = make_example_request("one.stl", "one.ts", "--pace", word)
             given = ["--pace", str(pace)] if pace else []
-            self.must(word, request.check_arguments() == ["--complete", *given] and request.pace ==
+            self.must(word, request.list_check_arguments() == ["--complete", *given]
+                      and request.pace ==
                       pace
                       and make_request(self.options(*list_call_arguments(request))) == request)
             self.must(f"{word}: result", REQUEST.to_json(request)["pace"] == str(pace or "none"))

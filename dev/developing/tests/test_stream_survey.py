@@ -322,7 +322,7 @@ class TableLines(Case):
                 "programme 1 8191", "stream 257 6", "announce 257 888 656e67 2", "teletext 257"])
 
     def test_ignores_tables_that_are_not_in_force(self) -> None:
-        def send_pmt_early(data: bytes) -> bytes:
+        def mark_table_as_not_current(data: bytes) -> bytes:
             body = data[1:6] + bytes([data[6] & 0xFE]) + data[7:-4]
             return b"\0" + body + compute_crc(body).to_bytes(4, "big")
 
@@ -331,11 +331,11 @@ class TableLines(Case):
         programme = ["programme 1 8191", "stream 257 6", "announce 257 888 656e67 2",
                      "teletext 257"]
         rows: dict[str, tuple[list[bytes], list[str]]] = {
-            "PMT": ([pat, send_pmt_early(table)], []),
-            "PMT, then in force": ([pat, send_pmt_early(table), table], programme),
-            "PMT between": ([pat, table, send_pmt_early(table), table], programme),
-            "PAT": ([send_pmt_early(pat), table], []),
-            "PAT, then in force": ([send_pmt_early(pat), pat, table], programme)}
+            "PMT": ([pat, mark_table_as_not_current(table)], []),
+            "PMT, then in force": ([pat, mark_table_as_not_current(table), table], programme),
+            "PMT between": ([pat, table, mark_table_as_not_current(table), table], programme),
+            "PAT": ([mark_table_as_not_current(pat), table], []),
+            "PAT, then in force": ([mark_table_as_not_current(pat), pat, table], programme)}
         for name, (several, wanted) in rows.items():
             maker = StreamMaker([])
             for data in several:
@@ -497,7 +497,7 @@ class ClockLines(Case):
                 self.must(f"{usual} {since}", lines == expected[:since <= most], lines)
 
 
-def list_pes_lines(several: Iterable[bytes]) -> bytes:
+def make_teletext_recording(several: Iterable[bytes]) -> bytes:
     maker = StreamMaker(make_components())
     maker.put_tables()
     for item in several:
@@ -509,7 +509,7 @@ def make_pes_packets_with(*several: Sequence[bytes]) -> list[bytes]:
     return [make_pes_packet(FIRST_PTS + TICKS * frame, some) for frame, some in enumerate(several)]
 
 
-def insert_third_packets(place: int, *new: int) -> list[bytes]:
+def make_packets_changing_third(place: int, *new: int) -> list[bytes]:
     """Return five PES packets. In the third, the bytes from offset `place` on are `new`."""
     result = make_frame_headers(5)
     result[2] = result[2][:place] + bytes(new) + result[2][place + len(new):]
@@ -534,17 +534,17 @@ class PesLines(Case):
             ("UNITS", make_pes_packets_with([CLOSING], [CLOSING] * 2, [CLOSING] * 2, [CLOSING]), [
                 f"0 1 {FIRST_PTS} 0 b/ 1 0", f"1 2 {FIRST_PTS + TICKS} {TICKS} b/ 2 0",
                 f"3 1 {FIRST_PTS + 3 * TICKS} 0 b/ 1 0"]),
-            *((f"FAULT {fault}", insert_third_packets(place, byte), [
+            *((f"FAULT {fault}", make_packets_changing_third(place, byte), [
                 f"0 2 {FIRST_PTS} {TICKS} b/ 1 0", f"2 1 {FIRST_PTS + 2 * TICKS} 0 b/ 1 {fault}",
                 f"3 2 {FIRST_PTS + 3 * TICKS} {TICKS} b/ 1 0"]) for place, byte, fault in (
                     (6, 0x44, 33), (7, 0xC0, 34), (9, 0x31, 36), (45, 0x20, 37), (49, 0x27, 39))),
             ("STEP", [*make_frame_headers(3), *make_frame_headers(2, FIRST_PTS + 4 * TICKS)], [
                 f"0 3 {FIRST_PTS} {TICKS} b/ 1 0", f"3 2 {FIRST_PTS + 4 * TICKS} {TICKS} b/ 1 0"]),
-            ("no PTS", insert_third_packets(7, 0), [
+            ("no PTS", make_packets_changing_third(7, 0), [
                 f"0 2 {FIRST_PTS} {TICKS} b/ 1 0", "2 1 - 0 -/ 0 34",
                 f"3 2 {FIRST_PTS + 3 * TICKS} {TICKS} b/ 1 0"])]
         for name, pes, expected in rows:
-            lines = list_lines_of_kinds(self, list_pes_lines(pes), "pes")
+            lines = list_lines_of_kinds(self, make_teletext_recording(pes), "pes")
             self.must(name, lines == [f"pes {TELETEXT_PID} {item}" for item in expected], lines)
 
     def test_reads_teletext_headers_over_two_packets(self) -> None:
@@ -564,13 +564,13 @@ class PesLines(Case):
 
     def test_reports_faults_that_extract_refuses(self) -> None:
         length = (184).to_bytes(2, "big"), (10 * 184 - 6).to_bytes(2, "big")
-        for pes, refusal in ((make_frame_headers(5), 0), (insert_third_packets(3, 0xBE), 31),
-                             (insert_third_packets(0, 1), 31),
-                             (insert_third_packets(4, *length[0]), 32),
-                             (insert_third_packets(4, *length[1]), 32),
-                             (insert_third_packets(4, 0, 0), 32),
-                             (insert_third_packets(45, 0x20), 0)):
-            lines = list_lines_of_kinds(self, list_pes_lines(pes), "pes", "end")
+        for pes, refusal in ((make_frame_headers(5), 0), (make_packets_changing_third(3, 0xBE), 31),
+                             (make_packets_changing_third(0, 1), 31),
+                             (make_packets_changing_third(4, *length[0]), 32),
+                             (make_packets_changing_third(4, *length[1]), 32),
+                             (make_packets_changing_third(4, 0, 0), 32),
+                             (make_packets_changing_third(45, 0x20), 0)):
+            lines = list_lines_of_kinds(self, make_teletext_recording(pes), "pes", "end")
             count, last = (2, 1) if refusal else (5, 0)
             self.must(f"{refusal}", lines[-1] == f"end {TELETEXT_PID} {count} 0 5 0 {refusal} "
                       f"{last} {FIRST_PTS + 4 * TICKS}", lines)
@@ -605,7 +605,7 @@ class PesLines(Case):
 
     def test_reads_more_than_is_buffered(self) -> None:
         pes = make_frame_headers(1500)
-        data, last = list_pes_lines(pes), FIRST_PTS + 1499 * TICKS
+        data, last = make_teletext_recording(pes), FIRST_PTS + 1499 * TICKS
         run = f"0 1500 {FIRST_PTS} {TICKS} b/ 1 0"
         for size in (188, 192, 204):
             result = change_packet_size(data, size)
@@ -630,8 +630,8 @@ FRAMES = make_frame_headers(3)
 GAP_MARKER = b"\0\0\1\xbd\0\xb2" + b"\xff" * 178
 
 
-def replace_teletext(pes: Iterable[bytes], change: Callable[[list[bytes]], list[bytes]] = list
-                     ) -> bytes:
+def build_teletext(pes: Iterable[bytes], change: Callable[[list[bytes]], list[bytes]] = list
+                   ) -> bytes:
     """Return a stream with tables and PES packets of Teletext. `change` changes its TS packets."""
     maker = StreamMaker(make_components())
     maker.put_tables()
@@ -679,78 +679,78 @@ class Listings(Case):
         decoded = "0b0b4869" + "20" * 36
         begun = f"pes 257 0 1 {FIRST_PTS} 0 heob/88080810 1 0"
         rows: dict[str, tuple[bytes, str]] = {
-            "rows": (replace_teletext(make_pes_packets_with([HEADER, make_numbered_row(20, b"Hi")],
-                                                            [CLOSING], [HEADER])),
+            "rows": (build_teletext(make_pes_packets_with([HEADER, make_numbered_row(20, b"Hi")],
+                                                          [CLOSING], [HEADER])),
                      f"sub 257 888; pes 257 0 1 {FIRST_PTS} 0 heo/88080810 2 0; "
                      f"rows 257 0 20:{decoded}; "
                      f"pes 257 1 1 1003600 0 c/ 1 0; pes 257 2 1 1007200 0 heob/88080810 1 0; "
                      "rows 257 2 -; subs 257 888 2; end 257 3 0 3 0 0 0 1007200; over 0 5"),
-            "strays": (replace_teletext(make_pes_packets_with([HEADER, CLOSING,
-                                                               make_numbered_row(20, b"Hi")],
-                                                              [CLOSING])),
+            "strays": (build_teletext(make_pes_packets_with([HEADER, CLOSING,
+                                                             make_numbered_row(20, b"Hi")],
+                                                            [CLOSING])),
                        f"sub 257 888; pes 257 0 1 {FIRST_PTS} 0 hecbs/88080810 3 0; rows 257 0 -; "
                        f"strays 257 0 20:{decoded}; pes 257 1 1 1003600 0 b/ 1 0; subs 257 888 1; "
                        "end 257 2 0 2 0 0 0 1003600; over 0 4"),
             "data_unit_id 02": (
-                replace_teletext([replace_unit_ids(item, 2)
-                                  for item in make_pes_packets_with([HEADER])]),
-                                f"sub 257 888; {begun}; rows 257 0 -; subs 257 888 1; "
-                                "end 257 1 0 1 0 0 0 1000000; over 0 3"),
+                build_teletext([replace_unit_ids(item, 2)
+                                for item in make_pes_packets_with([HEADER])]),
+                f"sub 257 888; {begun}; rows 257 0 -; subs 257 888 1; "
+                "end 257 1 0 1 0 0 0 1000000; over 0 3"),
             "data_unit_id 04": (
-                replace_teletext([replace_unit_ids(item, 4)
-                                  for item in make_pes_packets_with([HEADER])]),
-                                "pes 257 0 1 1000000 0 b/ 0 0; end 257 1 0 1 0 0 0 1000000; "
-                                "over 0 3"),
-            "two pages": (replace_teletext(make_pes_packets_with([HEADER], [other], [HEADER])),
+                build_teletext([replace_unit_ids(item, 4)
+                                for item in make_pes_packets_with([HEADER])]),
+                "pes 257 0 1 1000000 0 b/ 0 0; end 257 1 0 1 0 0 0 1000000; "
+                "over 0 3"),
+            "two pages": (build_teletext(make_pes_packets_with([HEADER], [other], [HEADER])),
                           f"sub 257 888; {begun}; rows 257 0 -; sub 257 750; "
                           "pes 257 1 1 1003600 0 ob/ 1 0; pes 257 2 1 1007200 0 heob/88080810 1 0; "
                           "subs 257 888 2; subs 257 750 1; end 257 3 0 3 0 0 0 1007200; over 0 5"),
             "character sets": (
-                replace_teletext(make_pes_packets_with([HEADER,
-                                                        make_character_set_packet(28, 0x24)],
-                                                       [make_character_set_packet(29, 0x11, 4)],
-                                                       [make_character_set_packet(29, 0x11, 1)])),
+                build_teletext(make_pes_packets_with([HEADER,
+                                                      make_character_set_packet(28, 0x24)],
+                                                     [make_character_set_packet(29, 0x11, 4)],
+                                                     [make_character_set_packet(29, 0x11, 1)])),
                 "sub 257 888; set 257 28 0 4 4; pes 257 0 1 1000000 0 heob/88080810 2 0; "
                 "rows 257 0 -; set 257 29 4 2 1; pes 257 1 2 1003600 3600 ob/ 1 0; "
                 "subs 257 888 1; end 257 3 0 3 0 0 0 1007200; over 0 5"),
-            "a loss": (replace_teletext(make_frame_headers(3), remove_second_packet),
+            "a loss": (build_teletext(make_frame_headers(3), remove_second_packet),
                        "pes 257 0 1 1000000 0 b/ 1 0; gap 257 1 1 0; "
                        "pes 257 2 1 1007200 0 b/ 1 0; end 257 3 1 2 0 0 0 1007200; over 0 4"),
             "a loss behind a repeat": (
-                replace_teletext(make_frame_headers(3), repeat_first_for_second),
+                build_teletext(make_frame_headers(3), repeat_first_for_second),
                 "pes 257 0 1 1000000 0 b/ 1 0; gap 257 1 1 0; "
                 "pes 257 2 1 1007200 0 b/ 1 0; end 257 3 1 3 0 0 0 1007200; over 0 5"),
             "a gap marker": (
-                replace_teletext([FRAMES[0], GAP_MARKER, FRAMES[1]]),
+                build_teletext([FRAMES[0], GAP_MARKER, FRAMES[1]]),
                 "pes 257 0 1 1000000 0 b/ 1 0; gap 257 1 0 0; "
                 "pes 257 2 1 1003600 0 b/ 1 0; end 257 3 1 3 0 0 0 1003600; over 0 5"),
             "a loss before a gap marker": (
-                replace_teletext([FRAMES[0], FRAMES[1], GAP_MARKER, FRAMES[2]],
-                                 remove_second_packet),
+                build_teletext([FRAMES[0], FRAMES[1], GAP_MARKER, FRAMES[2]],
+                               remove_second_packet),
                 "pes 257 0 1 1000000 0 b/ 1 0; gap 257 1 1 0; gap 257 2 0 0; "
                 "pes 257 3 1 1007200 0 b/ 1 0; end 257 4 2 3 0 0 0 1007200; over 0 5"),
             "a loss after a gap marker": (
-                replace_teletext([FRAMES[0], GAP_MARKER, *FRAMES[1:3]],
-                                 lambda packets: [*packets[:2], *packets[3:]]),
+                build_teletext([FRAMES[0], GAP_MARKER, *FRAMES[1:3]],
+                               lambda packets: [*packets[:2], *packets[3:]]),
                 "pes 257 0 1 1000000 0 b/ 1 0; gap 257 1 0 0; gap 257 2 1 0; "
                 "pes 257 3 1 1007200 0 b/ 1 0; end 257 4 2 3 0 0 0 1007200; over 0 5"),
             "a scrambled packet": (
-                replace_teletext(make_frame_headers(3), scramble_second),
+                build_teletext(make_frame_headers(3), scramble_second),
                 "pes 257 0 1 1000000 0 b/ 1 0; gap 257 1 1 1; pes 257 2 1 1007200 0 b/ 1 0; "
                 "end 257 3 1 3 1 0 0 1007200; over 0 5"),
             "an announced jump": (
-                replace_teletext(make_frame_headers(3), announce_jump_in_second),
+                build_teletext(make_frame_headers(3), announce_jump_in_second),
                 "seam 257 1; pes 257 0 2 1000000 7200 b/ 1 0; end 257 2 0 3 0 0 0 1007200; "
                 "over 0 5"),
             "half the clock": (
-                replace_teletext([make_pes_packet(pts, [CLOSING])
-                                  for pts in (FIRST_PTS, FIRST_PTS + CLOCK //
-                                              2)]),
+                build_teletext([make_pes_packet(pts, [CLOSING])
+                                for pts in (FIRST_PTS, FIRST_PTS + CLOCK //
+                                            2)]),
                 f"pes 257 0 2 1000000 {-CLOCK // 2} b/ 1 0; "
                 f"end 257 2 0 2 0 0 0 {FIRST_PTS + CLOCK // 2}; over 0 4"),
             "a tick less": (
-                replace_teletext([make_pes_packet(pts, [CLOSING])
-                                  for pts in (FIRST_PTS, FIRST_PTS + CLOCK // 2 - 1)]),
+                build_teletext([make_pes_packet(pts, [CLOSING])
+                                for pts in (FIRST_PTS, FIRST_PTS + CLOCK // 2 - 1)]),
                 f"pes 257 0 2 1000000 {CLOCK // 2 - 1} b/ 1 0; "
                 f"end 257 2 0 2 0 0 0 {FIRST_PTS + CLOCK // 2 - 1}; over 0 4")}
         tables = ["size 188", "programme 1 512", "stream 512 2", "stream 257 6",

@@ -16,7 +16,7 @@ parse_hours = make_number_parser("hours", 1, 99_999)
 parse_megabytes = make_number_parser("megabytes", 0, 999_999_999)
 
 
-def record_parser() -> ToolParser:
+def make_record_parser() -> ToolParser:
     """Return the argument parser of the command `record`."""
     parser = ToolParser("Record a feed in segments that are named by time, and delete the oldest.")
     parser.add_argument("segments", metavar="SEGMENTS", help="write segments to this folder")
@@ -61,7 +61,7 @@ def main(text: str, words: list[str]) -> int:
     """Run a command line of tools/air. Return the exit status."""
     mode, *line = words or [""]
     if mode == "record":
-        args = record_parser().parse_args(line)
+        args = make_record_parser().parse_args(line)
         os.makedirs(args.segments, exist_ok=True)
         record(0, args.segments, Limits(args.length, 3600 * args.keep, 1_000_000 * args.free))
         return 0

@@ -143,7 +143,7 @@ def write_unjudged(name: str, paths: dict[str, str | None], reason: str) -> None
                 files.write_file(path, lambda: MAKE_CONTENTS[option](result))
 
 
-def make_testcase(result: dict[str, Any]) -> list[bytes]:
+def make_unjudged_junit_file(result: dict[str, Any]) -> list[bytes]:
     """Return the JUnit file, with its single test case, for a pair that was not judged."""
     case = files.TestCase(result["name"], result["verdict"], result["status"], result["reason"], [],
                           0.0)
@@ -153,7 +153,7 @@ def make_testcase(result: dict[str, Any]) -> list[bytes]:
 # Functions that make each kind of file from a result
 MAKE_CONTENTS: dict[str, Callable[[dict[str, Any]], Iterable[bytes]]] = {
     "--json": lambda result: [files.encode_result(result)],
-    "--csv": lambda result: files.make_table_lines([result]), "--junit": make_testcase}
+    "--csv": lambda result: files.make_table_lines([result]), "--junit": make_unjudged_junit_file}
 # First bytes of earlier output files. Other files are not replaced, since they may be inputs.
 FIRST_BYTES = {"--json": b"{", "--csv": b"stl,recording,", "--junit": b"<?xml version='1.0' "}
 

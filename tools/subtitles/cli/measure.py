@@ -22,7 +22,7 @@ from ..judging.pages import find_text_columns, format_cells
 from ..judging.pair import PairJudge
 from ..judging.part import Part
 from ..judging.status import Severity
-from ..judging.timing import PartSearch, cut_packets, measure_pace
+from ..judging.timing import PartSearch, find_subtitle_packets, measure_pace
 from ..judging.transmissions import describe_control_bits, keeps_page
 from ..judging.verdict import Verdict
 from ..recording.notices import NeverSent
@@ -51,7 +51,7 @@ class Finding(NamedTuple):
     text: str
     lines: Sequence[str]
 
-    def list_subtitles(self) -> Iterator[str]:
+    def list_profile_lines(self) -> Iterator[str]:
         """Yield the lines that this finding adds to a profile."""
         yield from (f"# {line}" for line in self.lines)
         if self.text:
@@ -536,7 +536,7 @@ def measure_pair(pair: PairJudge) -> MeasuredRecording:
 
 def add_part_packets(programme: PartSearch, part: Part) -> Part:
     """Return a part together with the PES packets of its frames."""
-    pes = cut_packets(programme, *part.judged_recording, programme.request.within).range
+    pes = find_subtitle_packets(programme, *part.judged_recording, programme.request.within).range
     if pes is None:
         raise Unclear("the recording does not contain the page at the time of the subtitles")
     return part.add_packets(pes)
@@ -598,7 +598,7 @@ def make_profile_lines(requests: Sequence[Request],
         propose_layout([sending for item in recordings for sending in item.sendings],
                        OPTION_BY_WORD[recordings[0].option])]
     for finding in findings:
-        yield from finding.list_subtitles()
+        yield from finding.list_profile_lines()
 
 
 def propose_pid(recordings: Sequence[MeasuredRecording]) -> Finding:

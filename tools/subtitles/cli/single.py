@@ -437,7 +437,7 @@ class OutputFiles:
         call, verdict, names = self.call, self.verdict, self.names
         outputs = [Output(call.csv,
                           lambda: results.make_subtitle_lines(verdict))] if call.csv else []
-        outputs += [Output(call.junit, self.make_testcase)] if call.junit else []
+        outputs += [Output(call.junit, self.make_pair_junit_file)] if call.junit else []
         outputs += self.list_raw_outputs(recording) if names.out else []
         if not call.json and not names.json_path:
             return outputs
@@ -448,7 +448,7 @@ class OutputFiles:
             return iter([make_report_page(verdict, self.command_paths).page()])
 
         def members() -> Iterator[bytes]:
-            return map(encode_text, results.write_result(verdict, program))
+            return map(encode_text, results.make_result_chunks(verdict, program))
 
         outputs += [Output(names.report_path, page, True)] if names.out else []
         outputs += [Output(call.json, members, is_json=True)] if call.json else []
@@ -466,7 +466,7 @@ class OutputFiles:
                                 is_raw=True))
         return lists
 
-    def make_testcase(self) -> Iterator[bytes]:
+    def make_pair_junit_file(self) -> Iterator[bytes]:
         """Yield the JUnit file, which has one test case for the pair."""
         verdict = self.verdict
         case = results.TestCase(make_pair_title(verdict.request), verdict.word, verdict.status,

@@ -164,7 +164,7 @@ def parse_break_count(text: str) -> int:
     return int(text)
 
 
-def parse_start(text: str) -> str:
+def validate_start_time(text: str) -> str:
     """Parse the time code of the first picture, or `tcp`. Return the text unchanged."""
     if text != TCP_WORD and parse_frame(text) is None:
         raise argparse.ArgumentTypeError(

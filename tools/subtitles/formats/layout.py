@@ -292,7 +292,7 @@ def split_raw_lines(text: bytes, option: NationalOption) -> list[bytes]:
     return [bytes(line) for line in lines]
 
 
-def remove_attributes(cells: bytes) -> bytes:
+def remove_blank_cells(cells: bytes) -> bytes:
     """Return the cells of a line, omitting spaces and attributes."""
     return bytes(cell for cell in cells if cell > SPACE)
 

@@ -17,7 +17,7 @@ from .check import CheckOutput
 from .pages import (
     describe_attribute_difference, describe_extra_rows, describe_move, format_page_text,
     is_partial_page, is_text_moved, join_page_text)
-from .transmissions import ExpectedPages, PageTransmissions, find_omitted_rows
+from .transmissions import ExpectedPages, PageTransmissions, name_omitted_rows
 
 
 # Each subtitle that has a wrong page at any frame gets one cause.
@@ -113,7 +113,7 @@ class CauseFinder(PageTransmissions):
             return self.classify_difference(place, unknown_page)
         other = self.find_other_text_at_cue(place)
         if other is not None:
-            return self.make_other_text_cause(place, other, self.search_window(place).last)
+            return self.make_other_text_cause(place, other, self.find_search_window(place).last)
         if sent_frame is None:
             return self.classify_missing_page(place)
         return self.classify_delay(place, sent_frame)
@@ -157,7 +157,7 @@ class CauseFinder(PageTransmissions):
 
     def classify_missing_page(self, place: int) -> Cause:
         """Return the cause of the fault if a subtitle's page was not sent near its TCI."""
-        subtitle, window = self.subtitles[place], self.search_window(place)
+        subtitle, window = self.subtitles[place], self.find_search_window(place)
         other = self.find_other_text_during(place)
         if other is not None:
             return self.make_other_text_cause(place, other, window.last)
@@ -217,7 +217,7 @@ class CauseFinder(PageTransmissions):
         subtitle = self.subtitles[place]
         span = faulty_frames.during or faulty_frames.span_after_end
         if span and self.is_expected_page(span.first):
-            if rows := self.list_omitted_rows(span.first):
+            if rows := self.explain_omitted_rows(span.first):
                 return Cause(place, INCOMPLETE_REPEAT, None, self.pages[place], None,
                              f"{rows} {OMITTED_BY_REPEAT}", subtitle.end)
             return self.make_unknown_cause(place, span.first, subtitle.end,
@@ -246,12 +246,12 @@ class CauseFinder(PageTransmissions):
             return NOT_READABLE
         return EVEN_PARITY if HIT in b"".join(self.timeline.get_state_at(frame).rows) else ""
 
-    def list_omitted_rows(self, frame: int) -> str:
+    def explain_omitted_rows(self, frame: int) -> str:
         """Describe which rows a repeat of the page omitted. Return an empty string if omitted rows
         can't explain the fault in this frame: some of the frame's packets can't be read, or the
         frame has several PES packets and --within is not given."""
         is_single = self.timeline.within or len(self.timeline.list_frame_runs(frame)) == 1
-        return find_omitted_rows(self.timeline, self.expected.get_page_at(frame), frame,
+        return name_omitted_rows(self.timeline, self.expected.get_page_at(frame), frame,
                                  self.output) \
             if is_single and self.timeline.was_received(frame, frame) else ""
 

@@ -238,13 +238,14 @@ NO_PES = os.devnull  # the PES file if only the subtitle file is checked
 
 def check_file_alone(request: Request, program: str, names: OutputNames) -> CheckOutput:
     """Check the subtitle file without PES packets; print nothing."""
-    return run_check([program, "check", *request.check_arguments(True), "--all", "--",
+    return run_check([program, "check", *request.list_check_arguments(True), "--all", "--",
                       names.program_stl, NO_PES],
                      CheckOutput(names.make_temporary_path("alone.txt")), lambda line: None)
 
 
-def report_file_check(request: Request, command_paths: CommandPaths, listener: Listener) -> None:
+def print_file_check_command(request: Request, command_paths: CommandPaths,
+                             listener: Listener) -> None:
     """Print the command that checks the subtitle file alone."""
     listener.add_command(command_paths.program_command, "check", request.stl, NO_PES,
-                         *request.check_arguments(True),
+                         *request.list_check_arguments(True),
                          "--all")

@@ -56,11 +56,11 @@ def find_cues(part: Part) -> Iterator[Cue]:
     for place, (subtitle, page) in enumerate(zip(expected.subtitles, expected.pages)):
         cue = Cue(subtitle, page, causes.cause_by_index.get(place) if causes else None)
         delay = part.delays[place] if part.delays else 0
-        yield find_decoded_times(cue, place, expected, timeline, delay) if timeline else cue
+        yield add_decoded_page(cue, place, expected, timeline, delay) if timeline else cue
 
 
-def find_decoded_times(cue: Cue, place: int, expected: ExpectedPages, timeline: Timeline,
-                       delay: int | None) -> Cue:
+def add_decoded_page(cue: Cue, place: int, expected: ExpectedPages, timeline: Timeline,
+                     delay: int | None) -> Cue:
     """Return a copy of a cue with the decoded page and its times. `place` is the position of the
     subtitle in `expected`, and `delay` the delay of the subtitle."""
     number = find_page_number(cue, expected, timeline, delay)

@@ -22,7 +22,7 @@ from ..request.request import (
     OPTION_CHOICE, Request, Selection, Unclear, IncompleteAnswer, describe_option)
 from ..stream.packets import HEADER
 from .causes import Causes
-from .check import CheckOutput, check_file_alone, report_file_check, run_check
+from .check import CheckOutput, check_file_alone, print_file_check_command, run_check
 from .faults import LENGTH_FAULTS, describe_block_subtitle, describe_first_hint, describe_hint
 from .pages import describe_drawing_differences, find_hidden_rows, may_hide_rows
 from .part import Part, choose_parts, find_part_causes, refuse_missing_subtitles, report_causes
@@ -89,7 +89,7 @@ def list_check_options(part: Part) -> list[str]:
     recording, alignment = part.judged_recording
     first, last = part.pes or (0, 0)
     return [*recording.list_program_options(), "--pes", f"{first}-{last}",
-            *part.request.check_arguments(),
+            *part.request.list_check_arguments(),
             *(["--origin", str(alignment.origin)] if alignment.origin else [])]
 
 
@@ -244,7 +244,7 @@ class PairJudge:
     def judge_file_only(self, answer: CheckOutput, is_refused: bool) -> None:
         """Decide the verdict from the subtitle file only. `answer` has its faults, if `is_refused`
         is true. Otherwise there is no recording to judge."""
-        report_file_check(self.request, self.command_paths, self.listener)
+        print_file_check_command(self.request, self.command_paths, self.listener)
         answer.move_file(self.names.list_path)
         if is_refused:
             for line in answer.read_lines():

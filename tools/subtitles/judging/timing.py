@@ -19,7 +19,7 @@ from ..request.commands import Listener
 from ..request.request import (
     NONE, ORIGIN_CHOICE, PACE_CHOICE, PES_CHOICE, Request, Selection, Unclear)
 from ..stream.pace import (
-    BY_EVERY, IRREGULAR, PAUSED, Pace, REGULAR, TOO_FEW, compute_pace, count_ts_packets,
+    BY_EVERY, IRREGULAR, PAUSED, Pace, REGULAR, TOO_FEW, compute_pace, estimate_packets_per_pes,
     find_hidden_loss, find_pauses, list_frame_rows)
 from ..stream.packets import NO_RANGE, PTSPair, Range, find_announced_jumps
 from ..stream.ranges import PacketRange, find_range
@@ -153,8 +153,8 @@ def refuse_wrong_clock(search: PartSearch, recording: Recording, part: TimedPart
     """Raise `Unclear` if the given clock is wrong: nothing was recorded at the time of the
     subtitles, although the recording contains them at another time."""
     clock = part.clock
-    if not clock.delay_frames or cut_packets(search, recording, part,
-                                             search.request.within).range is not None:
+    if not clock.delay_frames or find_subtitle_packets(search, recording, part,
+                                                       search.request.within).range is not None:
         return
     raise Unclear(describe_wrong_clock(search.request, clock, clock.delay_frames))
 
@@ -193,8 +193,8 @@ def suggest_options(recording: Recording, origin: OriginEstimate) -> Iterator[st
         yield from recording.suggest_other_pages([recording.packets])
 
 
-def cut_packets(search: PartSearch, recording: Recording, alignment: TimedPart,
-                within: int) -> PacketRange:
+def find_subtitle_packets(search: PartSearch, recording: Recording, alignment: TimedPart,
+                          within: int) -> PacketRange:
     """Find the PES packets sent while subtitles are expected, or up to `within` frames later."""
     return find_range(recording.packets, alignment.begin, alignment.end, alignment.origin,
                       search.request.every, within, alignment.packets or search.allowed_packets,
@@ -204,7 +204,7 @@ def cut_packets(search: PartSearch, recording: Recording, alignment: TimedPart,
 def find_part_packets(search: PartSearch, part: Part, listener: Listener) -> Range:
     """Find the range of PES packets in a part, and report it."""
     recording, alignment = part.judged_recording
-    part_packets = cut_packets(search, recording, alignment, search.request.within)
+    part_packets = find_subtitle_packets(search, recording, alignment, search.request.within)
     damage, line = recording.packets.damage, f"range: {part_packets.describe()}"
     if part_packets.range is None:
         listener.print_line(line)
@@ -255,7 +255,7 @@ def measure_pace(part: Part, times: Sequence[tuple[int, int]]) -> tuple[Pace, in
     request, (recording, alignment), pes = part.request, part.judged_recording, part.pes or NO_RANGE
     size = None if recording.is_stream else os.path.getsize(recording.path)
     rows = list_frame_rows(recording.packets, pes, alignment.origin, request.within)
-    packets_per_pes = count_ts_packets(recording.packets, pes, size)
+    packets_per_pes = estimate_packets_per_pes(recording.packets, pes, size)
     return compute_pace(rows, packets_per_pes, request.every, find_pauses(times),
                         recording.is_stream), \
         find_hidden_loss(rows, packets_per_pes)

@@ -143,7 +143,7 @@ def count_keeping_headers(headers: Mapping[bytes, int], option: str) -> KeepingH
     return KeepingHeaders(sum(headers.values()), keeping)
 
 
-def find_omitted_rows(timeline: Timeline, expected: Rows, frame: int,
+def name_omitted_rows(timeline: Timeline, expected: Rows, frame: int,
                       output: CheckOutput | None) -> str:
     """Describe which rows are missing after the last header before a frame. Return an empty string
     if this header erases the page, if the decoded page is not the expected page, or if a row has
@@ -342,7 +342,7 @@ class PageTransmissions:
             self.count_frames(number, following.begin, following.end) > \
             self.count_frames(number, item.begin, item.end)
 
-    def search_window(self, place: int) -> Span:
+    def find_search_window(self, place: int) -> Span:
         """Return the frames in which to search for the page transmission of a subtitle."""
         begin = self.subtitles[place].begin
         return Span(min(self.expected.before(place), begin - MIN_FRAMES),
@@ -360,7 +360,7 @@ class PageTransmissions:
 
     def find_transmissions(self, place: int) -> list[int]:
         """Return all frames in the search window in which the page was sent for this subtitle."""
-        page, window = self.pages[place], self.search_window(place)
+        page, window = self.pages[place], self.find_search_window(place)
         frames = self.timeline.page_frames.get(page)
         if not frames or page == BLANK_PAGE:
             return []

@@ -316,7 +316,7 @@ def list_waived(verdict: Verdict) -> Iterator[str]:
                 if not verdict.severity.is_error(named_fault.name))
 
 
-def list_options(verdict: Verdict, part: Part) -> str:
+def format_judging_options(verdict: Verdict, part: Part) -> str:
     """Return the options with which a part of the recording was judged."""
     request = verdict.request
     words = [f"--page {page_name(*request.page)}", f"--every {request.every}",
@@ -351,7 +351,7 @@ def make_footer(verdict: Verdict, command_paths: CommandPaths) -> Markup:
                'their checksums</caption><thead><tr><td></td><th scope="col">Name</th><th '
                'scope="col">Size</th><th scope="col">SHA-256</th></tr></thead><tbody>{}</tbody>'
                "</table>{}<p class=\"says\">{}</p></section>", rows, make_definition_list([
-                   ("Commands", commands), *(("Options", list_options(verdict, part))
+                   ("Commands", commands), *(("Options", format_judging_options(verdict, part))
                                              for part in verdict.parts),
                    ("Date", verdict.date.replace("T", " ").replace("Z", " UTC")),
                    ("Version", program.version), ("PROVED", proved)]), PROOF_NOTE)])

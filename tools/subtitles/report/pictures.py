@@ -147,7 +147,7 @@ def draw_row(row: bytes, number: int, option: int, is_boxed_page: bool) -> tuple
     return join_markup(parts), is_tall
 
 
-def draw_frames(different: Iterable[Place], tall: set[int]) -> Markup:
+def draw_outlines(different: Iterable[Place], tall: set[int]) -> Markup:
     """Draw outlines around differing cells. Neighbouring cells share an outline."""
     boxes: dict[tuple[int, int, int], int] = {}
     for row, group in itertools.groupby(sorted(different), lambda cell: cell[0]):
@@ -157,11 +157,11 @@ def draw_frames(different: Iterable[Place], tall: set[int]) -> Markup:
             end = row + 1 + (row in tall)
             first = boxes.pop((run[0], len(run), row), row)
             boxes[run[0], len(run), end] = first
-    return join_markup(draw_frame(column, width, first, end)
+    return join_markup(draw_outline(column, width, first, end)
                        for (column, width, end), first in boxes.items())
 
 
-def draw_frame(column: int, width: int, first: int, end: int) -> Markup:
+def draw_outline(column: int, width: int, first: int, end: int) -> Markup:
     """Draw an outline around cells from row `first` to the row before `end`."""
     place = markup('x="{}" y="{}" width="{}" height="{}"', column * WIDTH, (first - 1) * HEIGHT,
                    width * WIDTH, (end - first) * HEIGHT)
@@ -200,7 +200,7 @@ def draw_picture(rows: Rows, header: bytes, shown_rows: RowRange,
             row_markup, is_tall = draw_row(row, number, option, has_boxes)
             parts.append(row_markup)
             tall |= {number} if is_tall else set()
-    parts.append(draw_frames(different, tall))
+    parts.append(draw_outlines(different, tall))
     parts.append(markup("</svg>"))
     return join_markup(parts)
 

@@ -55,7 +55,7 @@ def decode_text(name: str, data: bytes) -> str:
     return data.decode("utf-8", "surrogateescape")
 
 
-def list_folder(path: str) -> str:
+def find_list_folder(path: str) -> str:
     """Return the folder to which paths in a list are relative, or "" for a pipe."""
     return os.path.dirname(path) if os.path.isfile(path) else ""
 
@@ -330,7 +330,7 @@ def split_file_names(files: list[str]) -> tuple[list[str], list[str]]:
 def read_list_pairs(path: str, lines: Iterable[Line],
                     defaults: argparse.Namespace) -> Iterator[BatchItem]:
     """Yield the pairs in a list, without checking that their files exist."""
-    names, folder = ListNames(), list_folder(path)
+    names, folder = ListNames(), find_list_folder(path)
     for line in lines:
         try:
             if line.fault:

@@ -9,10 +9,10 @@ import stat
 from typing import Any, Callable, Iterable, Mapping, NamedTuple, Sequence
 
 from ..common.command_line import (
-    Lateness, MAX_EVERY, MAX_WITHIN, Stop, ToolParser, counted, escape_hidden,
-    format_lateness, parse_break_count, parse_lateness, parse_origin, parse_packet_range,
-    parse_page,
-    parse_pes_interval, parse_pid, parse_repeat_interval, parse_start, parse_time, parse_within)
+    Lateness, MAX_EVERY, MAX_WITHIN, Stop, ToolParser, counted, escape_hidden, format_lateness,
+    parse_break_count, parse_lateness, parse_origin, parse_packet_range, parse_page,
+    parse_pes_interval, parse_pid, parse_repeat_interval, parse_time, parse_within,
+    validate_start_time)
 from ..common.files import read_first_bytes, make_safe_name
 from ..common.shapes import (
     CHECKSUM, COUNT, Flag, Integer, ListOf, Maybe, Member, OneOf, PID, PTS, Record, Shape, TIME,
@@ -193,7 +193,7 @@ OPTIONS: tuple[Option, ...] = (
            write=format_range, shape=Maybe(ListOf(COUNT, 2, 2))),
     Option("--start", "TIME|tcp", "take TIME as the time code of the recording's [first picture]"
            "(#the-clock-by-the-first-picture); `tcp`: use the TCP of the GSI block",
-           MEASURED_PAIRS, "estimated", field="start", read=parse_start, is_in_profile=True,
+           MEASURED_PAIRS, "estimated", field="start", read=validate_start_time, is_in_profile=True,
            shape=Maybe(Text())),
     Option("--relative", None, "exit with status 0, not 3, if the verdict is [`relative`]"
            "(#verdicts-and-exit-status)", PAIRS, "status 3", field="is_relative_allowed",
@@ -385,7 +385,7 @@ class Request:
         """Return the arguments for `schedule`: the options that change the expected pages."""
         return self.list_program_arguments([option for option in OPTIONS if option.changes_pages])
 
-    def check_arguments(self, is_file_alone: bool = False) -> list[str]:
+    def list_check_arguments(self, is_file_alone: bool = False) -> list[str]:
         """Return the arguments for `check`, except the origin."""
         return self.list_program_arguments([
             option for option in OPTIONS if option.check_default is not NOT_ACCEPTED_BY_CHECK

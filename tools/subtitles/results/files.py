@@ -39,14 +39,14 @@ class ListLimit:
         self.omitted_counts = {member.name: 0 for member in LISTS}
 
 
-def write_result(verdict: Verdict, program: ProgramInfo) -> Iterator[str]:
+def make_result_chunks(verdict: Verdict, program: ProgramInfo) -> Iterator[str]:
     """Yield the text of a JSON result in chunks."""
     source, limit = ResultSource(verdict, program), ListLimit()
     separator = "{"
     for member in VERDICT.members:
         yield f"{separator}\n \"{member.name}\": "
         if member in LISTS:
-            yield from write_list(member, source, limit)
+            yield from make_list_chunks(member, source, limit)
         else:
             value = limit.omitted_counts if member.shape is OMITTED else member.to_json(source)
             yield json.dumps(value, ensure_ascii=False)
@@ -54,7 +54,7 @@ def write_result(verdict: Verdict, program: ProgramInfo) -> Iterator[str]:
     yield "\n}\n"
 
 
-def write_list(member: Member, source: ResultSource, limit: ListLimit) -> Iterator[str]:
+def make_list_chunks(member: Member, source: ResultSource, limit: ListLimit) -> Iterator[str]:
     """Yield a JSON list with one item per line. Omit the items beyond the limits."""
     assert isinstance(member.shape, ListOf) and member.getter
     items, separator = iter(member.getter(source)), "["

@@ -9,7 +9,7 @@ from ..formats.layout import (
     CODES, COLOURS, COLUMNS, DOUBLE, DRAWN_CODES, Layout, MAX_AFTER, MAX_BEFORE, MAX_SHIFT, PLAIN,
     START_BOX, TextFault, WHITE, assign_rows, compute_complexity, count_leading_codes,
     count_leading_spaces, draw_text, encode_text_characters, find_column, find_start_column,
-    format_layout, list_page_characters, make_page_rows, prepare_line, remove_attributes,
+    format_layout, list_page_characters, make_page_rows, prepare_line, remove_blank_cells,
     remove_codes, split_raw_lines, trim_line)
 from ..formats.stl import Subtitle
 from ..formats.teletext import COMMON, NationalOption
@@ -60,10 +60,11 @@ def is_found(sent: SentSubtitle, option: NationalOption) -> bool:
 def match_lines(place: int, lines: Sequence[bytes], rows: Sequence[bytes]) -> list[SentLine]:
     """Return the lines of a subtitle with the rows in which they were sent. Return an empty list if
     the characters differ."""
-    file_lines = [(number, line) for number, line in enumerate(lines) if remove_attributes(line)]
-    page_rows = [(number, row) for number, row in enumerate(rows, 1) if remove_attributes(row)]
-    if [remove_attributes(line) for _, line in file_lines] != [remove_attributes(row) for _, row in
-                                                               page_rows]:
+    file_lines = [(number, line) for number, line in enumerate(lines) if remove_blank_cells(line)]
+    page_rows = [(number, row) for number, row in enumerate(rows, 1) if remove_blank_cells(row)]
+    if [remove_blank_cells(line) for _, line in file_lines] != [remove_blank_cells(row) for _, row
+                                                                in
+                                                                page_rows]:
         return []
     return [SentLine(place, number, line, row, sent)
             for (number, line), (row, sent) in zip(file_lines, page_rows)]

@@ -215,7 +215,7 @@ def list_frame_rows(packets: Packets, inside: Range, origin: int,
     return rows
 
 
-def count_ts_packets(packets: Packets, inside: Range, size: int | None) -> int:
+def estimate_packets_per_pes(packets: Packets, inside: Range, size: int | None) -> int:
     """Estimate the maximum number of TS packets in a PES packet: the mean, or the number for the
     largest PES packet `inside` if that is greater. `size` is the number of bytes of a PES file."""
     total = packets.packets if size is None else size // PAYLOAD
