@@ -12,15 +12,17 @@ from unittest import mock
 
 from subtitles.air import judge, main
 from subtitles.air.check import Outcome
+from subtitles.air.delivery import read_content
+from subtitles.air.schedule import Programme, Schedule, read_schedule
 from subtitles.air.segments import UnbrokenRun, make_segment_name
 from subtitles.request.lines import read_options
-from subtitles.request.request import Request
 from subtitles.results.files import make_unjudged
 from .bench import Case
 
 DAY = 1_796_112_000.0  # 2026-12-01T08:00:00Z
 LENGTH = 10  # length of a segment in seconds
 MARGIN_SECONDS = 60
+WRITTEN = 1e9  # mtime of subtitle files and schedules
 
 
 class SentProgramme(NamedTuple):
@@ -38,7 +40,8 @@ class FakeChecker:
                  fails: Callable[[], bool] = lambda: False) -> None:
         self.sent, self.fails, self.work, self.calls = sent, fails, os.devnull, list[str]()
 
-    def check(self, _: Request, name: str, begin: float, stretch: UnbrokenRun) -> Outcome:
+    def check(self, programme: Programme, stretch: UnbrokenRun) -> Outcome:
+        name, begin = programme.name, programme.begin
         self.calls.append(name)
         if self.fails():
             return Outcome(None, "the machine failed")
@@ -73,14 +76,30 @@ class AirCase(Case):
         for name in ("segments", "out"):
             os.mkdir(self.path(name))
         for module, name in ((judge, "print_stdout"), (judge, "write_state"), (os, "fsync")):
-            patch = mock.patch.object(module, name)
-            patch.start()
-            self.addCleanup(patch.stop)
+            self.patch(module, name)
+        # Most tests end before an hour was recorded after a programme.
+        self.patch(judge, "MIN_RECORDED_LATER", -1e9)
+
+    def patch(self, module: object, name: str, *value: object) -> None:
+        """Replace an attribute until the test ends."""
+        patch = mock.patch.object(module, name, *value)
+        patch.start()
+        self.addCleanup(patch.stop)
+
+    def write(self, name: str, data: bytes | bytearray) -> str:
+        """Write a file that was complete long before the programmes."""
+        path = super().write(name, data)
+        os.utime(path, (WRITTEN, WRITTEN))
+        read_content.cache_clear()  # the mtime does not show the change
+        return path
 
     def args(self, *more: str) -> argparse.Namespace:
         line = [self.path("schedule"), self.path("segments"), "-o", self.path("out"), "--margin",
                 f"{MARGIN_SECONDS}", "-p", "/bin/true", *more]
         return read_options(main.make_judge_parser(), line, {}, {})
+
+    def read_schedule(self, known: Schedule = Schedule(), now: float = DAY) -> Schedule:
+        return read_schedule(self.path("schedule"), self.args(), now, known)
 
     def make_judge(self, checker: FakeChecker, *more: str) -> judge.Judge:
         """Return a judge that uses a fake checker and does not monitor disks."""

@@ -12,7 +12,6 @@ from unittest import mock
 
 from subtitles.air import check, main
 from subtitles.air.check import Checker, Outcome
-from subtitles.air.schedule import read_schedule
 from subtitles.air.segments import UnbrokenRun, find_segments, find_unbroken_runs, make_segment_name
 from subtitles.cli.single import hold_lock
 from .air import AirCase, DAY
@@ -58,6 +57,11 @@ AIR_CASES = {
 }
 
 
+def sleep_and_return() -> int:
+    time.sleep(1)
+    return 7
+
+
 class Feeds(AirCase):
     """A test case with a feed that transmits one programme."""
 
@@ -78,11 +82,12 @@ class Checks(Feeds):
         self.delete_all("segments", "out")
         self.put_segment(begin, begin + len(frames) / 25, b"".join(frames))
         self.write_schedule("2026-12-01T08:00:00Z one.stl")
-        item, = read_schedule(self.path("schedule"), self.args()).programmes
+        item, = self.read_schedule().programmes
+        item = item._replace(begin=DAY + air, early=margin, late=margin)
         stretch, = find_unbroken_runs(find_segments(self.path("segments"), DAY, DAY + 60), 5)
         out = self.path("out")
-        checker = Checker(program or self.bench.program, "qc", out, out, margin)
-        result = checker.check(item.request, item.name, DAY + air, stretch)
+        checker = Checker(program or self.bench.program, "qc", out, out)
+        result = checker.check(item, stretch)
         checker.clear()
         self.check("files that are left", os.listdir(out), [])
         return result
@@ -111,13 +116,19 @@ class Checks(Feeds):
         frames = self.feed()
         write_subtitle_file(self, [(100, 100, b"Never")])
         result = self.judged(frames[:50])
-        self.check("it", (result.verdict, result.is_final), ("refused", True))
+        self.check("it", (result.verdict, result.is_final), ("refused", False))
 
     def test_stops_a_check_that_takes_too_long(self) -> None:
         program = self.make_program_with_exception("check*", "sleep 60")
         with mock.patch.object(check, "MIN_SECONDS", 0.1):
             outcome = self.judged(self.feed(), program=program)
         self.must("it", outcome.result is None and "not judged within" in outcome.reason, outcome)
+
+    def test_reports_while_a_programme_is_judged(self) -> None:
+        calls = list[int]()
+        with mock.patch.object(check, "REPORT_SECONDS", 0.05):
+            status, _ = check.run_forked(sleep_and_return, 60, lambda: calls.append(1))
+        self.must("reports", status == 7 and len(calls) > 3, (status, calls))
 
     def test_copies_nothing_to_a_full_disk(self) -> None:
         with mock.patch.object(check, "SPARE_BYTES", 1 << 60):

@@ -15,11 +15,13 @@ from subtitles.air.state import Monitor
 from subtitles.common.files import open_result
 from .air import AirCase, DAY, FakeChecker, MARGIN_SECONDS, SentProgramme, outcome
 from .bench import read_example_file
+from .programmes import wait_until
 from .transmissions import write_subtitle_file
 
 NAME = "20261201T081000Z-one"
 BEGIN, END = 600, 660
 OTHER_NAME = NAME.replace("one", "two")
+PAGE_NAME = f"{OTHER_NAME}-889"
 
 
 class AirCaseRow(NamedTuple):
@@ -83,6 +85,20 @@ TRIALS = {
                                             "relative", 10),
     "the feed ends after it": AirCaseRow((0, 670), (), SentProgramme(600, 660), "relative", 10),
 }
+
+
+# Lines, each with a begin in seconds, a subtitle file and options; and the expected margins in
+# seconds before and after.
+MARGINS = {
+    "far apart": (["0 one", "120 one"], [(60, 60), (60, 60)]),
+    "other subtitles": (["0 one", "30 two"], [(60, 60), (60, 60)]),
+    "the same subtitles": (["0 one", "100 one", "130 one"], [(60, 50), (50, 15), (15, 60)]),
+    "the same file by another path": (["0 one", "30 ./one"], [(60, 15), (15, 60)]),
+    "no file": (["0 one", "30 three"], [(60, 60), (60, 60)]),
+    "other pages": (["0 one", "0 one --page 889", "40 one --page 889"],
+                    [(60, 60), (60, 20), (20, 60)]),
+    "other parts": (["0 one --to 00:00:01:00", "30 one --from 00:00:01:00"], [(60, 60), (60, 60)]),
+    "not sorted": (["30 one", "0 one"], [(60, 15), (15, 60)])}
 
 
 class JudgedProgrammes(AirCase):
@@ -174,13 +190,96 @@ class JudgedProgrammes(AirCase):
         self.put_segments(0, 900)
         os.rename(self.path("one.stl"), self.path("later.stl"))
         checker = FakeChecker({NAME: SentProgramme(600, 660)})
-        judge = self.run_judge(checker, 725)
+        judge = self.run_judge(checker, 720)
         self.check("it is not late yet", judge.monitor.late, [])
         judge.look(DAY + 725)
         self.check("it is late", judge.monitor.late, [NAME])
         os.rename(self.path("later.stl"), self.path("one.stl"))
         self.run_judge(checker, 2100, 2000)
         self.check("once it is there", self.verdicts(), {NAME: "relative"})
+
+    def test_waits_until_a_subtitle_file_is_complete(self) -> None:
+        self.put_segments(0, 900)
+        data = self.read("one.stl")
+        checker = FakeChecker({NAME: SentProgramme(600, 660)})
+        for size, at in ((0, 600), (1100, 700)):
+            self.write("one.stl", data[:size])
+            os.utime(self.path("one.stl"), (DAY + at, DAY + at))
+            self.run_judge(checker, 1500)
+            self.check(f"{size} bytes", (self.verdicts(), checker.calls), ({}, []))
+        self.write("one.stl", data)
+        os.utime(self.path("one.stl"), (DAY + 2000, DAY + 2000))
+        self.run_judge(checker, 3000, 2000)
+        self.check("complete", self.verdicts(), {NAME: "relative"})
+        self.must("when", 2060 <= self.now <= 2120, self.now)
+
+    def test_judges_a_file_again_that_is_changed_meanwhile(self) -> None:
+        self.put_segments(0, 900)
+        checker = FakeChecker({NAME: SentProgramme(600, 660)})
+        real, left = checker.check, [1]
+
+        def check(*args: Any) -> Outcome:
+            if left:
+                os.utime(self.path("one.stl"), (DAY + 600 + left.pop(), DAY + 601))
+            return real(*args)
+
+        checker.check = check  # type: ignore
+        judge = self.run_judge(checker, 671)
+        self.check("no result yet", self.verdicts(), {})
+        self.must("reason", judge.monitor.last_error.endswith("was changed while it was judged"),
+                  judge.monitor.last_error)
+        self.run_judge(checker, 700, 672)
+        self.check("then", self.verdicts(), {NAME: "relative"})
+
+    def test_a_refused_file_may_be_corrected_until_the_margin_has_passed(self) -> None:
+        self.put_segments(0, 900)
+        refused = outcome(NAME, "refused", "refused 11 Format block 0")
+        assert refused.result
+        refused.result["inputs"]["recording"] = None
+        checker = FakeChecker({NAME: SentProgramme(600, 660)})
+        real, is_corrected = checker.check, False
+        checker.check = lambda *args: real(*args) if is_corrected else refused  # type: ignore
+        self.run_judge(checker, END + MARGIN_SECONDS + 10)
+        self.check("no result yet", self.verdicts(), {})
+        is_corrected = True
+        self.run_judge(checker, 800, self.now)
+        self.check("corrected", self.verdicts(), {NAME: "relative"})
+        self.delete_all("out")
+        is_corrected = False
+        self.run_judge(checker, 1500)
+        self.check("not corrected", (self.verdicts(), self.now - END), ({NAME: "refused"}, 70))
+
+    def test_gives_up_a_programme_after_an_hour_of_later_feed(self) -> None:
+        with mock.patch.object(judging, "MIN_RECORDED_LATER", 3600.0):
+            judge = self.run_judge(FakeChecker({}), 9000)
+            self.check("without segments", (self.verdicts(), judge.monitor.late), ({}, [NAME]))
+            self.put_segments(730, 4320)
+            self.run_judge(FakeChecker({}), 9000)
+            self.check("with almost an hour", self.verdicts(), {})
+            self.put_segments(4320, 4340)
+            self.run_judge(FakeChecker({}), 9000)
+        self.check("with an hour", self.verdicts(), {NAME: "not judged"})
+
+    def test_a_wrong_clock_ends_no_programme(self) -> None:
+        judge = self.make_judge(FakeChecker({NAME: SentProgramme(600, 660)}))
+        judge.monitor.is_clock_wrong = True
+        judge.look(DAY + 86_400)
+        judge.monitor.is_clock_wrong = False
+        self.put_segments(0, 900)
+        for now in range(600, 680, 5):
+            judge.look(DAY + now)
+        self.check("once it is right", self.verdicts(), {NAME: "relative"})
+
+    def test_an_airing_counts_for_the_nearest_line(self) -> None:
+        for name, (lines, expected) in MARGINS.items():
+            self.write_schedule(*(
+                f"2026-12-01T08:{int(begin) // 60:02}:{int(begin) % 60:02}Z {stl}.stl "
+                f"{' '.join(options)}" for begin, stl, *options in map(str.split, lines)))
+            judge = self.make_judge(FakeChecker({}))
+            judge.look(DAY)
+            limited = [judge.limit_margins(item, judge.read_delivery(item, DAY), DAY)
+                       for item in judge.schedule.programmes]
+            self.check(name, [(item.early, item.late) for item in limited], expected)
 
     def test_gives_up_on_a_subtitle_file_once_its_segments_are_deleted(self) -> None:
         os.unlink(self.path("one.stl"))
@@ -206,7 +305,7 @@ class JudgedProgrammes(AirCase):
     def test_a_damaged_schedule_loses_no_programme(self) -> None:
         self.put_segments(0, 900)
         checker, whole = FakeChecker({NAME: SentProgramme(600, 660)}), self.read("schedule")
-        for data in (b"", whole[:-1], whole[:20], b"\xff\xfe\n", b"'\n", None):
+        for data in (b"", whole[:20], b"\xff\xfe\n", b"'\n", None):
             if data is None:
                 os.unlink(self.path("schedule"))
             else:
@@ -245,10 +344,10 @@ class JudgedProgrammes(AirCase):
                             "2026-12-01T08:10:00Z two.stl --page 889")
         self.put_segments(0, 900)
         judge = self.make_judge(FakeChecker({NAME: SentProgramme(600, 660),
-                                             OTHER_NAME: SentProgramme(600, 660, False)}))
+                                             PAGE_NAME: SentProgramme(600, 660, False)}))
         while judge.look(DAY + 700):
             pass
-        self.check("results", self.verdicts(), {NAME: "relative", OTHER_NAME: "refused"})
+        self.check("results", self.verdicts(), {NAME: "relative", PAGE_NAME: "refused"})
 
     def test_a_restart_of_the_recorder_is_a_gap(self) -> None:
         self.put_segments(0, 900)
@@ -269,7 +368,9 @@ class JudgedProgrammes(AirCase):
         self.put_segments(0, 900)
         checker = FakeChecker({OTHER_NAME: SentProgramme(600, 660)})
         real = checker.check
-        checker.check = lambda *args: {}["no"] if args[1] == NAME else real(*args)  # type: ignore
+        no_outcomes = dict[str, Outcome]()
+        checker.check = lambda *args: (  # type: ignore
+            no_outcomes["no"] if args[0].name == NAME else real(*args))
         self.run_judge(checker, 800)
         self.check("results", self.verdicts(), {OTHER_NAME: "relative"})
 
@@ -304,23 +405,47 @@ class JudgedProgrammes(AirCase):
                    f"{self.path('out')}/{NAME}.json relative\n")
 
 
+    def test_kills_a_command_that_hangs_with_its_children(self) -> None:
+        self.put_segments(0, 900)
+        command = self.write_program("hook", f"#!/bin/sh\nsleep 60 &\n"
+                                     f"echo $! >{self.path('child')}\nwait\n")
+        with mock.patch.object(judging, "HOOK_SECONDS", 0.5):
+            self.run_judge(FakeChecker({NAME: SentProgramme(600, 660)}), 800, BEGIN,
+                           "--on-result", command)
+        child = self.read("child").decode().strip()
+        wait_until(lambda: not os.path.exists(f"/proc/{child}/exe"))
+
+
 ALARM_CASES: dict[str, tuple[dict[str, Any], list[str]]] = {
     "all is well": ({}, []),
     "no byte": ({"last_byte": DAY - 11}, ["silence"]),
+    "a clock": ({"is_clock_wrong": True}, ["clock"]),
+    "segments were deleted": ({"is_deleted_early": True}, ["disk"]),
     "a full disk": ({"free": [5, 1 << 40]}, ["disk"]),
     "no header": ({"headers": {(0, 0x88): DAY - 601}}, ["page 888"]),
     "a header just now": ({"headers": {(0, 0x88): DAY - 599}}, []),
-    "it has just begun": ({"headers": {(0, 0x88): 0.0}, "started": DAY - 599}, []),
+    "it has just begun": ({"headers": {(0, 0x88): 0.0}, "oldest": DAY - 599}, []),
     "two pages": ({"headers": {(0, 0x88): DAY - 601, (0, 0x89): DAY}}, ["page 888"]),
     "a result is late": ({"late": ["one"]}, ["late"]),
     "a fault in the schedule": ({"schedule_faults": ["line 3: what?"]}, ["schedule"])}
+
+
+# The begin and the end of a segment besides five correct segments; whether the clock is wrong 60
+# seconds after the first, and the time of the last byte.
+CLOCK_CASES = {
+    "right": (50, 60, (False, 60)),
+    "a name an hour ahead": (3650, 60, (True, 60)),
+    "both an hour ahead": (3650, 3660, (True, 50)),
+    "copied without its time": (40.5, 3660, (True, 50)),
+    "a name of another zone": (-3540, 60, (False, 50)),
+    "a file from the future": (1e8, -1e6, (True, 50))}
 
 
 class State(AirCase):
     def test_raises_each_alarm(self) -> None:
         for name, (values, expected) in ALARM_CASES.items():
             monitor = Monitor()
-            monitor.now, monitor.started, monitor.last_byte = DAY, DAY - 9999, DAY - 9
+            monitor.now, monitor.oldest, monitor.last_byte = DAY, DAY - 9999, DAY - 9
             monitor.free = [1 << 40] * 2
             vars(monitor).update(values)
             self.check(name, json.loads(json.dumps(monitor.state()))["alarms"], expected)
@@ -328,15 +453,33 @@ class State(AirCase):
     def test_reports_segments_and_disks(self) -> None:
         self.put_segments(0, 50)
         monitor, out = Monitor(), self.path("out")
-        monitor.look(self.path("segments"), out, DAY + 60, "/bin/true", [])
+        monitor.look(self.path("segments"), out, DAY + 60, "/bin/true", [], DAY)
         self.check("segments", (monitor.segments, monitor.last_byte, monitor.oldest),
                    (5, DAY + 50, DAY))
-        monitor.look(self.path("nothing"), out, DAY + 60, "/bin/true", [])
+        monitor.look(self.path("nothing"), out, DAY + 60, "/bin/true", [], DAY)
         self.check("without a folder", (monitor.segments, monitor.free[0]), (0, 0))
 
     def test_reports_the_headers_of_pages(self) -> None:
         self.put_segment(0, 10, read_example_file("recording.ts"))
         monitor = Monitor()
-        monitor.look(self.path("segments"), self.path("out"), DAY + 700, self.bench.program,
-                     [(0, 0x88), (0, 0x89)])
+        monitor.look(self.path("segments"), self.path("out"), DAY + 500, self.bench.program,
+                     [(0, 0x88), (0, 0x89)], DAY)
         self.check("headers", monitor.headers, {(0, 0x88): DAY + 10, (0, 0x89): 0.0})
+
+    def test_compares_the_clock_with_segments(self) -> None:
+        for name, (begin, end, expected) in CLOCK_CASES.items():
+            self.delete_all("segments")
+            self.put_segments(0, 50)
+            os.utime(self.put_segment(begin, begin + 1), (DAY + end, DAY + end))
+            monitor = Monitor()
+            monitor.look(self.path("segments"), self.path("out"), DAY + 60, "/bin/true", [], DAY)
+            self.check(name, (monitor.is_clock_wrong, monitor.last_byte - DAY), expected)
+
+    def test_reports_segments_that_are_deleted_early(self) -> None:
+        for is_new, needed, expected in ((False, 5, True), (False, 10, False), (True, 5, False)):
+            self.delete_all("segments")
+            self.put_segment(10, 20, is_new=is_new)
+            monitor = Monitor()
+            monitor.look(self.path("segments"), self.path("out"), DAY + 60, "/bin/true", [],
+                         DAY + needed)
+            self.check(f"{is_new}, {needed}", monitor.is_deleted_early, expected)

@@ -76,7 +76,7 @@ class RandomDays(AirCase):
 
     def test_each_programme_gets_one_correct_result_that_never_changes(self) -> None:
         for number in range(5):
-            write_subtitle_file(self, [(0, SECONDS * 25, b"One")], f"p{number}.stl")
+            write_subtitle_file(self, [(0, SECONDS * 25, b"%d" % number)], f"p{number}.stl")
         for seed in self.SEEDS:
             self.delete_all("segments", "out")
             self.judge_day(random.Random(seed), seed)

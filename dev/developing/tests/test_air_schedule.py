@@ -4,8 +4,8 @@ from __future__ import annotations
 import os
 
 from developing.stl import make_box_line, make_gsi_block, make_subtitle_blocks
-from subtitles.air.schedule import measure_length, read_schedule
-from .air import AirCase, DAY
+from subtitles.air.delivery import Delivery, read_delivery
+from .air import AirCase, DAY, WRITTEN
 
 NO_TIME = "is not an air time: begin the line with a date and a time that ends in Z or an " \
     "offset, as `2026-11-29T20:15:00Z news.stl`"
@@ -18,7 +18,7 @@ LINES = {
     "with an end": ("2026-12-01T08:00:00Z/2026-12-01T08:30:00Z news.stl",
                     "20261201T080000Z-news 0 1800"),
     "a name with a space": ("2026-12-01T08:00:00Z 'late night.stl' --page 889",
-                            "20261201T080000Z-late night 0 None"),
+                            "20261201T080000Z-late night-889 0 None"),
     "a comment": ("# 2026-12-01T08:00:00Z news.stl", ""),
     "nothing": ("", ""),
     "no time": ("news.stl", f"line 1: news.stl {NO_TIME}"),
@@ -50,6 +50,9 @@ LENGTHS = {
     "two": ([(0, 250), (500, 1000)], "", 40.0),
     "from a time on": ([(HOUR, HOUR + 50), (2 * HOUR, 2 * HOUR + 250)], "--from 01:30:00:00", 10.0),
     "up to a time": ([(HOUR, HOUR + 50), (2 * HOUR, 2 * HOUR + 250)], "--to 01:30:00:00", 2.0),
+    "not in order": ([(500, 1000), (1500, 2000), (0, 250)], "", 60.0),
+    "a title long before": ([(0, 50), (10 * HOUR, 10 * HOUR + 250)], "", 2.0),
+    "an end before its begin": ([(0, 250), (500, 400)], "", 10.0),
     "over midnight": ([(24 * HOUR - 250, 24 * HOUR - 200), (0, 250)], "", 20.0),
 }
 
@@ -59,9 +62,10 @@ def shown(time: float | None) -> str:
 
 
 class Lines(AirCase):
-    def read_lines(self, text: str) -> list[str]:
+    def read_lines(self, text: str, now: float = DAY) -> list[str]:
         """Parse a schedule. Return a line for each programme, followed by the faults."""
-        schedule = read_schedule(self.write("schedule", text.encode()), self.args())
+        self.write("schedule", text.encode())
+        schedule = self.read_schedule(now=now)
         printed = [f"{programme.name} {shown(programme.begin)} {shown(programme.end)}"
                    for programme in schedule.programmes]
         return printed + [*schedule.faults]
@@ -74,12 +78,18 @@ class Lines(AirCase):
         for time, name in NIGHTS.items():
             self.check(time, self.read_lines(f"{time} a.stl\n")[0].split()[0], name)
 
-    def test_ignores_a_line_without_a_line_end(self) -> None:
+    def test_ignores_a_line_without_a_line_end_until_the_file_is_settled(self) -> None:
         text = "".join(f"2026-12-01T08:00:00Z news{number}.stl --page 889\n" for number in range(3))
         for end in range(len(text) + 1):
             count = text[:end].count("\n")
-            self.check(f"{end} bytes", self.read_lines(text[:end]), [
-                f"20261201T080000Z-news{number} 0 None" for number in range(count)])
+            self.check(f"{end} bytes", self.read_lines(text[:end], WRITTEN + 59), [
+                f"20261201T080000Z-news{number}-889 0 None" for number in range(count)])
+        self.check("settled", len(self.read_lines(text[:-1], WRITTEN + 60)), 3)
+
+    def test_reads_each_kind_of_line_end(self) -> None:
+        lines = ["2026-12-01T08:00:00Z a.stl", "2026-12-01T08:00:00Z b.stl"]
+        for end in ("\n", "\r\n", "\r"):
+            self.check(repr(end), len(self.read_lines(end.join(lines) + end, WRITTEN)), 2)
 
     def test_reports_a_second_line_with_the_same_name(self) -> None:
         line = "2026-12-01T08:00:00Z a.stl\n"
@@ -89,20 +99,20 @@ class Lines(AirCase):
 
     def test_finds_files_in_the_folder_of_the_schedule(self) -> None:
         self.write_schedule("2026-12-01T08:00:00Z a.stl")
-        item, = read_schedule(self.path("schedule"), self.args()).programmes
+        item, = self.read_schedule().programmes
         self.check("its subtitle file", item.request.stl, self.path("a.stl"))
 
     def test_does_not_read_an_unchanged_schedule_again(self) -> None:
         self.write_schedule("2026-12-01T08:00:00Z a.stl")
-        first = read_schedule(self.path("schedule"), self.args())
-        self.must("the same", read_schedule(self.path("schedule"), self.args(), first) is first)
+        first = self.read_schedule()
+        self.must("the same", self.read_schedule(first) is first)
 
 
 class Lengths(AirCase):
-    def length(self, options: str = "") -> float:
+    def delivery(self, options: str = "", now: float = DAY) -> Delivery:
         self.write_schedule(f"2026-12-01T08:00:00Z one.stl {options}")
-        item, = read_schedule(self.path("schedule"), self.args()).programmes
-        return measure_length(item.request)
+        item, = self.read_schedule().programmes
+        return read_delivery(item.request, now, 60)
 
     def write_stl(self, *times: tuple[int, int]) -> None:
         blocks = [make_subtitle_blocks(number, begin, end, 20, 2, make_box_line(b"One"))
@@ -112,10 +122,35 @@ class Lengths(AirCase):
     def test_a_programme_lasts_from_first_tci_to_last_tco(self) -> None:
         for name, (times, options, expected) in LENGTHS.items():
             self.write_stl(*times)
-            self.check(name, self.length(options), expected)
+            delivery = self.delivery(options)
+            self.check(name, (delivery.fault, delivery.content.length), ("", expected))
 
     def test_an_invalid_file_has_no_length(self) -> None:
-        self.write("one.stl", b"no subtitle file")
-        self.check("length", self.length(), 0.0)
-        os.unlink(self.path("one.stl"))
-        self.assertRaises(OSError, self.length)
+        self.write("one.stl", b"no subtitle file" * 99)
+        delivery = self.delivery()
+        self.check("length", (delivery.fault, delivery.content.length), ("", 0.0))
+
+    def test_waits_for_a_complete_file(self) -> None:
+        self.check("none", self.delivery().fault, f"{self.path('one.stl')} does not exist")
+        self.write_stl((0, 250), (500, 1000))
+        data = self.read("one.stl")
+        for size in range(0, len(data) + 1, 64):
+            self.write("one.stl", data[:size])
+            announced = len(data) if size > 243 else 1024  # TNB is in the bytes up to 243
+            self.check(f"{size} bytes", self.delivery().fault, "" if size == len(data) else (
+                f"{self.path('one.stl')} has {size:,} of the {announced:,} bytes that its GSI "
+                "block announces (TNB): copy it again, or create "
+                f"{self.path('one.done')} if it is complete"))
+        changed = f"{self.path('one.stl')} was changed at 2026-12-01T08:00:00Z and may still be " \
+            "incomplete"
+        os.utime(self.path("one.stl"), (DAY, DAY))
+        for seconds, expected in ((-3600, changed), (0, changed), (59, changed), (60, "")):
+            self.check(f"after {seconds} seconds", self.delivery("", DAY + seconds).fault, expected)
+
+    def test_a_done_file_marks_a_complete_file(self) -> None:
+        self.write_stl((0, 250), (500, 1000))
+        self.write("one.stl", self.read("one.stl")[:-128])
+        self.write("one.done", b"")
+        self.check("with it", self.delivery().fault, "")
+        os.utime(self.path("one.stl"), (DAY, DAY))
+        self.must("an older one", self.delivery().fault, self.delivery())

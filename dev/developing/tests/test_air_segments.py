@@ -50,6 +50,7 @@ RUN_CASES = {
 JOINT_CASES = {
     "it goes on, without a PCR": (900.5, 900.5, "0-10 10-20", "0-20"),
     "the recorder stalled": (900.5, 900.5, "0-10 18-20", "0-20"),
+    "the clock was set forward": (900.5, 900.5, "0-10 75-85", "0-10 75-85"),
     "it started again, and lost nothing": (900.5, 900.5, "0-10 !11-20", "0-20"),
     "it started again, and lost a packet": (900, 901, "0-10 !11-20", "0-10 11-20"),
     "15 packets are lost in a stall": (895, 910, "0-10 18-20", "0-10 18-20"),
@@ -207,10 +208,12 @@ class Recorded(AirCase):
     def test_keeps_the_order_when_the_clock_is_set(self) -> None:
         item = self.recorder(kept=10_000)
         with mock.patch.object(recorder, "print_stderr", lambda _: None):
-            for number, at in enumerate((0, 5, -3600, -3595, -3590, 3600, 3605, 20)):
+            for number, at in enumerate((0, 5, -5, -3, 3600, 3605, 20, 30)):
                 self.now = DAY + at
                 item.take(b"%d" % number)
-        self.check("all of it", b"".join(data for _, data in self.read_segments()), b"01234567")
+        self.check("by the clock", self.read_segments(), [
+            (0.0, b"01"), (0.001, b"23"), (20.0, b"6"), (30.0, b"7"), (3600.0, b"45")])
+        self.check("a large step is a loss", self.are_new(), [True, False, True, False, False])
 
     def test_deletes_segments_that_are_too_old(self) -> None:
         item = self.recorder(kept=50)
@@ -219,6 +222,10 @@ class Recorded(AirCase):
             item.take(b".")
         self.check("begins", [begin for begin, _ in self.read_segments()],
                    [140.0, 150.0, 160.0, 170.0, 180.0, 190.0])
+        self.now = DAY + 9999
+        item.take(b".")
+        self.check("a wrong clock deletes few", [begin for begin, _ in self.read_segments()],
+                   [160.0, 170.0, 180.0, 190.0, 9999.0])
 
     def test_deletes_segments_until_the_disk_has_free_space(self) -> None:
         self.put_segments(-200, 0)
@@ -228,10 +235,14 @@ class Recorded(AirCase):
             count = len(os.listdir(self.path("segments")))
             return mock.Mock(f_bavail=max(15 - count, 0), f_frsize=about.f_frsize)
 
+        item = self.recorder(free=5 * about.f_frsize)
         with mock.patch.object(os, "statvfs", free):
-            self.recorder(free=5 * about.f_frsize).take(b".")
-        self.check("begins", [int(item) for item, _ in self.read_segments()],
-                   [*range(-100, 0, 10), 0])
+            item.take(b".")
+            self.check("two for a new one", int(self.read_segments()[0][0]), -180)
+            for self.now in range(int(DAY) + 10, int(DAY) + 200, 10):
+                item.take(b".")
+        self.check("begins", [int(begin) for begin, _ in self.read_segments()],
+                   [*range(90, 200, 10)])
 
     def test_marks_a_loss_after_a_full_disk(self) -> None:
         self.put_segments(-30, 0)

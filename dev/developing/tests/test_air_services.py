@@ -69,7 +69,7 @@ class Units(Case):
         for name in UNITS:
             with open(os.path.join(MANUAL, name), encoding="utf-8") as file:
                 text = file.read()
-            text = text.replace("/usr/bin/subttx-air", get_tool_path("air")).replace(
+            text = text.replace("subttx-air ", get_tool_path("air") + " ").replace(
                 "/usr/bin/subttx-qc", get_tool_path("qc")).replace("User=subtitles", "User=root")
             process = self.call(["systemd-analyze", "verify", self.write(name, text.encode())])
             own = [line for line in process.told if name in line]

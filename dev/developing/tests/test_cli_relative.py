@@ -16,7 +16,6 @@ from typing import Any, NamedTuple
 from unittest import mock
 
 from subtitles.air.check import Checker
-from subtitles.air.schedule import read_schedule
 from subtitles.air.segments import find_segments, find_unbroken_runs
 from subtitles.cli import batch
 from subtitles.cli.main import main as qc
@@ -181,11 +180,11 @@ class Clocks(Feeds):
         origin = (BEGIN + SECOND * LEAD_SECONDS - TICKS * 1_000_000) % CLOCK
         words, given = self.options(chance, origin)
         self.write_schedule(" ".join(["2026-12-01T08:00:00Z one.stl", *words]))
-        item, = read_schedule(self.path("schedule"), self.args()).programmes
+        item, = self.read_schedule().programmes
         stretch, = find_unbroken_runs(find_segments(self.path("segments"), DAY, DAY + 60), 5)
         out = self.path("out")
-        checker = Checker(self.bench.program, "qc", out, out, 60)
-        air_result = checker.check(item.request, item.name, DAY, stretch).result
+        checker = Checker(self.bench.program, "qc", out, out)
+        air_result = checker.check(item, stretch).result
         checker.clear()
         assert air_result
         self.must(f"{name}: result", given.is_possible_verdict(air_result["verdict"],

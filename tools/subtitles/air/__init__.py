@@ -2,6 +2,7 @@
 
 segments    segments in a folder, and continuous parts of the feed
 recorder    writing segments, and deleting the oldest
+delivery    whether a subtitle file is complete
 schedule    when each programme is on air, and how it is judged
 check       judging a programme from a continuous part of the feed, in a forked process
 decision    choosing the result of a programme

@@ -8,6 +8,7 @@ import itertools
 import math
 import os
 import shutil
+import time
 from typing import Any, Callable, Mapping, NamedTuple
 
 from ..cli import single
@@ -19,12 +20,13 @@ from ..judging.part import Part
 from ..judging.status import ACCEPTED, NOT_JUDGED, REFUSED, RELATIVE, WAIVED
 from ..judging.verdict import Verdict
 from ..request.commands import CommandPaths
-from ..request.request import Request, Unclear
+from ..request.request import Unclear
 from ..results.files import ENDING, read_call_result
 from ..stream.survey import survey
-from .schedule import RECORDING
+from .schedule import Programme, RECORDING
 from .segments import UnbrokenRun
 
+REPORT_SECONDS = 5.0  # seconds between calls of `report`
 MIN_SECONDS, BYTES_PER_SECOND = 60.0, 2_000_000  # time limit: 60 s, plus 1 s for each 2 MB
 WORK = ".work-"  # prefix of the temporary folder in which a programme is judged
 HEAD_FILE = "head.ts"  # file in the temporary folder with the beginning of the recording
@@ -45,38 +47,47 @@ class Outcome(NamedTuple):
     reason: str
     # False if a refusal may only mean that the programme continues after the recorded part
     is_finished: bool = True
+    is_recorded: bool = True  # False if the programme may have been on air, but was not recorded
 
     @property
     def verdict(self) -> str | None:
         return None if self.result is None else str(self.result["verdict"])
 
     @property
+    def is_file_refused(self) -> bool:
+        """Return whether the programme is refused because of its subtitle file alone."""
+        return self.verdict == REFUSED and self.result is not None and \
+            self.result["inputs"]["recording"] is None
+
+    @property
     def is_final(self) -> bool:
-        """Return whether no later segment can change the result."""
-        if self.result is None:
-            return False
-        is_file_refused = self.verdict == REFUSED and self.result["inputs"]["recording"] is None
-        return self.verdict in CORRECT_VERDICTS or is_file_refused or (
-            self.verdict != NOT_JUDGED and self.is_finished)
+        """Return whether neither later segments nor a corrected subtitle file can change the
+        result."""
+        return self.verdict in CORRECT_VERDICTS or (
+            self.verdict not in (None, NOT_JUDGED) and self.is_finished
+            and not self.is_file_refused)
 
 
 class BeginCheck(NamedTuple):
-    """A check that a programme began within `margin` seconds of its air time. The recording begins
-    at `first`. `count_packets_until` returns for each PID the number of PES packets recorded before
-    a given time."""
+    """A check that a programme began at most `early` seconds before its air time, and less than
+    `late` seconds after it. The recording begins at `first`. `count_packets_until` returns for each
+    PID the number of PES packets recorded before a given time."""
 
     air_time: float
-    margin: float
+    early: float
+    late: float
     first: float
     count_packets_until: Callable[[float], Mapping[int, int]]
 
     def examine(self, verdict: Verdict) -> None:
-        """Add a note to the verdict if the programme began within `margin` seconds of its air time.
+        """Add a note to the verdict if the programme began within the margins of its air time.
         Raise `Unclear` if it began later, or if the pair is refused and the recording may lack the
         beginning of the programme."""
         if not verdict.parts or verdict.word == NOT_JUDGED:
             return
-        part, words = verdict.parts[0], f"{self.margin:g} s of {single.now(self.air_time)}"
+        part, date = verdict.parts[0], single.now(self.air_time)
+        words = f"{self.late:g} s of {date}" if self.early == self.late else \
+            f"{self.early:g} s before and {self.late:g} s after {date}"
         if part.alignment is None or part.pes is None:  # the subtitle file itself is refused
             return
         pid, _ = part.stream or (0, 0)
@@ -87,7 +98,7 @@ class BeginCheck(NamedTuple):
             raise Unclear("the first subtitle was expected before the first recorded PES packet of "
                           f"the page: the programme did not begin within {words}, or its beginning "
                           "was not recorded")
-        if begin_number(part) >= self.count_packets_until(self.air_time + self.margin).get(pid, 0):
+        if begin_number(part) >= self.count_packets_until(self.air_time + self.late).get(pid, 0):
             raise Unclear(f"the programme did not begin within {words}, but later")
         verdict.notes.append(f"begun within {words}")
 
@@ -121,14 +132,15 @@ def exit_status(verdict: Verdict) -> int:
 @dataclasses.dataclass
 class Checker:
     """Judges programmes. Each attempt creates a new folder `work` in `place`, so that a process
-    left by an earlier run can't interfere. Reports refer to the folder `out`."""
+    left by an earlier run can't interfere. Reports refer to the folder `out`. `report` is called
+    every few seconds while a programme is judged."""
 
     program: str | None
     program_name: str
     place: str
     out: str
-    margin: float
     is_kept: bool = False
+    report: Callable[[], None] = lambda: None
     work: str = ""
 
     def clear(self) -> None:
@@ -137,20 +149,20 @@ class Checker:
             if name.startswith(WORK):
                 shutil.rmtree(os.path.join(self.place, name), ignore_errors=True)
 
-    def check(self, request: Request, name: str, air_time: float, stretch: UnbrokenRun) -> Outcome:
-        """Judge the programme on air at `air_time` from a continuous part of the feed."""
+    def check(self, programme: Programme, stretch: UnbrokenRun) -> Outcome:
+        """Judge a programme from a continuous part of the feed."""
         self.clear()
         self.work = make_temporary_name(self.place, WORK)
-        first = max(stretch.begin, air_time - self.margin)
+        first = max(stretch.begin, programme.begin - programme.early)
         size = stretch.size(first, math.inf)
-        needed_bytes = size + stretch.size(first, air_time + self.margin) + SPARE_BYTES
+        needed_bytes = size + stretch.size(first, programme.begin + programme.late) + SPARE_BYTES
         try:
             os.mkdir(self.work)
             if shutil.disk_usage(self.work).free < needed_bytes:
                 return Outcome(None, f"no room in {self.place} for {needed_bytes:,} bytes")
             status, lines = run_forked(
-                lambda: run_main(lambda _: self.judge(request, name, air_time, stretch), ()),
-                MIN_SECONDS + size / BYTES_PER_SECOND)
+                lambda: run_main(lambda _: self.judge(programme, stretch), ()),
+                MIN_SECONDS + size / BYTES_PER_SECOND, self.report)
         except (OSError, Stop) as reason:
             return Outcome(None, format_error(reason))
         finally:
@@ -159,25 +171,29 @@ class Checker:
                     os.unlink(os.path.join(self.work, file))
         if status == FAILED or status < 0:
             return Outcome(None, lines[-1] if lines else "the process that judged it was killed")
+        name = programme.name
         result = read_call_result(os.path.join(self.work, name + ENDING), name,
                                   1 if status == UNFINISHED else status, lines)
         return Outcome(result, result["reason"] or result["worst_fault"], status != UNFINISHED)
 
-    def judge(self, request: Request, name: str, air_time: float, stretch: UnbrokenRun) -> int:
+    def judge(self, programme: Programme, stretch: UnbrokenRun) -> int:
         """Judge a programme in the current process. Return the exit status."""
-        recording, first = os.path.join(self.work, RECORDING), air_time - self.margin
+        air_time, request = programme.begin, programme.request
+        recording, first = os.path.join(self.work, RECORDING), air_time - programme.early
 
-        def count_packets_until(time: float) -> Mapping[int, int]:
+        def count_packets_until(end: float) -> Mapping[int, int]:
             head = os.path.join(self.work, HEAD_FILE)
             with open(head, "wb") as file:
-                file.writelines(stretch.read(first, time))
+                file.writelines(stretch.read(first, end))
             program = CommandPaths(self.program_name, self.program).program_path
             found = survey(program, head, request.page)
             return {pid: packets.count for pid, packets in found.by_pid.items()}
 
-        begin = BeginCheck(air_time, self.margin, max(first, stretch.begin), count_packets_until)
-        call = single.PairOptions(self.program, out=self.out, staging_folder=self.work, name=name,
-                                  is_claimed=True, is_kept=self.is_kept, examine=begin.examine)
+        begin = BeginCheck(air_time, programme.early, programme.late, max(first, stretch.begin),
+                           count_packets_until)
+        call = single.PairOptions(self.program, out=self.out, staging_folder=self.work,
+                                  name=programme.name, is_claimed=True, is_kept=self.is_kept,
+                                  examine=begin.examine)
         try:
             with open(recording, "xb") as file:
                 file.writelines(stretch.read(first, math.inf))
@@ -188,14 +204,19 @@ class Checker:
             return FAILED
 
 
-def run_forked(function: Callable[[], int], longest: float) -> tuple[int, list[str]]:
-    """Run a function in a forked process. Return its exit status and its lines on standard error.
-    Raise `Stop` after `longest` seconds. The process is killed on any exception."""
+def run_forked(function: Callable[[], int], longest: float, report: Callable[[], None]
+               ) -> tuple[int, list[str]]:
+    """Run a function in a forked process, and call `report` every few seconds meanwhile. Return the
+    exit status and the lines on standard error. Raise `Stop` after `longest` seconds. The process
+    is killed on any exception."""
     with hold_signals():
         process = ForkedProcess(function)
     try:
-        if not wait_for_any([process], longest):
-            raise Stop(f"it was not judged within {longest:.0f} seconds")
+        end = time.monotonic() + longest
+        while not wait_for_any([process], max(min(REPORT_SECONDS, end - time.monotonic()), 0)):
+            if time.monotonic() > end:
+                raise Stop(f"it was not judged within {longest:.0f} seconds")
+            report()
         return process.wait()
     except BaseException:
         process.kill()

@@ -13,30 +13,34 @@ RECORDER_LAG = 10.0  # seconds to wait after the end of a programme, since the r
 # seconds by which a recording may seem shorter than the programme that it contains
 LENGTH_TOLERANCE = 1.0
 MAX_GAPS = 3  # maximum number of gaps listed in a result
+# Seconds that must be recorded after a window before a programme is given up as not recorded. Until
+# then, a wrong clock may be the reason why the window seems to have passed.
+MIN_RECORDED_LATER = 3600.0
 
 
 class Window(NamedTuple):
-    """The scheduled period of a programme. The programme is searched for from `margin` seconds
-    before `begin` to `margin` seconds after `end`."""
+    """The scheduled period of a programme. The programme is searched for from `early` seconds
+    before `begin` to `late` seconds after `end`."""
 
     begin: float
     end: float
     length: float  # duration of the programme's subtitle file in seconds
-    margin: float
+    early: float
+    late: float
     more: float = 0.0  # extra seconds for a programme that began in time but has not ended yet
 
     @property
     def first(self) -> float:
-        return self.begin - self.margin
+        return self.begin - self.early
 
     @property
     def last(self) -> float:
-        return self.end + self.margin + self.more
+        return self.end + self.late + self.more
 
     def can_contain(self, stretch: UnbrokenRun) -> bool:
         """Return whether a recorded part is long and early enough to contain the programme."""
         is_long_enough = stretch.end - stretch.begin >= self.length - LENGTH_TOLERANCE
-        return is_long_enough and stretch.begin < self.begin + self.margin
+        return is_long_enough and stretch.begin < self.begin + self.late
 
 
 def describe_gaps(window: Window, recorded_runs: Sequence[UnbrokenRun],
@@ -50,21 +54,21 @@ def describe_gaps(window: Window, recorded_runs: Sequence[UnbrokenRun],
 
 def decide(name: str, outcomes: Sequence[Outcome], gaps: Sequence[str], has_passed: bool,
            failure: str = "") -> Outcome | None:
-    """Return the final outcome of a programme from the outcomes of all recorded parts that may
-    contain it. Return `None` if later segments may still change it. `has_passed` is true after the
-    end of the window. `failure` is the last system error."""
+    """Return the outcome of a programme from the outcomes of all recorded parts that may contain
+    it. Return `None` if later segments may still change it. `has_passed` is true after the end of
+    the window. `failure` is the last system error."""
     failed = next((outcome for outcome in outcomes if outcome.result is None), None)
     final_outcome = failed or next((outcome for outcome in outcomes if outcome.is_final), None)
     if final_outcome or not has_passed:
         return final_outcome
-    if outcomes and not gaps:  # the feed was recorded during the whole window
-        return outcomes[0]
+    if outcomes and (not gaps or outcomes[0].is_file_refused):
+        return outcomes[0]  # the feed was recorded during the whole window, or does not matter
     gap_text = ", ".join(gaps[:MAX_GAPS]) or "some seconds"
     more = f" and {len(gaps) - MAX_GAPS} more" if len(gaps) > MAX_GAPS else ""
     rest = f"; of the rest: {outcomes[0].reason}" if outcomes else ""
     before = f"; before that: {failure}" if failure else ""
     reason = f"not recorded: {gap_text}{more}{rest}{before}"
-    return Outcome(make_unjudged(name, reason), reason)
+    return Outcome(make_unjudged(name, reason), reason, is_recorded=False)
 
 
 def compute_retry_delay(window: Window, now: float) -> float:

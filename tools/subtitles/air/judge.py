@@ -4,8 +4,10 @@ from __future__ import annotations
 
 import argparse
 import contextlib
+import math
 import os
 import shutil
+import signal
 import subprocess
 import sys
 import time
@@ -13,26 +15,31 @@ import time
 from ..cli.single import handle_signals, hold_lock, now as date
 from ..common.command_line import Stop, format_error, print_stdout
 from ..common.files import TEMPORARY_PREFIX, open_result
+from ..judging.status import NOT_JUDGED
 from ..request.commands import CommandPaths
 from ..results.files import ENDING, encode_result, make_unjudged
 from .check import Checker, Outcome
-from .decision import RECORDER_LAG, Window, compute_retry_delay, decide, describe_gaps
-from .schedule import Programme, Schedule, measure_length, read_schedule
+from .decision import (
+    MIN_RECORDED_LATER, RECORDER_LAG, Window, compute_retry_delay, decide, describe_gaps)
+from .delivery import Delivery, read_delivery
+from .schedule import Programme, Schedule, read_schedule
 from .segments import find_segments, find_unbroken_runs
 from .state import Monitor, write_state
 
 # minimum and maximum delay in seconds after a system error
 RETRY_SECONDS, MAX_RETRY_SECONDS = 2.0, 60.0
 SHARE = 10  # failing programmes get at most a tenth of the judging time
+CLOCK_SECONDS = 600.0  # seconds between attempts while the clock is wrong
 HOOK_SECONDS = 10  # time limit of the command of --on-result
 
 
 class Attempts:
-    """The time of the next attempt to judge a programme, the number of system errors, and the
-    reason for the last error."""
+    """The times of the last and the next attempt to judge a programme, the reason why it was not
+    judged yet, the number of system errors, and the last of them."""
 
     def __init__(self) -> None:
-        self.next, self.failures, self.reason = 0.0, 0, ""
+        self.last = self.next = 0.0
+        self.reason, self.failures, self.failure = "", 0, ""
 
 
 class Judge:
@@ -42,7 +49,7 @@ class Judge:
         self.args, self.segments, self.out = args, args.segments, args.out
         self.program = CommandPaths(program_name, args.program).program_path
         self.checker = Checker(args.program, program_name, args.work or args.out, args.out,
-                               args.margin, args.is_kept)
+                               args.is_kept)
         self.attempts: dict[str, Attempts] = {}
         self.schedule = Schedule()
         self.monitor = Monitor()
@@ -50,21 +57,30 @@ class Judge:
     def look(self, now: float) -> bool:
         """Judge the first programme that is ready, and write the state file. Return whether any
         programme was ready."""
-        self.read_schedule()
+        start_time = time.monotonic()
+        self.checker.report = lambda: self.report(now + time.monotonic() - start_time)
+        self.read_schedule(now)
+        if not self.monitor.now:  # the clock was not compared with the segments yet
+            self.checker.report()
+        is_tried = any(self.try_to_judge(item, now) for item in self.waiting())
+        self.checker.report()
+        return is_tried
+
+    def report(self, now: float) -> None:
+        """Write the state file."""
         waiting = self.waiting()
-        tried = next((item for item in waiting if self.try_to_judge(item, now)), None)
-        waiting = self.waiting() if tried else waiting
         self.monitor.waiting = len(waiting)
         self.monitor.late = [item.name for item in waiting if self.is_late(item, now)]
+        begins = [item.begin - item.early for item in waiting if item.begin - item.early < now]
         self.monitor.look(self.segments, self.out, now, self.program,
-                          {item.request.page for item in waiting})
+                          {item.request.page for item in self.schedule.programmes},
+                          min([now - 2 * self.args.margin, *begins]))
         write_state(self.out, self.monitor.state())
-        return tried is not None
 
-    def read_schedule(self) -> None:
+    def read_schedule(self, now: float) -> None:
         """Read the schedule. If it can't be read, keep the previous one."""
         try:
-            self.schedule = read_schedule(self.args.schedule, self.args, self.schedule)
+            self.schedule = read_schedule(self.args.schedule, self.args, now, self.schedule)
             self.monitor.schedule_faults = [*self.schedule.faults]
         except (OSError, Stop) as reason:
             self.monitor.schedule_faults = [format_error(reason)]
@@ -72,74 +88,113 @@ class Judge:
     def waiting(self) -> list[Programme]:
         """Return the programmes without a result, earliest first."""
         files = {*os.listdir(self.out)}
-        return sorted((item for item in self.schedule.programmes
-                       if item.name + ENDING not in files),
-                      key=lambda item: item.begin)
+        return [item for item in self.schedule.programmes if item.name + ENDING not in files]
 
     def is_late(self, programme: Programme, now: float) -> bool:
         """Return whether the result of a programme is overdue."""
         margin: float = self.args.margin
-        return now > programme.begin + 2 * margin and now > self.window(programme).last + margin
+        return now > programme.begin + 2 * margin and \
+            now > self.window(programme, self.read_delivery(programme, now)).last + margin
 
     def try_to_judge(self, programme: Programme, now: float) -> bool:
         """Judge a programme if it is over. Return whether an attempt was made."""
         attempts, start_time = self.attempts.setdefault(programme.name,
                                                         Attempts()), time.monotonic()
-        if now < max(attempts.next, programme.begin + RECORDER_LAG):
+        # If the clock was set back, the time of the next attempt may be far ahead.
+        if attempts.last <= now < attempts.next or now < programme.begin + RECORDER_LAG:
             return False
+        attempts.last = attempts.next = now
         try:
-            window = self.window(programme)
+            delivery = self.read_delivery(programme, now)
+            window = self.window(programme, delivery)
             if now < window.end + RECORDER_LAG:
                 return False
-            outcome = self.judge(programme, window, now)
+            programme = self.limit_margins(programme, delivery, now)
+            window = self.window(programme, delivery)
+            outcome = self.judge(programme, window, delivery, now)
             if outcome and outcome.result and not outcome.is_finished:
                 window = window._replace(more=window.length)  # breaks may delay the programme's end
-                outcome = self.judge(programme, window, now)
+                outcome = self.judge(programme, window, delivery, now)
             if outcome is None:
                 attempts.next = now + compute_retry_delay(window, now)
             elif outcome.result is None:
                 self.retry(programme, now, start_time, outcome.reason)
+            elif (seconds := self.count_doubtful_seconds(outcome, window)) > 0:
+                self.retry(programme, now, start_time, outcome.reason, seconds)
             else:
                 self.publish(programme.name, outcome)
         except Exception as reason:  # other programmes must still be judged
             self.retry(programme, now, start_time, format_error(reason))
         return True
 
-    def window(self, programme: Programme) -> Window:
-        """Return the window in which to search for a programme. Its length is 0 if the subtitle
-        file is missing. A scheduled end before the end of the subtitle file is ignored."""
-        length = 0.0
-        with contextlib.suppress(OSError):
-            length = measure_length(programme.request)
-        end = max(programme.end or 0.0, programme.begin + length)
-        return Window(programme.begin, end, length, self.args.margin)
+    def read_delivery(self, programme: Programme, now: float) -> Delivery:
+        """Return the state of a programme's subtitle file."""
+        return read_delivery(programme.request, now, self.args.settled)
 
-    def judge(self, programme: Programme, window: Window, now: float) -> Outcome | None:
+    @staticmethod
+    def window(programme: Programme, delivery: Delivery) -> Window:
+        """Return the window in which to search for a programme. A scheduled end before the end of
+        the subtitle file is ignored."""
+        length = delivery.content.length
+        end = max(programme.end or 0.0, programme.begin + length)
+        return Window(programme.begin, end, length, programme.early, programme.late)
+
+    def limit_margins(self, programme: Programme, delivery: Delivery, now: float) -> Programme:
+        """End the margins of a programme half way to other lines with the same subtitles and page,
+        so that an airing counts only for the line that is nearest to it."""
+        times = [(item.begin - programme.begin) / 2 for item in self.schedule.programmes
+                 if item.request.page == programme.request.page
+                 and 0 < abs(item.begin - programme.begin) < 2 * self.args.margin
+                 and self.read_delivery(item, now).content == delivery.content]
+        return programme._replace(
+            early=min([programme.early, *(-time for time in times if time < 0)]),
+            late=min([programme.late, *(time for time in times if time > 0)]))
+
+    def count_doubtful_seconds(self, outcome: Outcome, window: Window) -> float:
+        """Return the seconds until the next attempt if a wrong clock may be the reason why a
+        programme is not judged. Return 0 if the result is certain."""
+        if outcome.verdict == NOT_JUDGED and self.monitor.is_clock_wrong:
+            return CLOCK_SECONDS
+        if outcome.is_recorded:
+            return 0.0
+        recorded_seconds = sum(item.end - max(item.begin, window.last) for item in
+                               find_segments(self.segments, window.last, math.inf))
+        doubtful_seconds = MIN_RECORDED_LATER - recorded_seconds
+        return max(doubtful_seconds, RECORDER_LAG) if doubtful_seconds > 0 else 0.0
+
+    def judge(self, programme: Programme, window: Window, delivery: Delivery, now: float
+              ) -> Outcome | None:
         """Judge each recorded part that may contain a programme, until a result is final. Return
         `None` if later segments may still change the result."""
         name, has_passed = programme.name, now >= window.last + RECORDER_LAG
         segments = find_segments(self.segments, window.first, window.last)
-        if not os.path.exists(programme.request.stl):
-            reason = f"{programme.request.stl} does not exist"
-            has_window_ended = has_passed and not segments
-            return Outcome(make_unjudged(name, reason) if has_window_ended else None, reason)
+        if delivery.fault:
+            is_lost = has_passed and not segments  # the programme can't be judged any more
+            return Outcome(make_unjudged(name, delivery.fault) if is_lost else None,
+                           delivery.fault, is_recorded=False)
         recorded_runs, outcomes = [*find_unbroken_runs(segments, self.args.pause)], list[Outcome]()
         for stretch in filter(window.can_contain, recorded_runs):
-            outcomes.append(self.checker.check(programme.request, name, window.begin, stretch))
-            if outcomes[-1].is_final or outcomes[-1].result is None:
+            outcomes.append(self.checker.check(programme, stretch))
+            if outcomes[-1].is_final or outcomes[-1].result is None or outcomes[-1].is_file_refused:
                 break
+        if self.read_delivery(programme, now).version != delivery.version:
+            return Outcome(None, f"{programme.request.stl} was changed while it was judged")
         gaps = describe_gaps(window, recorded_runs, self.args.pause)
-        return decide(name, outcomes, gaps, has_passed, self.attempts[name].reason)
+        return decide(name, outcomes, gaps, has_passed, self.attempts[name].failure)
 
-    def retry(self, programme: Programme, now: float, start_time: float, reason: str) -> None:
-        """Schedule another attempt after a system error. Report each reason once."""
+    def retry(self, programme: Programme, now: float, start_time: float, reason: str,
+              seconds: float | None = None) -> None:
+        """Schedule another attempt after `seconds`, or after a system error. Report each reason
+        once."""
         attempts, elapsed_seconds = self.attempts[programme.name], time.monotonic() - start_time
         if reason != attempts.reason:
             line, *_ = reason.split("\n")
             print_stdout(f"{date()}  {programme.name}: will be tried again: {line}")
-        delay = min(RETRY_SECONDS * 2 ** min(attempts.failures, 10), MAX_RETRY_SECONDS)
-        attempts.next, attempts.reason = now + max(delay, SHARE * elapsed_seconds), reason
-        attempts.failures += 1
+        if seconds is None:
+            delay = min(RETRY_SECONDS * 2 ** min(attempts.failures, 10), MAX_RETRY_SECONDS)
+            seconds = max(delay, SHARE * elapsed_seconds)
+            attempts.failures, attempts.failure = attempts.failures + 1, reason
+        attempts.next, attempts.reason = now + seconds, reason
         self.monitor.last_error = f"{programme.name}: {reason}"
 
     def publish(self, name: str, outcome: Outcome) -> None:
@@ -163,10 +218,16 @@ class Judge:
         self.call_hook(os.path.join(self.out, main), outcome.result["verdict"])
 
     def call_hook(self, *words: str) -> None:
-        """Run the command of --on-result, if any, and ignore its failure."""
+        """Run the command of --on-result, if any, and ignore its failure. After some seconds, kill
+        it and its children."""
         if self.args.on_result:
-            with contextlib.suppress(OSError, subprocess.SubprocessError):
-                subprocess.run([self.args.on_result, *words], timeout=HOOK_SECONDS, check=False)
+            with contextlib.suppress(OSError):
+                process = subprocess.Popen([self.args.on_result, *words], start_new_session=True)
+                try:
+                    process.wait(HOOK_SECONDS)
+                except subprocess.TimeoutExpired:
+                    os.killpg(process.pid, signal.SIGKILL)
+                    process.wait()
 
 
 def judge_schedule(args: argparse.Namespace, program_name: str) -> int:

@@ -42,6 +42,9 @@ def make_judge_parser() -> ToolParser:
     parser.add_argument("--pause", metavar="S", type=read_seconds, default=5,
                         help="treat a pause of more than S seconds between two segments as not "
                              "recorded (default: 5)")
+    parser.add_argument("--settled", metavar="S", type=read_seconds, default=60,
+                        help="treat a subtitle file as complete after S seconds without change "
+                             "(default: 60)")
     parser.add_argument("--every-seconds", metavar="S", type=read_seconds, default=5,
                         help="look for new segments every S seconds (default: 5)")
     parser.add_argument("--once", dest="is_once", action="store_true",

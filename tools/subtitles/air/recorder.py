@@ -5,6 +5,7 @@ from __future__ import annotations
 import contextlib
 import errno
 import fcntl
+import math
 import os
 import threading
 import time
@@ -18,8 +19,10 @@ MAX_READ_BYTES = 1 << 18  # maximum number of bytes per read
 PIPE_SIZE = 1 << 20  # pipe buffer in bytes: 0.2 seconds at 40 Mbit/s
 # Seconds between writes to a full disk, and seconds after which unwritten bytes are dropped.
 WRITE_RETRY, WRITE_PATIENCE = 0.1, 5.0
-# maximum number of segments deleted per call, so that the feed is not delayed
-MAX_DELETED_SEGMENTS = 50
+# Maximum number of segments deleted for each new segment, so that neither a wrong clock nor other
+# files on the disk delete the recording before an alarm is noticed.
+MAX_DELETED_SEGMENTS = 2
+MAX_STEP_BACK = 10.0  # seconds by which the names of segments may be ahead of the clock
 
 
 class Limits(NamedTuple):
@@ -36,6 +39,7 @@ class Recorder:
     def __init__(self, folder: str, limits: Limits) -> None:
         self.folder, self.limits = folder, limits
         self.file: int | None = None
+        self.name = ""  # name of the current segment
         self.is_new = True  # data before the next segment may be missing
         self.segment_begin = self.latest = 0.0  # segment start, and the time in the segment's name
 
@@ -49,7 +53,7 @@ class Recorder:
             except OSError as error:
                 if error.errno != errno.ENOSPC:
                     raise
-                if not self.delete_oldest(1):
+                if not self.delete_oldest():
                     if time.monotonic() > deadline:
                         print_stderr(f"{self.folder} has no room: {len(left)} bytes are lost")
                         self.close()
@@ -69,13 +73,16 @@ class Recorder:
         return self.file
 
     def open_segment(self, now: float) -> int:
-        """Open a new segment, named so that it sorts last even if the clock was set back."""
-        last = list_segment_names(self.folder)[-1:]
-        self.latest = max(now, self.latest + 0.001, *(begin + 0.001 for begin, _ in last))
-        if self.latest > now + 1:
-            print_stderr(f"the system's clock is {self.latest - now:.0f} seconds behind the last "
-                         "segment")
-        file = os.open(os.path.join(self.folder, make_segment_name(self.latest, self.is_new)),
+        """Open a new segment. If the clock was set back by a few seconds, name the segment so that
+        it still sorts last. Otherwise name it by the clock, since the clock was wrong before."""
+        if self.latest > now + MAX_STEP_BACK:
+            print_stderr(f"the clock was set back by {self.latest - now:.0f} seconds")
+            self.is_new = True
+        begins = [self.latest, *(begin for begin, _ in list_segment_names(self.folder))]
+        self.latest = max([now, *(begin + 0.001 for begin in begins
+                                  if begin <= now + MAX_STEP_BACK)])
+        self.name = make_segment_name(self.latest, self.is_new)
+        file = os.open(os.path.join(self.folder, self.name),
                        os.O_WRONLY | os.O_CREAT | os.O_APPEND | os.O_CLOEXEC)
         self.is_new = False
         return file
@@ -87,24 +94,22 @@ class Recorder:
             self.file = None
 
     def make_room(self, now: float) -> None:
-        """Delete segments after their retention time. Then delete the oldest segments until enough
-        disk space is free."""
-        while self.delete_oldest(MAX_DELETED_SEGMENTS, now - self.limits.kept):
-            pass
+        """Delete segments after their retention time, and the oldest if too little disk space is
+        free."""
         for _ in range(MAX_DELETED_SEGMENTS):
             info = os.statvfs(self.folder)
-            if info.f_bavail * info.f_frsize >= self.limits.free or not self.delete_oldest(1):
-                break
+            is_short = info.f_bavail * info.f_frsize < self.limits.free
+            self.delete_oldest(math.inf if is_short else now - self.limits.kept)
 
-    def delete_oldest(self, most: int, before: float | None = None) -> bool:
-        """Delete up to `most` of the oldest segments, but never the last segment. If `before` is
-        given, delete only segments that begin before that time. Return whether any was deleted."""
-        oldest_names = [name for begin, name in list_segment_names(self.folder)[:-1]
-                        if before is None or begin < before][:most]
-        for name in oldest_names:
-            with contextlib.suppress(FileNotFoundError):
-                os.unlink(os.path.join(self.folder, name))
-        return bool(oldest_names)
+    def delete_oldest(self, before: float = math.inf) -> bool:
+        """Delete the oldest segment if it begins before a time, but neither the last nor the
+        current segment. Return whether it was deleted."""
+        for begin, name in list_segment_names(self.folder)[:-1][:1]:
+            if begin < before and name != self.name:
+                with contextlib.suppress(FileNotFoundError):
+                    os.unlink(os.path.join(self.folder, name))
+                return True
+        return False
 
 
 def store_and_close(file: int) -> None:

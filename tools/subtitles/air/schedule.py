@@ -4,15 +4,11 @@ from __future__ import annotations
 import argparse
 import contextlib
 import datetime
-import functools
 import os
 import re
 from typing import NamedTuple, Sequence
 
 from ..common.command_line import Stop, format_error
-from ..common.files import DamagedFile
-from ..common.times import FRAMES_A_SECOND, FRAMES_OF_A_DAY, FrameRange
-from ..formats.stl import read_stl, get_subtitle_times, read_stored_subtitles
 from ..request.commands import make_pair_name
 from ..request.lines import Line, split_lines, read_list, make_line_request
 from ..request.request import Request
@@ -20,21 +16,26 @@ from ..request.request import Request
 TIME = re.compile(r"\d{4}-\d\d-\d\dT\d\d:\d\d:\d\d(\.\d{1,6})?(Z|[+-]\d\d:\d\d)", re.ASCII)
 FORMATS = "%Y-%m-%dT%H:%M:%S%z", "%Y-%m-%dT%H:%M:%S.%f%z"  # without and with a fraction of a second
 EXAMPLE = "2026-11-29T20:15:00Z"
+USUAL_PAGE = "888"
 RECORDING = "recording.ts"  # file name of the recording that is judged
 
 
 class Programme(NamedTuple):
     """A programme in the schedule: the name of its result, and its air time in seconds since the
-    epoch. If `end` is `None`, the programme is as long as its subtitle file."""
+    epoch. If `end` is `None`, the programme is as long as its subtitle file. It may begin up to
+    `early` seconds before its air time and up to `late` seconds after it."""
 
     name: str
     begin: float
     end: float | None
     request: Request
+    early: float
+    late: float
 
 
 class Schedule(NamedTuple):
-    """The programmes of a schedule, a message for each faulty line, and the complete text."""
+    """The programmes of a schedule, earliest first, a message for each faulty line, and the
+    complete text."""
 
     programmes: Sequence[Programme] = ()
     faults: Sequence[str] = ()
@@ -62,17 +63,21 @@ def parse_air_times(word: str) -> tuple[float, float | None]:
     return begin, end
 
 
-def make_result_name(begin: float, stl: str) -> str:
-    """Return the name of a result: the air time and the name of the subtitle file."""
+def make_result_name(begin: float, request: Request) -> str:
+    """Return the name of a result: the air time, the name of the subtitle file, and the page unless
+    it is 888."""
     date = datetime.datetime.fromtimestamp(begin, datetime.timezone.utc)
-    return f"{date:%Y%m%dT%H%M%SZ}-{make_pair_name(stl)}"
+    page = f"-{request.page_name}" if request.page_name != USUAL_PAGE else ""
+    return f"{date:%Y%m%dT%H%M%SZ}-{make_pair_name(request.stl)}{page}"
 
 
-def read_schedule(path: str, options: argparse.Namespace, known: Schedule = Schedule()) -> Schedule:
-    """Read a schedule up to its last line feed, since the last line may be incomplete. Return
-    `known` if the file has not changed."""
-    text = read_list(path)
-    text = text[:text.rfind("\n") + 1]
+def read_schedule(path: str, options: argparse.Namespace, now: float,
+                  known: Schedule = Schedule()) -> Schedule:
+    """Read a schedule. Ignore a last line without a line end until the file is settled, since the
+    line may be incomplete. Return `known` if the file has not changed."""
+    text = read_list(path).replace("\r\n", "\n").replace("\r", "\n")
+    if os.stat(path).st_mtime > now - options.settled:
+        text = text[:text.rfind("\n") + 1]
     return known if text == known.text else parse_schedule(text, os.path.dirname(path), options)
 
 
@@ -91,7 +96,7 @@ def parse_schedule(text: str, folder: str, options: argparse.Namespace) -> Sched
                           f"{programme.name}, as that of line {lines[programme.name]}")
         programmes.setdefault(programme.name, programme)
         lines.setdefault(programme.name, line.number)
-    return Schedule([*programmes.values()], faults, text)
+    return Schedule(sorted(programmes.values(), key=lambda item: item.begin), faults, text)
 
 
 def parse_line(line: Line, folder: str, options: argparse.Namespace) -> Programme:
@@ -106,22 +111,5 @@ def parse_line(line: Line, folder: str, options: argparse.Namespace) -> Programm
     if request.start or request.pes:
         raise Stop("--start and --pes depend on where the programme is in the segments, which is "
                    "not known: remove them")
-    return Programme(make_result_name(begin, stl), begin, end, request)
-
-
-def measure_length(request: Request) -> float:
-    """Return the number of seconds from the first TCI to the last TCO. Return 0 if the subtitle
-    file can't be read, since `check` will refuse it. Raise `OSError` if there is no such file."""
-    info = os.stat(request.stl)
-    return measure_cached_length(request.stl, info.st_mtime_ns, info.st_size, request.between)
-
-
-@functools.lru_cache(maxsize=10_000)
-def measure_cached_length(path: str, _modified: int, _size: int, between: FrameRange) -> float:
-    times = list[tuple[int, int]]()
-    with contextlib.suppress(DamagedFile, Stop):
-        for subtitle in read_stored_subtitles(read_stl(path)):
-            begin, end = get_subtitle_times(subtitle)
-            if begin is not None and end is not None and between.includes(begin):
-                times.append((begin, end))
-    return (times[-1][1] - times[0][0]) % FRAMES_OF_A_DAY / FRAMES_A_SECOND if times else 0.0
+    return Programme(make_result_name(begin, request), begin, end, request,
+                     options.margin, options.margin)

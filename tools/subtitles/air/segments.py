@@ -18,6 +18,7 @@ NAME = re.compile(r"(?:.*\D)?(\d{4})-?(\d\d)-?(\d\d)[T_-]?(\d\d)[-.:]?(\d\d)[-.:
                   r"(\.\d{1,6})?Z?(?:-new)?\.(?:ts|m2ts|mts|trp)", re.ASCII | re.DOTALL)
 NEW = "-new.ts"  # suffix of a segment's name if data before the segment may be missing
 BLOCK = 1 << 19  # bytes per read, and bytes to compare on each side of a segment boundary
+MAX_STALL = 60.0  # seconds for which a recorder may stall without losing data
 PACKET_SIZES, SYNC = (188, 192, 204), 0x47
 MIN_SYNC_PACKETS = 5  # number of sync bytes needed to find where TS packets begin
 Sides = tuple[list[int], list[int]]  # counters or PCR, before and after a segment boundary
@@ -167,14 +168,16 @@ def is_usual_step(before: Sequence[int], after: Sequence[int]) -> bool:
 def find_unbroken_runs(segments: Iterable[Segment], longest_pause: float) -> Iterator[UnbrokenRun]:
     """Divide segments into continuous parts of the feed. A part ends where TS packets are missing.
     It also ends where a segment's name or a pause of more than `longest_pause` seconds shows a gap,
-    unless the TS packets clearly continue. If only the TS packets show the gap, the segment before
-    the gap is incomplete, and is omitted."""
+    unless the TS packets clearly continue. If they continue after a longer pause than a recorder
+    can stall, the clock was changed. If only the TS packets show the gap, the segment before the
+    gap is incomplete, and is omitted."""
     stretch = list[Segment]()
     for segment in segments:
         is_continuation = is_continued(stretch[-1], segment) if stretch else None
-        is_expected = bool(stretch) and (segment.is_new
-                                         or segment.begin - stretch[-1].end > longest_pause)
-        if is_continuation is False or is_expected and not is_continuation:
+        pause = segment.begin - stretch[-1].end if stretch else 0.0
+        is_expected = bool(stretch) and (segment.is_new or pause > longest_pause)
+        if is_continuation is False or is_expected and not is_continuation or \
+                pause > max(longest_pause, MAX_STALL):
             if complete_run := stretch if is_expected else stretch[:-1]:
                 yield UnbrokenRun(tuple(complete_run))
             stretch = []
