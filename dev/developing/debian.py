@@ -10,7 +10,7 @@ import subprocess
 
 from subtitles.common.command_line import Stop
 from subtitles.common.files import add_name_to_errors
-from subtitles.common.program import PAGES, copy, list_documents, install, link, write
+from subtitles.common.program import TOP, PAGES, copy, list_documents, install, link, write
 
 NAME = "subttx"
 ARCHITECTURE = "amd64"
@@ -32,9 +32,21 @@ This package states no licence. Ask whoever gave it to you what you may do with 
 """
 # Python compiles the tools after installation; the bytecode is removed with the package.
 FOLDER = f"/usr/lib/{NAME}/tools/subtitles"
+UNITS = ["subttx-air-record@.service", "subttx-air-judge@.service", "subttx-watch@.service"]
+PATTERNS = [f"'{unit.replace('@', '@*')}'" for unit in UNITS]
+# An upgrade does not restart the recorder, since a programme on air would have a gap.
+RESTARTED = " ".join(PATTERNS[1:])
+USER = f'u {NAME} - "Teletext subtitles" /var/lib/{NAME}\n'
 SCRIPTS = {
-    "postinst": f"python3 -m compileall -q --invalidation-mode unchecked-hash {FOLDER}",
-    "prerm": f"find {FOLDER} -depth -name __pycache__ -exec rm -r {{}} +"}
+    "postinst": f"""\
+python3 -m compileall -q --invalidation-mode unchecked-hash {FOLDER}
+! command -v systemd-sysusers >/dev/null || systemd-sysusers {NAME}.conf
+[ ! -d /run/systemd/system ] || systemctl daemon-reload
+[ ! -d /run/systemd/system ] || systemctl try-restart {RESTARTED}""",
+    "prerm": f"""\
+[ "$1" != remove ] || [ ! -d /run/systemd/system ] || systemctl stop {" ".join(PATTERNS)}
+find {FOLDER} -depth -name __pycache__ -exec rm -r {{}} +""",
+    "postrm": "[ ! -d /run/systemd/system ] || systemctl daemon-reload"}
 # The program must not be stripped, because PROVED contains its SHA-256.
 OVERRIDES = f"{NAME}: unstripped-binary-or-object [usr/bin/subttx]\n"
 
@@ -76,12 +88,21 @@ def add_documents(root: str, version: str, proved: str, date: str) -> None:
     write(os.path.join(root, "usr", "share", "lintian", "overrides", NAME), OVERRIDES)
 
 
+def add_units(root: str) -> None:
+    """Add the units of systemd, the user that they run as, and the folder of their settings."""
+    for unit in UNITS:
+        copy(os.path.join(TOP, "docs", "manual", unit),
+             os.path.join(root, "usr", "lib", "systemd", "system", unit))
+    write(os.path.join(root, "usr", "lib", "sysusers.d", f"{NAME}.conf"), USER)
+    os.makedirs(os.path.join(root, "etc", NAME))
+
+
 def add_control(root: str, version: str) -> None:
     """Add the package's control file and the checksums of its files."""
     size = sum(os.path.getsize(os.path.join(root, name)) for name in list_files_below(root))
     sums = list_checksums(root, "md5")
     fields = {"Package": NAME, "Version": version, "Section": "video", "Priority": "optional",
-              "Architecture": ARCHITECTURE, "Depends": DEPENDENCIES,
+              "Architecture": ARCHITECTURE, "Depends": DEPENDENCIES, "Recommends": "socat",
               "Maintainer": find_maintainer(), "Installed-Size": str(size // 1024 + 1),
               "Description": SUMMARY}
     lines = "".join(f"{name}: {value}\n" for name, value in fields.items())
@@ -116,6 +137,7 @@ def make_package(program: str, proved: str, version: str, work: str, path: str, 
     install(program, os.path.join(root, "usr"))
     compress_man_pages(root)
     add_documents(root, version, proved, "Sat, 01 Jan 2000 00:00:00 +0000")
+    add_units(root)
     add_control(root, version)
     set_modes_and_times(root, time)
     result = os.path.join(work, "made.deb")

@@ -226,8 +226,8 @@ class Calls(Feeds):
 
     def test_reports_wrong_arguments_in_one_line_with_status_2(self) -> None:
         rows: dict[str, str] = {
-            "": "the first argument must be record or judge",
-            "watch": "the first argument must be record or judge",
+            "": "the first argument must be record, judge or status",
+            "watch": "the first argument must be record, judge or status",
             "judge schedule nothing -o o": "nothing is not a folder: start `record` first, or give "
                                            "its folder",
             "judge schedule segments": "the following arguments are required: -o",

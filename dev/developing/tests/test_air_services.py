@@ -10,9 +10,11 @@ from subtitles.common.program import TOP
 from .bench import Case, get_tool_path
 
 MANUAL = os.path.join(TOP, "docs", "manual")
-RECORD_UNIT, JUDGE_UNIT = "subttx-air-record.service", "subttx-air-judge.service"
+RECORD_UNIT, JUDGE_UNIT = "subttx-air-record@.service", "subttx-air-judge@.service"
+WATCH_UNIT = "subttx-watch@.service"
+STATE = "/var/lib/"  # the folder of StateDirectory=
 # For each unit, the argument that precedes the folder to which its command writes.
-UNITS = {RECORD_UNIT: "record", JUDGE_UNIT: "-o", "subttx-watch.service": "-o"}
+UNITS = {RECORD_UNIT: "record", JUDGE_UNIT: "-o", WATCH_UNIT: "-o"}
 
 
 def read_unit(name: str) -> configparser.ConfigParser:
@@ -37,7 +39,8 @@ class Units(Case):
             unit = read_unit(name)
             words = split_unit_command(unit["Service"]["ExecStart"])
             written = words[words.index(option) + 1]
-            self.check(name, unit["Service"]["ReadWritePaths"].split(), [written])
+            self.check(name, STATE + unit["Service"]["StateDirectory"], written)
+            self.must(f"{name}: no other", "ReadWritePaths" not in unit["Service"])
             self.check(f"{name}: all else", unit["Service"]["ProtectSystem"], "strict")
             mounted = unit["Unit"]["RequiresMountsFor"].split()
             self.must(f"{name}: its disk is there", any(
@@ -46,22 +49,23 @@ class Units(Case):
     def test_the_judge_reads_the_recorders_folder(self) -> None:
         words = {name: split_unit_command(read_unit(name)["Service"]["ExecStart"])
                  for name in UNITS}
-        self.must("the same folder", words[RECORD_UNIT][-1] in words[JUDGE_UNIT], words)
+        self.must("the same folder", words[RECORD_UNIT][-2] in words[JUDGE_UNIT], words)
 
     def test_a_signal_stops_each_judge(self) -> None:
-        for name in (JUDGE_UNIT, "subttx-watch.service"):
+        for name in (JUDGE_UNIT, WATCH_UNIT):
             service = read_unit(name)["Service"]
             self.check(name, service["SuccessExitStatus"], "2")
         self.check("kill mode", service["KillMode"], "mixed")
-        self.must("languages", "--option auto" in service["ExecStart"], service["ExecStart"])
+        with open(os.path.join(MANUAL, "subttx-channel.conf"), encoding="utf-8") as file:
+            lines = [line for line in file if "--option auto" in line]
+        self.check("languages", [line.partition("=")[0] for line in lines], ["JUDGE", "WATCH"])
 
     def test_systemd_restarts_the_units_without_a_limit(self) -> None:
         for name in UNITS:
             unit = read_unit(name)
             self.check(name, unit["Service"]["Restart"], "always")
-            if name in (RECORD_UNIT, JUDGE_UNIT):
-                self.check(f"{name}: limit", unit["Unit"]["StartLimitIntervalSec"], "0")
-                self.must(f"{name}: wait", int(unit["Service"]["RestartSec"]) > 0)
+            self.check(f"{name}: limit", unit["Unit"]["StartLimitIntervalSec"], "0")
+            self.must(f"{name}: wait", int(unit["Service"]["RestartSec"]) > 0)
 
     def test_systemd_accepts_the_units(self) -> None:
         if not shutil.which("systemd-analyze"):
@@ -70,7 +74,8 @@ class Units(Case):
             with open(os.path.join(MANUAL, name), encoding="utf-8") as file:
                 text = file.read()
             text = text.replace("subttx-air ", get_tool_path("air") + " ").replace(
-                "/usr/bin/subttx-qc", get_tool_path("qc")).replace("User=subtitles", "User=root")
-            process = self.call(["systemd-analyze", "verify", self.write(name, text.encode())])
-            own = [line for line in process.told if name in line]
+                "subttx-qc ", get_tool_path("qc") + " ").replace("User=subttx", "User=root")
+            unit_name = name.replace("@", "@news")
+            process = self.call(["systemd-analyze", "verify", self.write(unit_name, text.encode())])
+            own = [line for line in process.told if unit_name in line]
             self.must(name, process.status == 0 and not own, process)

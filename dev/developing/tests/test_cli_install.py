@@ -224,9 +224,15 @@ class Installation(Case):
         self.must("what was proved", read(os.path.join(folder, "PROVED")) == read(proved))
         self.call(["dpkg-deb", "-e", path, "control"])
         shared = "/usr/lib/subttx/tools/subtitles"
+        # The scripts must not change users and services of this machine.
+        os.mkdir(self.path("harmless"))
+        for command in ("systemd-sysusers", "systemctl"):
+            os.chmod(self.write(f"harmless/{command}", b"#!/bin/sh\n"), 0o755)
+        env = os.environ | {"PYTHONPYCACHEPREFIX": "", "PATH": os.pathsep.join([
+            self.path("harmless"), os.environ["PATH"]])}
         for name, is_there in (("postinst", True), ("prerm", False)):
             script = self.read(f"control/{name}").decode().replace(shared, f"empty{shared}")
-            process = self.call(["sh", "-c", script], env=os.environ | {"PYTHONPYCACHEPREFIX": ""})
+            process = self.call(["sh", "-c", script], env=env)
             self.must(name, process.status == 0 and is_compiled(self.path(f"empty{shared}"))
                       == is_there, process)
             if is_there:

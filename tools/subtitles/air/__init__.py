@@ -8,6 +8,7 @@ check       judging a programme from a continuous part of the feed, in a forked 
 decision    choosing the result of a programme
 state       state file for monitoring
 judge       judging the programmes of a schedule
+status      state files as a line for Nagios and as metrics for Prometheus
 main        command line of tools/air
 
 The only state is the segments and results: a programme with a JSON result is not judged again.

@@ -213,6 +213,7 @@ class Judge:
         self.checker.clear()
         self.attempts.pop(name, None)
         self.monitor.last_result = f"{name}: {outcome.reason}"
+        self.monitor.verdicts[outcome.result["verdict"]] += 1
         line, *_ = outcome.reason.split("\n")
         print_stdout(f"{date()}  {name}  {outcome.verdict}: {line}")
         self.call_hook(os.path.join(self.out, main), outcome.result["verdict"])

@@ -11,6 +11,7 @@ from ..request.lines import read_options
 from ..request.request import add_options
 from .judge import judge_schedule
 from .recorder import Limits, record
+from .status import print_status
 
 parse_hours = make_number_parser("hours", 1, 99_999)
 parse_megabytes = make_number_parser("megabytes", 0, 999_999_999)
@@ -60,6 +61,18 @@ def make_judge_parser() -> ToolParser:
     return parser
 
 
+def make_status_parser() -> ToolParser:
+    """Return the argument parser of the command `status`."""
+    parser = ToolParser("Print a line about each folder of results. The status is that of Nagios: "
+                        "0 OK, 1 WARNING, 2 CRITICAL, 3 UNKNOWN.")
+    parser.add_argument("out", metavar="OUT", nargs="+", help="read the state of `judge` in OUT")
+    parser.add_argument("--max-age", metavar="S", type=read_seconds, default=60,
+                        help="raise an alarm if the state is older than S seconds (default: 60)")
+    parser.add_argument("--metrics", metavar="FILE",
+                        help="write metrics for Prometheus's textfile collector to FILE")
+    return parser
+
+
 def main(text: str, words: list[str]) -> int:
     """Run a command line of tools/air. Return the exit status."""
     mode, *line = words or [""]
@@ -68,9 +81,12 @@ def main(text: str, words: list[str]) -> int:
         os.makedirs(args.segments, exist_ok=True)
         record(0, args.segments, Limits(args.length, 3600 * args.keep, 1_000_000 * args.free))
         return 0
+    if mode == "status":
+        args = make_status_parser().parse_args(line)
+        return print_status(args.out, args.max_age, args.metrics)
     if mode != "judge":
         ToolParser(text).parse_known_args(words)  # handles --help and --version
-        raise Stop("the first argument must be record or judge")
+        raise Stop("the first argument must be record, judge or status")
     args = read_options(make_judge_parser(), line, {}, {}, is_typed=True)
     args.out = make_safe_name(args.out)
     if not os.path.isdir(args.segments):

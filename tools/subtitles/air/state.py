@@ -1,6 +1,7 @@
 """Write the state for monitoring to a JSON file, which these tools never read."""
 from __future__ import annotations
 
+import collections
 import contextlib
 import json
 import os
@@ -36,6 +37,7 @@ class Monitor:
         self.headers: dict[Page, float] = {}  # time of the last header of each page
         self.waiting, self.late, self.schedule_faults = 0, list[str](), list[str]()
         self.last_error = self.last_result = ""
+        self.verdicts = collections.Counter[str]()  # since the start
 
     def look(self, segments: str, out: str, now: float, program: str,
              pages: Collection[Page], needed: float) -> None:
@@ -103,7 +105,8 @@ class Monitor:
             "last_header": {page_name(*page): format_date_or_none(header)
                             for page, header in self.headers.items()},
             "waiting": self.waiting, "late": self.late, "schedule_faults": self.schedule_faults,
-            "last_error": self.last_error, "last_result": self.last_result}
+            "last_error": self.last_error, "last_result": self.last_result,
+            "verdicts": dict(self.verdicts)}
 
 
 def format_date_or_none(time: float) -> str | None:

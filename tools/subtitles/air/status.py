@@ -1,0 +1,101 @@
+"""Print the state of `judge` for monitoring: a line with a status for Nagios, and metrics for
+Prometheus."""
+from __future__ import annotations
+
+import json
+import os
+import re
+import time
+from datetime import datetime
+from typing import Any, Iterator
+
+from ..common.command_line import format_error, print_stdout
+from ..common.files import open_result
+from .state import NAME
+
+OK, WARNING, CRITICAL, UNKNOWN = range(4)  # statuses of Nagios and Icinga
+WORDS = ("OK", "WARNING", "CRITICAL", "UNKNOWN")
+WARNINGS = ("schedule",)  # alarms that are only warnings
+
+
+def read_date(text: str | None) -> float | None:
+    """Return the seconds since the epoch of a date in UTC, or `None` if there is none."""
+    return datetime.strptime(f"{text}+0000", "%Y-%m-%dT%H:%M:%SZ%z").timestamp() if text else None
+
+
+def check_state(state: dict[str, Any], age: float, max_age: float) -> tuple[int, str]:
+    """Return the status and a text for the state."""
+    alarms = [str(alarm) for alarm in state["alarms"]]
+    status = CRITICAL if age > max_age or any(alarm not in WARNINGS for alarm in alarms) else \
+        WARNING if alarms else OK
+    texts = [f"no news for {age:.0f} s"] * (age > max_age) + alarms or ["no alarm"]
+    perf = {"age": f"{age:.0f}s", "waiting": state["waiting"], "late": len(state["late"]),
+            **{f"free_{name}": f"{free}B" for name, free in state["free_bytes"].items()}}
+    last = str(state["last_result"]).replace("|", "/").replace("\n", " ")
+    return status, f"{', '.join(texts)}; last result: {last or 'none'}|" + " ".join(
+        f"{name}={value}" for name, value in perf.items())
+
+
+def make_metrics(out: str, state: dict[str, Any]) -> Iterator[tuple[str, dict[str, str], float]]:
+    """Yield the name, the labels and the value of each metric of a state."""
+    for name, key in (("date", "date"), ("last_byte", "last_byte")):
+        seconds = read_date(state[key])
+        if seconds is not None:
+            yield f"{name}_timestamp_seconds", {}, seconds
+    for page, date in state["last_header"].items():
+        yield "last_header_timestamp_seconds", {"page": page}, read_date(date) or 0.0
+    for alarm in ("silence", "clock", "disk", "late", "schedule"):
+        yield "alarm", {"alarm": alarm}, float(alarm in state["alarms"])
+    for alarm in state["alarms"]:
+        if alarm.startswith("page "):
+            yield "alarm", {"alarm": alarm}, 1.0
+    for folder, free in state["free_bytes"].items():
+        yield "free_bytes", {"folder": folder}, free
+    yield "waiting", {}, state["waiting"]
+    yield "late", {}, len(state["late"])
+    yield "segments", {}, state["segments"]
+    for verdict, count in state.get("verdicts", {}).items():
+        yield "results_total", {"verdict": verdict}, count
+
+
+def format_metrics(lines: list[tuple[str, dict[str, str], float]]) -> str:
+    """Return the metrics in Prometheus's text format, with the lines of each metric together."""
+    text = ""
+    for name in dict.fromkeys(name for name, _, _ in lines):
+        kind = "counter" if name.endswith("_total") else "gauge"
+        text += f"# TYPE subttx_air_{name} {kind}\n"
+        for other, labels, value in lines:
+            if other == name:
+                words = ",".join(f'{key}="{escape(word)}"' for key, word in labels.items())
+                text += f"subttx_air_{name}{{{words}}} {value:.15g}\n"
+    return text
+
+
+def escape(word: str) -> str:
+    """Escape the value of a label."""
+    return re.sub(r'[\\"]', r"\\\g<0>", word).replace("\n", r"\n")
+
+
+def print_status(outs: list[str], max_age: float, metrics: str | None) -> int:
+    """Print a line for each folder of results, and write the metrics. Return the worst status."""
+    statuses, lines, now = [], list[tuple[str, dict[str, str], float]](), time.time()
+    for out in outs:
+        name = os.path.basename(os.path.dirname(os.path.abspath(out))) \
+            if os.path.basename(os.path.abspath(out)) == "results" else os.path.basename(
+                os.path.abspath(out))
+        try:
+            with open(os.path.join(out, NAME), encoding="utf-8") as file:
+                state = json.load(file)
+            age = now - (read_date(state["date"]) or 0.0)
+            status, text = check_state(state, age, max_age)
+            lines += [(metric, {"feed": name, **labels}, value)
+                      for metric, labels, value in make_metrics(out, state)]
+        except (OSError, ValueError, KeyError, TypeError, AttributeError) as reason:
+            status, text = UNKNOWN, format_error(reason)
+        lines.append(("status", {"feed": name}, status))
+        statuses.append(status)
+        print_stdout(f"SUBTTX {WORDS[status]}: {name}: {text}")
+    if metrics:
+        with open_result(metrics) as target:
+            target.write(format_metrics(lines).encode())
+    return next(status for status in (CRITICAL, UNKNOWN, WARNING, OK) if status in statuses)
