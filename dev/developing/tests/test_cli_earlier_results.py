@@ -167,7 +167,7 @@ class StoredResults(Case):
         for change, where in changes:
             self.write("one.json", json.dumps({**make_result(), **change}).encode())
             judged = f"does not match docs/verdict.schema.json at {where}: judge it again" \
-                if where else "has format 3, but this version reads format 7: judge it again"
+                if where else "has format 3, but this version reads format 8: judge it again"
             result = read_result(path)
             self.must(f"{change}", result == make_unjudged("one", f"its JSON result {judged}"),
                       result)

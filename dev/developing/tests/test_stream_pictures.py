@@ -69,7 +69,7 @@ class PictureDepartures(Case):
         for after, ticks in ((0.0, 6 * TICKS), (4.0, None)):
             near = make_video_leads([6.0] * 20 + [3.0] + [after] * 20, {20: 3, 21: 3})
             self.check(f"two steps with one line between, then {after}", locate_departures(near), [
-                Departure(near[21].pts, near[19].pts, ticks)])
+                Departure(near[21].pts, near[19].pts, ticks, 0 if ticks else 2 * TICKS)])
         for count in (0, 1):
             self.check(f"{count} lines", locate_departures(leads[:count]), [])
 
@@ -135,7 +135,7 @@ def make_lead_survey_lines(steps: Sequence[tuple[float, int]], origin: int = 0, 
     return result
 
 
-def survey_extra_lines(lines: Sequence[str] = ()) -> Survey:
+def survey_extra_lines(lines: Sequence[str] = (), origin: int = 0) -> Survey:
     """Return a survey of two programmes.
 
     The first has the video in `lines` and a video without jumps, the second a video that jumps.
@@ -145,7 +145,7 @@ def survey_extra_lines(lines: Sequence[str] = ()) -> Survey:
     for line in [f"programme 1 {VIDEO}", f"stream {PID} 6", f"programme 2 {others}",
                  f"stream {others} 2", f"programme 1 {VIDEO}", f"stream {PID} 6",
                  *(f"stream {video} 2" for video in (quiet, VIDEO)),
-                 *make_lead_survey_lines([], video=quiet), *lines,
+                 *make_lead_survey_lines([], origin, quiet), *lines,
                  *make_lead_survey_lines([(9, 1500)], video=others)]:
         survey.read_line(line)
     return survey
@@ -156,7 +156,8 @@ class DepartureFaults(Case):
                               source: str = GIVEN,
               origin: int = 0) -> tuple[list[tuple[str | None, str | None, str]], list[str]]:
         """Return the start, end and direction of each fault, and all notes."""
-        faults, notes = find_desync(survey_extra_lines(make_lead_survey_lines(steps, origin)), PID,
+        faults, notes, _ = find_desync(survey_extra_lines(make_lead_survey_lines(steps, origin),
+                                                              origin), PID,
                                     TimedPart(
             1000, 2000, Clock(origin, source)), within, 1)
         self.check("kinds",
@@ -216,7 +217,7 @@ class DepartureFaults(Case):
                  [f"{NOT_CHECKED}: the video's decoding times have no usual step"]),
                 ("no line", Survey(), [])):
             desync = find_desync(survey, PID, TimedPart(1000, 2000, Clock(0, GIVEN)), 0, 1)
-            self.check(name, desync, ([], expected))
+            self.check(name, desync[:2], ([], expected))
 
 
 class Pairs(Case):

@@ -427,9 +427,11 @@ class PairJudge:
     def check_pictures(self, part: Part) -> None:
         """Add a fault for each interval in which the pictures drift from the subtitles."""
         recording, alignment = part.judged_recording
-        faults, notes = find_desync(recording.survey, recording.packets.pid, alignment,
-                                    part.request.within, part.number)
+        faults, notes, unchecked = find_desync(
+            recording.survey, recording.packets.pid, alignment, part.request.within, part.number,
+            part.list_pts())
         self.verdict.named_faults += faults
+        self.verdict.not_checked += unchecked
         self.listener.add_notes(*notes)
 
     def make_expected_pages(self, request: Request, subtitles: list[Subtitle]) -> ExpectedPages:

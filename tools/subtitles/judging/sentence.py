@@ -238,6 +238,7 @@ class Facts(NamedTuple):
     parts: int = 1  # number of parts, each with its own clock
     delay: int = 0  # delay of all subtitles in frames, if the operator gave the clock
     has_picture: bool = False  # whether the operator may use --start
+    has_unchecked: bool = False  # whether pictures were not compared with the subtitles
 
 
 def write_sentence(facts: Facts) -> str:
@@ -249,9 +250,9 @@ def write_sentence(facts: Facts) -> str:
         return f"Refused: {describe_faults(facts)}{waived}."
     if facts.word == RELATIVE:
         return f"{describe_relative_match(facts)} was not checked: " \
-            f"{advise_on_clock(facts.has_picture)}."
+            f"{advise_on_clock(facts.has_picture)}.{describe_unchecked(facts)}"
     if facts.word == WAIVED:
-        return f"{describe_waived_faults(facts)}."
+        return f"{describe_waived_faults(facts)}.{describe_unchecked(facts)}"
     acceptance = "all faults that were found are declared as warnings" if facts.faults \
         or facts.refused else "everything that was received is right"
     if facts.word == LOST:
@@ -263,7 +264,13 @@ def write_sentence(facts: Facts) -> str:
         kinds = ", ".join(dict.fromkeys(facts.warnings))
         return f"Not accepted: --strict treats warnings as faults ({kinds}); {acceptance}."
     assert facts.word == ACCEPTED
-    return f"Accepted: {describe_success(facts)}."
+    return f"Accepted: {describe_success(facts)}.{describe_unchecked(facts)}"
+
+
+def describe_unchecked(facts: Facts) -> str:
+    """Return the sentence about pictures that were not compared with the subtitles."""
+    return " Not checked everywhere: whether the video and the subtitles drift apart." \
+        if facts.has_unchecked else ""
 
 
 def describe_waived_faults(facts: Facts) -> str:

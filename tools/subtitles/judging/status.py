@@ -109,6 +109,8 @@ class Grounds(NamedTuple):
     # subtitles share can't be detected, so the best verdict is `relative`.
     has_clock: bool = False
     is_relative_allowed: bool = False  # value of --relative
+    # What could not be checked, where the recording is probably wrong
+    doubts: Sequence[str] = ()
 
 
 class Decision(NamedTuple):
@@ -156,6 +158,8 @@ def decide(grounds: Grounds) -> Decision:
         return Decision(NOT_JUDGED, NOTHING_READ)
     if any(grounds.judged_losses) and grounds.severity.is_error(LOST_PACKETS):
         return Decision(LOST)
+    if grounds.doubts:
+        return Decision(NOT_JUDGED, "\n".join(grounds.doubts))
     if grounds.warnings and grounds.is_strict:
         return Decision(WARNED)
     if not grounds.has_clock:

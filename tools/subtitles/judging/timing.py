@@ -23,9 +23,11 @@ from ..stream.pace import (
     find_hidden_loss, find_pauses, list_frame_rows)
 from ..stream.packets import NO_RANGE, PTSPair, Range, find_announced_jumps
 from ..stream.ranges import PacketRange, find_range
-from ..stream.pictures import Departure, locate_departures
+from ..stream.pictures import Departure, locate_changes_of_video, locate_departures
 from ..stream.survey import Survey
 from .part import Part
+from .unchecked import (
+    IRREGULAR as IRREGULAR_VIDEO, NOT_CHECKED, Unchecked, find_unchecked, make_unclear_places)
 
 
 NO_CLOCK = Clock(0, RECORDING)  # a placeholder until the clock is known
@@ -327,31 +329,40 @@ def describe_missing_pcr(recording: Recording) -> str:
 
 # Viewers notice if subtitles and pictures drift apart, but the Teletext PTS do not show the drift.
 
-NOT_CHECKED = "not checked whether the video and the subtitles drift apart"
-
-
 class DesyncFindings(NamedTuple):
-    """The faults of pictures that drift from the subtitles, and notes about drifts that --within
-    allows or that could not be checked."""
+    """The faults of pictures that drift from the subtitles, notes about drifts that --within
+    allows or that could not be checked, and what could not be checked."""
 
     faults: list[NamedFault]
     notes: list[str]
+    unchecked: list[Unchecked]
 
 
-def find_desync(survey: Survey, pid: int, alignment: TimedPart, within: int, number: int
-                ) -> DesyncFindings:
-    """Find where pictures drift from the subtitles on the Teletext PID `pid`, in part `number`."""
+def find_desync(survey: Survey, pid: int, alignment: TimedPart, within: int, number: int,
+                sent: Sequence[int] = ()) -> DesyncFindings:
+    """Find where pictures drift from the subtitles on the Teletext PID `pid`, in part `number`.
+    `sent` has the PTS of the judged PES packets."""
     kinds = {pid for programme in survey.find_programmes(pid) for pid in programme.kinds}
-    faults, notes = list[NamedFault](), list[str]()
-    for (own, video), leads in survey.leads.items():
-        if own == pid and video in kinds:
-            departure_places = locate_departures(leads)
-            inside = find_departures(departure_places or [], alignment)
-            departed = [departure for departure in inside if departure.ticks]
-            faults += make_desync_faults(departed, alignment, within, number)
-            notes += make_delay_notes(departed, alignment, within)
-            notes += make_unclear_notes(departure_places is not None, len(inside) - len(departed))
-    return DesyncFindings(faults, notes)
+    by_video = {video: leads for (own, video), leads in survey.leads.items()
+                if own == pid and video in kinds}
+    several = [*by_video.values()]
+    faults, notes, unclear = list[NamedFault](), list[str](), list[Departure]()
+    unchecked = [*find_unchecked(survey, pid, by_video, alignment, sent, number)] if sent else []
+    notes += [item.line for item in unchecked if item.has_video]
+    for leads in several:
+        departure_places = locate_departures(leads)
+        inside = find_departures(departure_places or [], alignment)
+        departed = [departure for departure in inside if departure.ticks]
+        faults += make_desync_faults(departed, alignment, within, number)
+        notes += make_delay_notes(departed, alignment, within)
+        unclear += [departure for departure in inside if not departure.ticks]
+        if departure_places is None:
+            notes += make_unclear_notes(False, 0)
+            unchecked.append(Unchecked(IRREGULAR_VIDEO, notes[-1], part=number))
+    unclear += find_departures(locate_changes_of_video(several), alignment)
+    notes += make_unclear_notes(True, len(unclear))
+    unchecked += make_unclear_places(unclear, alignment.origin, number)
+    return DesyncFindings(faults, notes, unchecked)
 
 
 def find_departures(several: Sequence[Departure], alignment: TimedPart) -> list[Departure]:

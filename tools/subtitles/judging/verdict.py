@@ -9,7 +9,7 @@ from ..clock.start import ESTIMATED_LATER_NOTE, ESTIMATED_NOTE, advise_on_clock
 from ..common.command_line import format_frame_range, was
 from ..common.files import SummedFile
 from ..common.times import compute_time
-from ..formats.listing import FaultLine, NamedFault, STL_FAULTS, UNDECIDED
+from ..formats.listing import FaultLine, NamedFault, PICTURES_LEFT, STL_FAULTS, UNDECIDED
 from ..formats.stl import Subtitle
 from ..recording.recording import Recording
 from ..recording.notices import Notice
@@ -22,6 +22,7 @@ from .status import (
     ACCEPTED, Decision, Grounds, LOST, NOT_JUDGED, REFUSED, RELATIVE, Severity, WAIVED, WARNED,
     decide)
 from .subtitles import SubtitleCounts, ValidSubtitles
+from .unchecked import Unchecked
 
 
 # Faults that may delay a page. Without them, and with --within 0, each page is complete at its TCI.
@@ -145,6 +146,7 @@ class Verdict:
     gaps: list[Gap] = dataclasses.field(default_factory=list)
     warnings: list[Notice] = dataclasses.field(default_factory=list)
     notes: list[str] = dataclasses.field(default_factory=list)  # neither faults nor warnings
+    not_checked: list[Unchecked] = dataclasses.field(default_factory=list)
     hints: list[str] = dataclasses.field(default_factory=list)  # one for each fault number
     commands: list[str] = dataclasses.field(default_factory=list)
     selections: list[Selection] = dataclasses.field(default_factory=list)
@@ -200,12 +202,20 @@ class Verdict:
 
     def collect_grounds(self) -> Grounds:
         is_later = bool(self.estimated_clock_note) and self.has_clock
-        kinds = [*(warning.kind for warning in self.warnings), *[ESTIMATED] * is_later]
+        kinds = [*(warning.kind for warning in self.warnings), *[ESTIMATED] * is_later,
+                 *self.unchecked_kinds]
         return Grounds([part.summarize_check() for part in self.parts], self.severity,
                        [gap.is_judged and gap.place.gap_marker is None for gap in self.gaps], kinds,
                        self.request.is_strict, [self.unjudged.reason] if self.unjudged else [],
                        self.failed_outputs, [fault.name for fault in self.named_faults],
-                       self.has_clock, self.request.is_relative_allowed)
+                       self.has_clock, self.request.is_relative_allowed,
+                       [item.line for item in self.not_checked if item.may_be_wrong]
+                       if self.severity.is_error(PICTURES_LEFT) else [])
+
+    @property
+    def unchecked_kinds(self) -> list[str]:
+        """Return the kinds of what was not checked although the programme has video."""
+        return [*dict.fromkeys(item.kind for item in self.not_checked if item.has_video)]
 
     @property
     def decision(self) -> Decision:
@@ -253,7 +263,8 @@ class Verdict:
             reason=self.unjudged_reason,
             named=self.worst_named_fault.text if self.worst_named_fault else "",
             is_file=self.request.recording is None, within=self.request.within,
-            parts=len(self.parts), delay=self.delay_of_all, has_picture=self.has_picture)
+            parts=len(self.parts), delay=self.delay_of_all, has_picture=self.has_picture,
+            has_unchecked=bool(self.unchecked_kinds))
         if refused and self.valid_subtitles:
             facts = self.add_transmission_facts(facts, self.valid_subtitles)
         elif refused and not self.worst_named_fault:
@@ -368,6 +379,8 @@ class Verdict:
             line = f"{RELATIVE}, {line}"
         if self.request.waivers:
             line += f"; the profile has {' and '.join(self.request.waivers)}"
+        if self.unchecked_kinds:
+            line += f"; not checked: {', '.join(self.unchecked_kinds)}"
         if word == LOST:
             return f"not accepted, since TS packets are lost: {line}"
         if word == WARNED:

@@ -19,6 +19,7 @@ from ..judging.cues import NOT_KNOWN, RIGHT, WAIVED, WRONG, make_subtitle_rows
 from ..judging.faults import make_faults
 from ..judging.part import Part
 from ..judging.status import ACCEPTED, NOT_JUDGED, POSSIBLE_RESULTS, RELATIVE, STATUSES
+from ..judging.unchecked import KINDS as UNCHECKED_KINDS
 from ..judging.verdict import Verdict
 from ..request.request import CHOICES, list_request_members
 
@@ -188,6 +189,15 @@ WARNING = Record(
     Member("line", Text()),
     Member("time", Maybe(TIME), "The time of the first occurrence."))
 
+UNCHECKED = Record(
+    "unchecked", "",
+    Member("part", PART),
+    Member("kind", OneOf(*UNCHECKED_KINDS), "`no_video` means that there is no video to compare. "
+           "All other kinds count as warnings for --strict."),
+    Member("line", Text()),
+    Member("from", Maybe(TIME), getter=lambda item: item.begin),
+    Member("to", Maybe(TIME), getter=lambda item: item.end))
+
 TRUSTED = Record("trusted_frames", "", Member("part", PART),
                  Member("from", TIME), Member("to", TIME, "The last trusted frame."))
 
@@ -247,7 +257,7 @@ COUNTS = Record(
     Member("refused", COUNT, "The count includes the subtitle before a subtitle with fault 56 or "
            "57."))
 
-FORMAT = 7
+FORMAT = 8
 MAX_LISTED_ITEMS = 20_000
 MAX_SUBTITLES = 100_000  # maximum number of subtitles; a subtitle file has at most 99,999 blocks
 MAX_SECONDS = 10 ** 9
@@ -329,6 +339,8 @@ LISTS = (
     Member("hints", ListOf(Text(), MAX_LISTED_ITEMS), getter=lambda known: known.verdict.hints),
     Member("warnings", ListOf(WARNING, MAX_LISTED_ITEMS),
            getter=lambda known: known.verdict.warnings),
+    Member("not_checked", ListOf(UNCHECKED, MAX_LISTED_ITEMS), "What was not checked about the "
+           "pictures.", lambda known: known.verdict.not_checked),
     Member("commands", ListOf(Text(), MAX_LISTED_ITEMS),
            getter=lambda known: known.verdict.commands),
     Member("choices", ListOf(CHOICE, MAX_LISTED_ITEMS),

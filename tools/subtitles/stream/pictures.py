@@ -1,6 +1,7 @@
 """Find the places where the delay between video and Teletext changes."""
 from __future__ import annotations
 
+import itertools
 import math
 import statistics
 from typing import Iterable, NamedTuple, Sequence
@@ -24,6 +25,11 @@ SAMPLE_SIZES = (10, 30)
 MIN_OWN_LEADS = 5
 MIN_LEADS = 20  # minimum number of leads on each side of a step to compare their extremes
 SIGNIFICANT_ERRORS = 2.5  # number of standard errors that a difference of means must exceed
+# A lead that changes steadily may mean that two clocks drift apart. A multiplexer changes its delay
+# in another way.
+MIN_TREND_LEADS = 60  # minimum number of leads without a step to look for a steady change
+MIN_TREND_TICKS = TICKS
+MIN_TREND_SHARE = 0.95  # minimum share of the variance that a straight line explains
 
 
 class VideoLead(NamedTuple):
@@ -38,24 +44,25 @@ class VideoLead(NamedTuple):
 class Departure(NamedTuple):
     """A place where pictures drift from Teletext, between the PES packets with PTS `earlier_pts`
     and `pts`. Later subtitles are early by `ticks`, or late if `ticks` is negative. `ticks` is
-    `None` if the drift is unclear."""
+    `None` if the drift is unclear. Then `change` is the least number of ticks by which the mean
+    lead changes there, allowing for its error."""
 
     pts: int
     earlier_pts: int
     ticks: int | None
+    change: int = 0
 
 
 def locate_departures(leads: Sequence[VideoLead]) -> list[Departure] | None:
     """Return the places where the delay between video and Teletext changes or may change. Return
     `None` if most decoding times are irregular."""
     steps = compute_steps(leads)
-    ends = [at for at, step in enumerate(steps, 1) if abs(step) * 4 >= TICKS]
+    ends = find_step_places(steps)
     if len(ends) * 2 > len(leads):
         return None
     rows = [[lead.ticks for lead in leads[begin:end]]
             for begin, end in zip([0, *ends], [*ends, len(leads)])]
-    changes = [abs(after - before) for row in rows for before, after in zip(row, row[1:])]
-    typical_step = statistics.fmean(changes) if changes else TICKS
+    typical_step = compute_typical_step(rows)
     departures, before, between, ticks = [], rows[0], list[int](), 0
     for end, row in zip(ends, rows[1:]):
         ticks += steps[end - 1]
@@ -63,13 +70,84 @@ def locate_departures(leads: Sequence[VideoLead]) -> list[Departure] | None:
             between += row
             continue
         left = measure_departure(before, row, ticks, typical_step)
+        if left is None and len(before) > MIN_OWN_LEADS:
+            # Where pictures are lost, the last lead may be that of Teletext long after its picture.
+            left = measure_departure(before[:-1], row, ticks, typical_step)
         if left == 0 and is_outside(between, before):
             left = None  # a short drift, or a damaged PTS
         if left != 0:
             at = end - len(between)
-            departures.append(Departure(leads[end].pts, leads[at - 1].pts, left))
+            departures.append(Departure(
+                leads[end].pts, leads[at - 1].pts, left,
+                0 if left is not None else measure_least_change(before, row, typical_step)))
         before, between, ticks = row, [], 0
     return departures
+
+
+def find_step_places(steps: Sequence[int]) -> list[int]:
+    """Return the indices of the leads before which the decoding times jump."""
+    return [at for at, step in enumerate(steps, 1) if abs(step) * 4 >= TICKS]
+
+
+def compute_typical_step(rows: Iterable[Sequence[int]]) -> float:
+    """Return the typical change from a lead to the next."""
+    changes = [abs(after - before) for row in rows for before, after in zip(row, row[1:])]
+    return statistics.fmean(changes) if changes else TICKS
+
+
+def measure_least_change(before: Sequence[int], after: Sequence[int], typical_step: float) -> int:
+    """Return the least number of ticks by which the mean lead changes, allowing for its error."""
+    mean_change, error = compare_means(before[-SAMPLE_SIZES[-1]:], after[:SAMPLE_SIZES[-1]],
+                                       typical_step)
+    return max(0, int(abs(mean_change) - error))
+
+
+def locate_changes_of_video(several: Sequence[Sequence[VideoLead]]) -> list[Departure]:
+    """Return the places where the video moves to another PID, and the lead changes or may change.
+    `several` has the leads of each PID. Numbers of pictures of two PIDs can't be compared, so it is
+    unclear whether the pictures drift there."""
+    first = next((leads[0].pts for leads in several if leads), 0)
+    ordered = sorted(((subtract_pts(first, lead.pts), at, lead)
+                      for at, leads in enumerate(several) for lead in leads), key=lambda row: row[0])
+    groups = [(at, [lead for _, _, lead in group])
+              for at, group in itertools.groupby(ordered, key=lambda row: row[1])]
+    long_groups = [(at, group) for at, group in groups if len(group) > 1]
+    departures = list[Departure]()
+    for (old_at, old), (new_at, new) in zip(long_groups, long_groups[1:]):
+        if old_at == new_at:
+            continue
+        rows = [[lead.ticks for lead in old[-SAMPLE_SIZES[-1]:]],
+                [lead.ticks for lead in new[:SAMPLE_SIZES[-1]]]]
+        mean_change, error = compare_means(*rows, compute_typical_step(rows))
+        if abs(mean_change) + error >= TICKS / 2:
+            departures.append(Departure(new[0].pts, old[-1].pts, None,
+                                        max(0, int(abs(mean_change) - error))))
+    return departures
+
+
+def find_steady_change(leads: Sequence[VideoLead]) -> int:
+    """Return the ticks by which the lead changes steadily between two steps, or 0."""
+    ends, found = find_step_places(compute_steps(leads)), 0
+    for begin, end in zip([0, *ends], [*ends, len(leads)]):
+        row = leads[begin:end]
+        if len(row) < MIN_TREND_LEADS:
+            continue
+        times = [subtract_pts(row[0].pts, lead.pts) for lead in row]
+        slope, share = fit_line(times, [lead.ticks for lead in row])
+        ticks = round(slope * (times[-1] - times[0]))
+        if abs(ticks) >= max(MIN_TREND_TICKS, abs(found)) and share >= MIN_TREND_SHARE:
+            found = ticks
+    return found
+
+
+def fit_line(places: Sequence[int], values: Sequence[int]) -> tuple[float, float]:
+    """Return the slope of the straight line that fits best, and the share of the variance of
+    `values` that it explains."""
+    middle, mean = statistics.fmean(places), statistics.fmean(values)
+    spread = sum((place - middle) ** 2 for place in places)
+    both = sum((place - middle) * (value - mean) for place, value in zip(places, values))
+    total = sum((value - mean) ** 2 for value in values)
+    return (both / spread, both ** 2 / spread / total) if spread and total else (0.0, 0.0)
 
 
 def compute_steps(leads: Sequence[VideoLead]) -> list[int]:
@@ -90,6 +168,15 @@ def is_outside(between: Iterable[int], before: Sequence[int]) -> bool:
                for lead in between)
 
 
+def compare_means(old: Sequence[int], new: Sequence[int], typical_step: float) \
+        -> tuple[float, float]:
+    """Return the change of the mean lead, and its error."""
+    error = SIGNIFICANT_ERRORS * math.sqrt(sum(max(
+        statistics.variance(row) if len(row) > 1 else 0,
+        typical_step ** 2 if len(row) < MIN_OWN_LEADS else 0) / len(row) for row in (old, new)))
+    return statistics.fmean(new) - statistics.fmean(old), error
+
+
 def measure_departure(before: Sequence[int], after: Sequence[int], step: int,
                       typical_step: float) -> int | None:
     """Return the ticks by which pictures drift at a step of the decoding times.
@@ -101,10 +188,7 @@ def measure_departure(before: Sequence[int], after: Sequence[int], step: int,
     limit, half_frame = min(abs(step) or TICKS, TICKS) / 2, TICKS // 2
     for most in SAMPLE_SIZES:
         old, new = before[-most:], after[:most]
-        mean_change = statistics.fmean(new) - statistics.fmean(old)
-        error = SIGNIFICANT_ERRORS * math.sqrt(sum(max(
-            statistics.variance(row) if len(row) > 1 else 0,
-            typical_step ** 2 if len(row) < MIN_OWN_LEADS else 0) / len(row) for row in (old, new)))
+        mean_change, error = compare_means(old, new, typical_step)
         for ticks in (0, step):
             ends = [abs(end(new) - end(old) + ticks) * 2 for end in (min, max)]
             is_significant = min(len(old), len(new)) >= MIN_LEADS and max(ends) < limit

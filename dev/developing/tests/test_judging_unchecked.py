@@ -1,0 +1,87 @@
+"""Test what is said to be unchecked about pictures, and how it changes the verdict."""
+from __future__ import annotations
+
+from typing import Sequence
+
+from subtitles.clock.start import Clock, GIVEN, TimedPart
+from subtitles.common.times import TICKS
+from subtitles.judging.status import (
+    ACCEPTED, CheckSummary, Grounds, NOT_JUDGED, REFUSED, Severity, WARNED, decide)
+from subtitles.judging.timing import find_desync
+from subtitles.judging.unchecked import HOLE, JUMP, NO_VIDEO, STEADY, UNREAD
+from subtitles.stream.survey import Survey
+from .bench import Case
+
+PID, VIDEO, OTHER = 0x101, 0x200, 0x204
+SENT = [TICKS * frame for frame in range(1000, 4000, 25)]
+
+
+def make_leads(begin: int, end: int, ahead: float = 6, each: float = 0, video: int = VIDEO,
+               number: int = 0) -> list[str]:
+    """Return a `lead` line a second. The lead is `ahead` frames, and grows by `each` a line."""
+    return [f"lead {PID} {TICKS * frame} {round(TICKS * (ahead + each * at))} {video} "
+            f"{frame + number}" for at, frame in enumerate(range(begin, end, 25))]
+
+
+class Pictures(Case):
+    def find_kinds(self, lines: Sequence[str], streams: str = f"{VIDEO}:27",
+                   sent: Sequence[int] = SENT, clock: int = 300) -> list[str]:
+        """Return the kinds of what was not checked, in a programme with these streams."""
+        survey = Survey()
+        for line in ["size 188", f"programme 1 {clock}", f"stream {PID} 6", *(
+                f"stream {pid} {kind}" for pid, _, kind in (
+                    item.partition(":") for item in streams.split())), *lines]:
+            survey.read_line(line)
+        part = TimedPart(1000, 4000, Clock(0, GIVEN))
+        return [item.kind for item in find_desync(survey, PID, part, 0, 1, sent).unchecked]
+
+    def test_says_where_no_picture_was_compared(self) -> None:
+        whole, both = make_leads(500, 4500), f"{VIDEO}:27 {OTHER}:36"
+        pictures = f"pictures {VIDEO} 0 0 9 0"
+        rows: dict[str, tuple[list[str], str, list[str]]] = {
+            "all": (whole, f"{VIDEO}:27", []),
+            "no lines": ([pictures], f"{VIDEO}:27", [UNREAD]),
+            "scrambled": ([], f"{VIDEO}:27", [UNREAD]),
+            "not in the PMT": ([pictures], "", [UNREAD]),
+            "no video": ([], "259:3", [NO_VIDEO]),
+            "private video": ([pictures], f"{VIDEO}:6", [UNREAD]),
+            "video of others": ([pictures, "programme 2 9", f"stream {VIDEO} 27"], "", [NO_VIDEO]),
+            "late": (make_leads(1500, 4500), f"{VIDEO}:27", [HOLE]),
+            "3 s late": (make_leads(1075, 4500), f"{VIDEO}:27", []),
+            "ends": (make_leads(500, 3000), f"{VIDEO}:27", [HOLE]),
+            "a hole": (make_leads(500, 2000) + make_leads(2500, 4500), f"{VIDEO}:27", [HOLE]),
+            "elsewhere": (make_leads(5000, 9000), f"{VIDEO}:27", [HOLE]),
+            "another video": (whole, both, [UNREAD]),
+            "two videos": (make_leads(500, 2000) + make_leads(2000, 4500, video=OTHER), both, []),
+            "another delay": (make_leads(500, 2000) + make_leads(2000, 4500, 5, video=OTHER), both,
+                              [JUMP]),
+            "there and back": (make_leads(500, 2000) + make_leads(2000, 2500, 5, video=OTHER)
+                               + make_leads(2500, 4500), both, [JUMP, JUMP]),
+            "it grows": (make_leads(500, 4500, 6, 0.02), f"{VIDEO}:27", [STEADY]),
+            "it grows a little": (make_leads(500, 4500, 6, 0.005), f"{VIDEO}:27", [])}
+        for name, (lines, streams, kinds) in rows.items():
+            self.check(name, self.find_kinds(lines, streams), kinds)
+        self.check("pauses", self.find_kinds(
+            make_leads(500, 2000) + make_leads(3000, 4500), sent=SENT[:40] + SENT[80:]), [])
+        self.check("stills", self.find_kinds(whole[::10]), [])
+
+    def test_does_not_judge_large_changes(self) -> None:
+        for change, doubts in ((0, 0), (1, 0), (24, 0), (26, 1), (50, 1), (-50, 1)):
+            survey = Survey()
+            for line in [f"programme 1 {VIDEO}", f"stream {PID} 6", f"stream {VIDEO} 27",
+                         *make_leads(500, 2500), *make_leads(2500, 4500, 6 + change, number=-60)]:
+                survey.read_line(line)
+            unchecked = find_desync(survey, PID, TimedPart(1000, 4000, Clock(0, GIVEN)), 0, 1,
+                                    SENT).unchecked
+            self.check(f"{change}", sum(item.may_be_wrong for item in unchecked), doubts)
+
+    def test_decides(self) -> None:
+        good, bad = CheckSummary(0, True), CheckSummary(1, False, 1, 1, [72])
+        severity = Severity(None)
+        for name, grounds, word in (
+                ("a doubt", Grounds([good], severity, doubts=["a"], has_clock=True), NOT_JUDGED),
+                ("a fault", Grounds([bad], severity, doubts=["a"], has_clock=True), REFUSED),
+                ("unchecked", Grounds([good], severity, warnings=[HOLE], has_clock=True), ACCEPTED),
+                ("strict", Grounds([good], severity, warnings=[HOLE], is_strict=True,
+                                   has_clock=True), WARNED)):
+            self.check(name, decide(grounds).word, word)
