@@ -9,6 +9,7 @@ import io
 import itertools
 import json
 import os
+import re
 import sys
 import tempfile
 import unittest
@@ -21,6 +22,7 @@ from subtitles.cli import batch, collection, main, measure, single
 from subtitles.cli.main import (
     OPTION_MODES, find_mode, make_parser, find_output_path, find_pair_name, read_jobs,
     parse_line_number, read_seconds, refuse_options)
+from subtitles.common import command_line
 from subtitles.common.command_line import Stop, run_main
 from subtitles.common.program import TOP, read
 from subtitles.request.commands import CommandPaths
@@ -255,6 +257,45 @@ def call_in_process(name: str, words: Sequence[str]) -> CompletedCall:
             contextlib.redirect_stdout(out), contextlib.redirect_stderr(errors):
         status = run_main(module.call_main if name == "qc" else module.main, words)
     return CompletedCall(status, out.getvalue().encode(), errors.getvalue().splitlines())
+
+
+# Calls that must succeed. Each script has at least one, or stands in `LONG_CALLS`.
+VALID: dict[str, list[list[str]]] = {
+    "air": [["judge", "--help"]], "dist": [["to"]], "edits": [["--applies"]],
+    "graph": [["Good"], ["--clauses", "sub_check"]], "install": [["to"]],
+    "make-examples": [["."]], "pes2ts": [[PES, "0x101"]], "poke": [[STL], [STL, "-c", "1"]],
+    "program": [[]], "qc": [[STL, PES, "--origin", "0"], [STL]],
+    "reading-list": [["Good"], ["--lowest-first", "Good"], ["check_all.reported"]],
+    "sizes": [[]], "sources": [[]],
+    "check-every-place": [["--count", "1", "--recordings", "1"]], "check-survey": [["--count", "1"]],
+}
+# Scripts whose calls need the toolchain, a browser or several minutes. The gate and the release call
+# them, or (make-pages) they write into the repository, and another test compares what they make.
+LONG_CALLS = {"prove", "slow-proofs", "release", "check-preview", "make-picture", "check-program",
+              "check-tools", "check-manual", "check-readme", "check-live", "faults", "plant",
+              "install-test-tools", "make-pages"}
+
+
+class ValidArguments(Case):
+    def test_each_script_accepts_a_valid_call(self) -> None:
+        self.check("scripts", sorted([*VALID, *LONG_CALLS]), list_tool_names())
+        for name, calls in VALID.items():
+            for words in calls:
+                process = self.call([get_tool_path(name), *words])
+                self.must(f"{name} {' '.join(words)}",
+                          process.status == 0 and "internal error" not in "\n".join(process.told),
+                          process)
+
+    def test_scripts_read_only_arguments_that_they_define(self) -> None:
+        shared_options = read(command_line.__file__) or ""
+        for name in list_tool_names():
+            with open(get_tool_path(name), encoding="utf-8") as file:
+                text = file.read()
+            if not is_python(get_tool_path(name)) or "add_argument(" not in text:
+                continue
+            quoted_names = {word.replace("-", "_")
+                            for word in re.findall(r'"-*([-\w]+)"', text + shared_options)}
+            self.must(name, set(re.findall(r"\bargs\.(\w+)", text)) <= quoted_names)
 
 
 class WrongArguments(Case):
