@@ -14,6 +14,7 @@ from subtitles.cli.single import (
 from subtitles.common.program import ProgramInfo
 from subtitles.judging.pair import PairJudge
 from subtitles.judging.status import decide
+from subtitles.judging.unchecked import summarize_pictures
 from subtitles.judging.verdict import Verdict
 from subtitles.request.commands import CommandPaths, Listener, OutputNames
 from subtitles.request.lines import read_options
@@ -62,6 +63,13 @@ class JudgedPair(NamedTuple):
     def told(self) -> list[str]:
         """Return the lines printed on standard error."""
         return [line[2:] for line in self.said if line.startswith("! ")]
+
+    @property
+    def notes(self) -> list[str]:
+        """Return the notes, and what was not checked, as printed on standard error."""
+        return [*self.result["notes"], *(f"not checked: {text}" for text in (
+            *self.verdict.unchecked_losses,
+            *summarize_pictures(self.verdict.unchecked_pictures)))]
 
     def lines(self, begin: str) -> list[str]:
         """Return the printed lines with the prefix `begin`, without this prefix."""

@@ -13,7 +13,7 @@ from typing import Any, Iterator, Sequence
 
 from subtitles.common.program import TOP
 from subtitles.judging.causes import CAUSE_NAMES
-from subtitles.judging.status import NOT_JUDGED, STATUSES
+from subtitles.judging.status import ACCEPTED, NOT_JUDGED, STATUSES, VALID
 from subtitles.results.files import Row, make_row
 from subtitles.results.schema import FORMAT, LISTS
 from .bench import Case
@@ -49,7 +49,8 @@ def make_result(verdict: str = "refused", **more: Any) -> dict[str, Any]:
     return {
         "format": FORMAT, "verdict": verdict, "status": STATUSES[verdict],
         "line": f"{verdict} 72 Content" if is_judged else None,
-        "worst_fault": f"{verdict} 72 Content" if is_judged else None, "sentence": "Refused.",
+        "worst_fault": None if verdict in (ACCEPTED, VALID, NOT_JUDGED)
+        else f"{verdict} 72 Content", "sentence": "Refused.",
         "reason": None if is_judged else "why", "scope": "transmission", "frames": None,
         "transmissions": None, "fault_count": 0, "subtitle_counts": None, "request": REQUEST,
         "files_at_start": {"stl": None, "recording": None, "severity": None},

@@ -14,6 +14,7 @@ RANDOM_ACCESS = 0x40
 PMT_PID, VIDEO_PID, AUDIO_PID, TELETEXT_PID = 0x100, 0x200, 0x201, 0x101
 NULL_PID = 0x1FFF
 MPEG_2, H_264, HEVC, PRIVATE = 0x02, 0x1B, 0x24, 0x06
+AUDIO = 0x03  # for streams whose other PIDs have no pictures
 SLICES = b"\0\0\1\1" + b"slice data " * 9  # slices of an MPEG-2 picture
 PTS_AHEAD = 18_000  # difference between PTS and PCR in ticks
 
@@ -211,7 +212,7 @@ def multiplex_frames(pes: list[bytes], begin: int, count: int, rounds: int = 66,
     Each frame has a PCR, PES packets, and 16 * `rounds` video packets. If `rounds` is 66, the bit
     rate is 40 Mbit/s.
     """
-    maker = StreamMaker(make_components(descriptor=make_teletext_descriptor(page=page)))
+    maker = StreamMaker(make_components(AUDIO, make_teletext_descriptor(page=page)))
     filler = b"".join(make_packet_header(VIDEO_PID, 0, PAYLOAD | counter) + b"\x55" * (PACKET - 4)
                       for counter in range(16)) * rounds
     at = 0
@@ -248,7 +249,7 @@ def make_teletext_stream(pes: list[bytes], begin: int, end: int, rate: int = 200
     The stream has PES packets of Teletext, `rate` video and audio packets per second, a PCR every
     40 ms, and tables twice a second. It continues the continuity counters of `before`.
     """
-    maker = StreamMaker(make_components(pid=pid))
+    maker = StreamMaker(make_components(AUDIO, pid=pid))
     maker.counters = before.counters if before else maker.counters
     result: list[Packet] = []
     due = [*map(decode_pts, pes), None]
@@ -299,7 +300,7 @@ class Shape(NamedTuple):
 
 def make_multiplex(pes: list[bytes], shape: Shape) -> list[Packet]:
     """Make a transport stream with PES packets of Teletext, video with PCRs, and audio."""
-    maker = StreamMaker(make_components())
+    maker = StreamMaker(make_components(AUDIO))
     maker.put_tables()
     result = maker.list_taken_packets(0)
     begin, end = (decode_pts(pes[at]) for at in (0, -1))
@@ -379,7 +380,7 @@ def make_planned_stream(pes: Sequence[bytes], plan: Sequence[tuple[int, int]],
         for begin, named in plan:
             if begin == number:
                 pid = named
-                maker.tables = StreamMaker(make_components(MPEG_2, descriptor, pid)).tables
+                maker.tables = StreamMaker(make_components(AUDIO, descriptor, pid)).tables
                 maker.put_tables()
         if ahead is not None:
             maker.put_pcr(decode_pts(item) - ahead)
@@ -394,7 +395,7 @@ def make_stream_with_video(pes: bytes, descriptor: bytes = make_teletext_descrip
 
 
 def make_stream_of_pids(*of_pids: tuple[int, bytes]) -> bytes:
-    maker = StreamMaker([(VIDEO_PID, MPEG_2, b""), *(
+    maker = StreamMaker([(VIDEO_PID, AUDIO, b""), *(
         (pid, PRIVATE, make_teletext_descriptor()) for pid, _ in of_pids)])
     maker.put_tables()
     waiting = sorted((decode_pts(item), pid, item)

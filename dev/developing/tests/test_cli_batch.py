@@ -22,7 +22,7 @@ from subtitles.cli.single import PairOptions
 from subtitles.common import files
 from subtitles.common.command_line import Stop
 from subtitles.common.program import describe_program
-from subtitles.judging.status import RELATIVE, STATUSES, WAIVED
+from subtitles.judging.status import RELATIVE, STATUSES, VALID, WAIVED
 from subtitles.request.commands import CommandPaths
 from subtitles.request.lines import (
     BatchItem, collect_inputs, find_path_problem, read_line_pair, read_pairs)
@@ -157,7 +157,7 @@ class CompleteBatches(Case):
             for item, verdict in reversed(list(zip(items, judged.split(", ")))):
                 with open(calls.get_result_path(item), "w", encoding="ascii") as file:
                     json.dump(make_result(verdict, **{
-                        "reason" if verdict == "not judged" else "worst_fault": item.name}), file)
+                        "reason" if verdict == "not judged" else "line": item.name}), file)
                 rows[item.name] = row(item.name, verdict, item.name)
             calls.is_stopped, calls.unwritten_results = is_stopped, unwritten
             return rows
@@ -186,7 +186,7 @@ class CompleteBatches(Case):
                     line.split()[0] for line in lines[1:]] == ["one", "two", "three", "3"], lines)
                 self.must("at a time", self.seen[1:] == (["one", "two", "three"], {}, expected))
                 have = json.loads(self.read("all"))
-                names = [one["worst_fault"] or one["reason"] for one in have["pairs"]]
+                names = [one["line"] or one["reason"] for one in have["pairs"]]
                 self.must("objects", (names, have["status"]) == (["one", "two", "three"], status))
                 self.must("the folder went", not os.path.exists(self.seen[0].folder))
         self.batch("accepted, accepted, accepted", json=self.path("all"),
@@ -480,11 +480,11 @@ class ForkedPairs(Case):
                       {"one": "refused", "four": "waived"}, rows)
 
     def test_prints_verdict_counts_and_the_remaining_time(self) -> None:
-        rows = {word: row(word, word) for word in STATUSES if word not in (WAIVED, RELATIVE)}
+        rows = {word: row(word, word) for word in STATUSES if word not in (VALID, WAIVED, RELATIVE)}
         self.must("none of this call", format_progress(rows, 9, 5, 0.0) ==
                   "5 of 9 pairs: 1 accepted, 3 refused, 1 not judged")
-        rows |= {word: row(word, word) for word in (WAIVED, RELATIVE)}
+        rows |= {word: row(word, word) for word in (VALID, WAIVED, RELATIVE)}
         with mock.patch.object(time, "monotonic", return_value=110.0):
             said = format_progress(rows, 9, 4, 100.0)
-        self.must("left", said == "7 of 9 pairs: 1 accepted, 1 waived, 1 relative, 3 refused, 1 "
-                  "not judged; 7 seconds left", said)
+        self.must("left", said == "8 of 9 pairs: 1 accepted, 1 valid, 1 waived, 1 relative, 3 "
+                  "refused, 1 not judged; 2 seconds left", said)

@@ -188,7 +188,7 @@ class Programs(CallCase):
             self.assertEqual((process.status, len(process.printed), process.printed[-1]),
                              (status, 2, last), status)
             self.assertEqual([known[name] for name in (
-                "verdict", "status", "line", "worst_fault")], ["relative", status, last, last])
+                "verdict", "status", "line", "worst_fault")], ["relative", status, last, None])
             self.assertEqual(known["sentence"], process.printed[0], status)
             self.assertIn("No clock was given, so its delay was not checked", process.printed[0],
                           status)

@@ -22,6 +22,7 @@ from subtitles.common.command_line import Stop, ProgramInterrupted
 from subtitles.common.markup import HEAD
 from subtitles.formats.listing import NamedFault
 from subtitles.judging.check import CheckOutput
+from subtitles.judging.coverage import describe_unchecked
 from subtitles.judging.part import Part
 from subtitles.judging.status import Severity
 from subtitles.judging.verdict import Gap, Unjudged, Verdict
@@ -417,7 +418,7 @@ class Pages(Case):
         self.must("box", box.startswith('<div class="verdict refused">') and verdict.sentence in
                   box and box.count("3 TS packets were lost") == 1 and "strange" in box, box)
         for verdict.gaps, count in ((verdict.gaps, 1), (verdict.gaps[:1], 0)):
-            listed = "".join(report_page.list_unchecked(verdict))
+            listed = "".join(describe_unchecked(verdict))
             self.must("outside", listed.count("3 TS packets were lost, outside") == count, listed)
         scope = markup_text(report_page.make_scope_section(verdict))
         self.must("scope", "00:00:00:00 to 00:00:05:24, " in scope, scope)
@@ -427,7 +428,7 @@ class Pages(Case):
         self.must("a pipe", "Programme" in scope and "piped.stl" in
                   markup_text(report_page.make_scope_section(verdict)), scope)
         verdict.parts = [make_part(0, 9, 7, packets=mock.MagicMock(count=9), pes=(2, 4))]
-        listed = "".join(report_page.list_unchecked(verdict))
+        listed = "".join(describe_unchecked(verdict))
         self.must("packets", "6 PES packets of 9, before" in listed, listed)
         verdict.named_faults = [NamedFault("never sent", "a"), NamedFault("not shown", "b")]
         verdict.severity.severity_by_fault = {"not shown": "warning"}
@@ -444,7 +445,7 @@ class Pages(Case):
         self.must("links", {*re.findall('href="#([^"]*)"', page)} <= {*names},
                   {*re.findall('href="#([^"]*)"', page)} - {*names})
         self.must("once", all(page.count(f'id="{name}"') == 1 for name in (
-            "verdict", "part1-cues", "part2-faults", "part3-cues", "files")), names)
+            "verdict", "part1", "part2-faults", "part3", "files")), names)
 
     def test_has_a_page_if_not_judged(self) -> None:
         verdict = self.several()

@@ -143,7 +143,7 @@ class Answers(Case):
         result.accept_file("2 subtitles")
         self.assertEqual((result.verdict, result.line, result.fault_count, result.fault_numbers,
                           list(result.read_lines())),
-                         ("accepted", "2 subtitles", 0, set(), []))
+                         ("valid", "2 subtitles", 0, set(), []))
         self.assertFalse(result.summarize(False).is_read)
 
 

@@ -451,15 +451,17 @@ class CausesByHand(unittest.TestCase):
         for count in (1, 1, 2, 2, 3, 3, 4):
             names = [chance.choices(CAUSE_NAMES[:4], k=chance.choice((0, 1, 2, 5)))
                      for _ in range(count)]
-            several: Any = [SimpleNamespace(cause_by_index={at: SimpleNamespace(name=name)
-                                                            for at, name in
-                                                   enumerate(some)}) for some in names]
+            several: Any = [SimpleNamespace(
+                cause_by_index={at: SimpleNamespace(name=name) for at, name in enumerate(some)},
+                list_causes=lambda some=some: [SimpleNamespace(name=name) for name in some],
+                pause_texts={}) for some in names]
             together = [name for some in names for name in some]
             expected = ", ".join(f"{together.count(name)} {name}" for name in CAUSE_NAMES
                                  if name in together)
             self.assertEqual((list_cause_counts(several), format_cause_counts(several),
                               count_causes(several)), (
-                expected, f"{counted(len(together), 'subtitle')} with faults: {expected}",
+                expected, f"{counted(len(together), 'subtitle')} with faults: {expected}" *
+                bool(together),
                 {name: together.count(name) for name in CAUSE_NAMES}), count)
 
 

@@ -103,6 +103,20 @@ class Descriptions(Case):
         self.assertEqual(verdict.sentence, 'Refused: subtitle 1 at 00:00:00:00 has the wrong text: '
                          'expected "Ä", received "Ü".')
 
+    def test_lists_other_causes_after_a_shared_delay(self) -> None:
+        content = parse_fault_line("refused 72 Content frame 00:00:01:00 row 1 column 1")
+        for delay, several, expected in (
+                (2, [cause(at, LATE, 2) for at in range(9)], "2 frames late"),
+                (2, [cause(0, LATE, 2), cause(1, WRONG_PLACE), cause(2, NEVER)],
+                 "2 frames late; also never sent (1), wrong place (1)"),
+                (-1, [cause(0, EARLY, 1), cause(1, EARLY, 3), cause(2, LATE, 1)],
+                 "1 frame early; also another delay (2)"),
+                (2, [cause(0, LATE, 2), cause(5, TEXT_IN_PAUSE, None, "at 10:00")],
+                 "2 frames late; also another text in a pause (1)")):
+            words = describe_faults(Facts("refused", 9, content, True, 9,
+                                          causes=make_causes(*several), delay=delay))
+            self.check(f"{several}", words, f"all 9 subtitles appeared {expected}")
+
     def test_lists_other_faults_after_a_cause(self) -> None:
         content = parse_fault_line("refused 72 Content frame 00:00:01:00 row 1 column 1")
         several = make_causes(cause(2, LATE, 3))

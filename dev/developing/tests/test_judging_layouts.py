@@ -149,7 +149,7 @@ class OpenSubtitles(Case):
                 self.must("with --open", other.result["line"] == "refused 13 Display block 0",
                           other.said)
                 continue
-            self.must(f"{kind}: a file", judge_files(self, stl, "--open").word == "accepted")
+            self.must(f"{kind}: a file", judge_files(self, stl, "--open").word == "valid")
             pes = self.schedule(stl, "open.pes", "--open", "--every", "20", "--layout", "after=0A")
             judged_pair = judge_files(self, stl, pes, "--open", "--layout", "after=0A", "-o",
                                       self.path("out"))
@@ -299,7 +299,7 @@ def is_correct(programme: Programme, told: JudgedPair) -> bool:
     """
     if told.word not in ("accepted", "waived"):
         return bool(programme.lost) or not programme.is_right()
-    return programme.is_right() or any(UNSEEN in note for note in told.result["notes"])
+    return programme.is_right() or any(UNSEEN in note for note in told.notes)
 
 
 class RandomProgrammes(Case):

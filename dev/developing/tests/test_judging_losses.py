@@ -8,7 +8,7 @@ from unittest import mock
 
 from developing.pes import STUFFING_UNIT, make_pes_packet
 from subtitles.common.times import TICKS
-from subtitles.judging.timing import UNCHECKED, describe_unchecked_losses
+from subtitles.judging.timing import describe_unchecked_losses
 from subtitles.stream.pace import IRREGULAR, Pace
 from .judged import ProgrammeCase
 from .streams import Packet, Shape, find_teletext_places, make_multiplex, remove_packets_at
@@ -76,7 +76,7 @@ class HiddenPages(ProgrammeCase):
         self.must("closer",
                   judged.parts("pace") == [(2,)] and "not checked: a missing PES "
                   "packet, at 1 place where PES packets are too close together" in
-                  judged.result["notes"], judged.said)
+                  judged.notes, judged.said)
 
     def test_notes_an_undetectable_loss_between_repeat_and_cue(self) -> None:
         times = [(BEGIN + 60 * at, BEGIN + 60 * at + 47) for at in range(60)]
@@ -91,7 +91,7 @@ class HiddenPages(ProgrammeCase):
                                  ("missing", sent[:place] + sent[place + 1:], "accepted")):
             judged = self.judge(some, "--every", "25")
             self.must(name, judged.word == word and judged.parts("pace") == [(25,)] and any(
-                "not checked: a missing " in note for note in judged.result["notes"]),
+                "not checked: a missing " in note for note in judged.notes),
                       judged.said)
 
     def test_finds_a_loss_that_an_announced_jump_hides(self) -> None:
@@ -131,7 +131,7 @@ class HiddenPages(ProgrammeCase):
             "their interval"
         for some, word in ((sent, "refused"), (sent[:place] + sent[place + 1:], "accepted")):
             judged = self.judge(some, "--to", "10:00:18:00")
-            known = [item.replace(self.folder + "/", "") for item in judged.result["notes"]]
+            known = [item.replace(self.folder + "/", "") for item in judged.notes]
             self.must(f"a file, {word}", len(sent) < 101 and judged.word == word and note in known
                       and judged.parts("pace") == [(None,)], judged.said)
         multiplex = make_multiplex([enlarge_pes_packets(make_pes_packet(pts, some), 4)
@@ -160,7 +160,7 @@ class HiddenPages(ProgrammeCase):
             judged = self.judge_stream(lost(multiplex, 3, True, frame), *words)
             self.must(f"{words}", whole.word == "refused" and note not in whole.told and
                       judged.word == "accepted" and judged.told.count(note) == 1 and
-                      note in judged.result["notes"] and judged.result["losses"] == [], judged.said)
+                      note in judged.notes and judged.result["losses"] == [], judged.said)
 
     def test_ignores_an_announced_jump_without_loss(self) -> None:
         multiplex = self.make_stream_packets(self.send_wrong_page(), 0, 0, 1)
@@ -178,5 +178,5 @@ class LossEvidence(unittest.TestCase):
         for frames, words in ((None, "losses"), (0, "losses"), (2, "losses"),
                               (3, "losses of 0.1 s or more"),
                               (25, "losses of 1.0 s or more")):
-            self.assertIn(f"{UNCHECKED} {words} on this PID", describe_unchecked_losses(
+            self.assertIn(f"{words} on this PID", describe_unchecked_losses(
                 Pace(IRREGULAR), frames, recording), frames)

@@ -290,9 +290,9 @@ class Sentences(ProgrammeCase):
             self.must(f"{by}", [item for item in judged_pair.told if "all subtitles" in item] ==
                       [words] * bool(words) and judged_pair.result["parts"][0]["clock"] == {
                           "origin": 0, "source": "given", "delay_frames": by}, judged_pair.said)
-            self.must(f"{by}: noted", judged_pair.result["notes"][:-1] == [words] * bool(words)
-                      and judged_pair.result["notes"][-1].endswith(FEW),
-                      judged_pair.result["notes"])
+            self.must(f"{by}: noted", judged_pair.notes[:-1] == [words] * bool(words)
+                      and judged_pair.notes[-1].endswith(FEW),
+                      judged_pair.notes)
 
     def test_gives_hints_for_the_first_faults(self) -> None:
         whole = "use --option swedish, italian, french, spanish or czech, which have all " \

@@ -1,13 +1,16 @@
 """Test recordings in PES files, transport streams and pipes, with missing or foreign data."""
 from __future__ import annotations
 
+import gzip
 import hashlib
 import os
 import re
 
 from developing.pes import make_pes_packet, decode_pts
-from subtitles.common.times import TICKS
-from .bench import Case, read_example_file
+from subtitles.common.times import TICKS, format_frame
+from subtitles.formats.stl import GSI
+from subtitles.results.schema import find_misfit
+from .bench import Case, get_example_path, read_example_file
 from .judged import judge_files
 from .streams import (
     NEW, OLD, TELETEXT_PID, make_stream_with_video, make_stream_of_pids, make_planned_stream,
@@ -17,6 +20,10 @@ from .transmissions import (
     make_random_stl, schedule_pages,
     subtitle_times)
 from .test_judging_pairs import ACCENT, HELLO, STORY, damage_packet
+
+
+TEXT_AT = 16  # offset of the text field in a TTI block
+STORY_PES = get_example_path("story.pes")
 
 
 class Recordings(Case):
@@ -171,7 +178,7 @@ class Recordings(Case):
             ([STORY, item, "--pid", "0x200"], "PID 0x200 has no complete PES packet",
              ["--pid 0x101"]),
             ([STORY, item, "--pid", "0x300"], "PID 0x300 has no packets", ["--pid 0x101"]),
-            ([other, self.path("own.pes")], "fewer than half", ["--origin T"]),
+            ([other, self.path("own.pes")], "probably another programme's subtitle file", []),
             ([STORY, item, "--origin", "900000000"],
              "so the recording contains no subtitle at its expected time", []),
             ([STORY, STORY], "is a subtitle file", []), ([STORY, "none.ts"], "No such file", []),
@@ -231,11 +238,114 @@ class Recordings(Case):
                   self.read("out/one.html"), result.said)
 
     def test_judges_a_subtitle_file_alone(self) -> None:
-        for stl, lines in ((STORY, ["Accepted: 3 subtitles without a fault.",
-                                    "3 subtitles without a fault"]),
-                           (HELLO, ["Accepted: 1 subtitle without a fault.",
-                                    "1 subtitle without a fault"]),
+        valid = "The subtitle file is valid: {}. No recording was judged."
+        for stl, lines in ((STORY, [valid.format("3 subtitles"),
+                                    "valid: 3 subtitles; no recording was judged"]),
+                           (HELLO, [valid.format("1 subtitle"),
+                                    "valid: 1 subtitle; no recording was judged"]),
                            (ACCENT, ["refused 50 Character block 1 at 6"])):
             result = judge_files(self, stl)
             self.must(stl, result.said[-len(lines):] == lines and result.parts("from", "pes") ==
                       [(None, None)], result.said)
+
+    def test_a_subtitle_file_alone_is_never_accepted(self) -> None:
+        mild = self.write("mild", b"16 warning\nothers warning\n")
+        accent = bytearray(read_example_file("story.stl"))
+        accent[GSI + TEXT_AT + 4] = 0xC2  # subtitle 1 is refused
+        first_refused = self.write("accent.stl", accent)
+        for words, word, numbers in (
+                ([STORY], "valid", [1, 2, 3]), ([STORY, "--strict"], "valid", [1, 2, 3]),
+                ([STORY, "--severity", mild], "valid", [1, 2, 3]),
+                ([STORY, "--from", "20:15:03:00"], "valid", [2, 3]),
+                ([STORY, "--to", "20:15:03:00"], "valid", [1]),
+                ([first_refused, "--from", "20:15:03:00"], "valid", [2, 3]),
+                ([first_refused, "--severity", mild], "waived", [1])):
+            result = judge_files(self, *words, "-o", self.path("out")).result
+            rows = [(row["position"], row["verdict"], row["actual_in"])
+                    for row in result["subtitles"]]
+            self.check(f"{words}", (result["verdict"], rows), (
+                word, [(number, word, None) for number in numbers]))
+            self.must(f"{words}: said", "No recording was judged." in result["sentence"]
+                      and {part["verdict"] for part in result["parts"]} <= {"valid", "refused"}
+                      and not find_misfit(result) and result["worst_fault"] is None
+                      or word == "waived", result)
+            self.must(f"{words}: never accepted", find_misfit({**result, "verdict": "accepted"}))
+            page = self.read("out/one.html").decode()
+            self.must(f"{words}: report", 'class="verdict accepted"' not in page and
+                      "\ufffd" not in page and 'class="list file"' in page
+                      and "Timeline" not in page and "printed fault 60" in page or
+                      word == "waived", page)
+        texts = [row["expected_text"] for row in judge_files(self, STORY).result["subtitles"]]
+        self.check("texts", texts, ["Good evening. / Here is the news.", "Thank you, Anne.",
+                                    "It costs \u00a35, or $7."])
+        empty = judge_files(self, self.write("none.stl", read_example_file("story.stl")[:GSI]))
+        self.check("no subtitle", (empty.result["verdict"], empty.result["reason"]), (
+            "not judged", f"{self.path('none.stl')} has no subtitle"))
+
+    def test_a_file_that_is_no_stl_is_not_judged(self) -> None:
+        stl, begin = read_example_file("story.stl"), "not an EBU STL file"
+        for name, data, expected in (
+                ("empty", b"", "empty"), ("gzip", gzip.compress(stl), "gzip-compressed: unpack it"),
+                ("zip", b"PK\3\4" + stl, "a zip archive"), ("picture", b"\x89PNG\r\n\x1a\n", "a p"),
+                ("SRT", b"1\r\n00:00:01,000 --> 00:00:02,000\r\nHi\r\n", "text"),
+                ("TTML", "<tt>\n\u00e9</tt>".encode(), "text"), ("TTI blocks", stl[GSI:], begin),
+                ("a byte too many", b"x" + stl, begin), ("two bytes", stl[:2], begin),
+                ("UTF-16", "a\n".encode("utf-16"), begin),
+                # One of the two fields is intact: a damaged STL file.
+                ("no DFC", stl[:3] + bytes(8) + stl[11:], "refused 11 Format block 0"),
+                ("no CPN", bytes(3) + stl[3:], ""),
+                ("30 frames", stl.replace(b"25.01", b"30.01", 1), "refused 12 Rate block 0"),
+                ("cut in the GSI block", stl[:500], "refused 10 Truncated block 0"),
+                ("three bytes", stl[:3], "refused 10 Truncated block 0"),
+                ("cut in a TTI block", stl[:-1], "refused 10 Truncated block 3")):
+            path = self.write("one.stl", data)
+            result = judge_files(self, path).result
+            if expected.startswith("refused"):
+                self.check(name, (result["verdict"], result["line"]), ("refused", expected))
+            else:
+                self.must(name, result["status"] == (2 if expected else 0) and
+                          (result["reason"] or "").startswith(f"{path} is {expected}"
+                                                              if expected else ""), result)
+
+    def test_names_the_file_of_another_programme_first(self) -> None:
+        paths = [self.write(f"{seed}.stl", make_random_stl(seed)[0]) for seed in (1, 2)]
+        self.schedule(paths[0], "one.pes", "--every", "25")
+        for origin, begin in (("", "Not judged: probably another"), ("0", "Probably another")):
+            words = ["--origin", origin] if origin else []
+            result = judge_files(self, paths[1], self.path("one.pes"), *words)
+            self.must(begin, result.result["sentence"].startswith(
+                f"{begin} programme's subtitle file: "), result.said)
+        right = judge_files(self, paths[0], self.path("one.pes"), "--origin", "0")
+        self.must("right", "another programme" not in "".join(right.said), right.said)
+
+    def test_a_text_in_a_pause_is_no_fault_of_the_subtitle_before(self) -> None:
+        """The text of a subtitle that the file lacks has a row and a time of its own."""
+        due = subtitle_times(5)
+        stl = write_programme(self, due)
+        self.schedule(stl, "one.pes", "--every", "25")
+        data = self.read("one.stl")
+        self.write("less.stl", data[:GSI + 128] + data[GSI + 256:])
+        result = judge_files(self, self.path("less.stl"), self.path("one.pes"), "--origin", "0",
+                             "-o", self.path("out"))
+        time, end = (format_frame(frame) for frame in due[1])
+        self.check("subtitles", [row["verdict"] for row in result.result["subtitles"]],
+                   ["right"] * 4)
+        cause, = result.result["causes"]
+        self.check("cause", (cause["name"], cause["time"], cause["subtitle"]["position"]),
+                   ("another text in a pause", time, 1))
+        self.must("faults", {fault["cause"]["name"] for fault in result.result["faults"]} ==
+                  {cause["name"]} and "1 pause with another text" in result.said, result.said)
+        page = self.read("out/one.html").decode()
+        row = page.partition('<tr id="s1-pause"')[2].partition("</tr>")[0]
+        self.must("row", f"<td>{time}</td><td>{end}</td>" in row and row.startswith(' class="bad')
+                  and 'href="#s1-pause"' in page and "What is wrong</caption>" in page, page)
+
+    def test_a_wrong_text_that_comes_early_is_not_in_the_pause(self) -> None:
+        stl = bytearray(read_example_file("story.stl"))
+        stl[1288], stl[1304] = 3, 0x7A  # subtitle 3 has another letter, and begins 3 frames later
+        result = judge_files(self, self.write("one.stl", stl), STORY_PES, "--origin", "0").result
+        self.check("subtitles", [(row["verdict"], row["reason"], row["delay_in"])
+                                 for row in result["subtitles"]],
+                   [("right", None, 0), ("right", None, 0),
+                    ("wrong", "wrong text: 3 frames early", -3)])
+        self.check("causes", [cause["name"] for cause in result["causes"]], ["wrong text"])

@@ -435,7 +435,8 @@ class VisibleRows(Case):
             sent = self.write("one.pes", join_pes_packets(schedule_pages(self, stl, *option)))
             for more in ((), (sent, "--origin", "0")):
                 judged = judge_files(self, stl, *more, *option)
-                self.must(f"{text!r} {more}", judged.word == word, judged.said)
+                self.must(f"{text!r} {more}", judged.word == (
+                    word if more or word == "refused" else "valid"), judged.said)
                 if word == "refused":
                     self.must(f"{text!r}: sentence", judged.result["sentence"].startswith(
                         f"Refused: {words}; 3 faults in all"), judged.result["sentence"])

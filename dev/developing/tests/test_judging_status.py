@@ -233,8 +233,13 @@ class Severities(unittest.TestCase):
             ("72 error\nothers warning", False, {72: "error", 67: "warning", 45: "error"}),
             ("72 warning\n72 error", False, {72: "error"}), ("others error", False, {72: "error"}),
             ("# 72 warning", False, {72: "error"}), ("\n072 warning # so", False, {72: "warning"}),
-            ("45 warning", False, {72: "error", 45: "warning", 79: "warning"}),
-            ("45 warning\n79 error", False, {79: "error"}), ("79 error", True, {79: "error"}),
+            ("45 warning", False, {72: "error", 45: "warning", 79: "error"}),
+            ("45 warning\nothers error", False, {45: "warning", 79: "error"}),
+            ("45 warning\nothers warning", False, {45: "warning", 79: "warning"}),
+            ("45 warning\n79 warning", False, {79: "warning"}),
+            ("79 error", True, {45: "warning", 79: "error"}),
+            ("others error", True, {45: "warning", 79: "error"}),
+            ("others error\n79 warning", True, {79: "warning"}),
             ("79 warning", False, {79: "warning", 45: "error"}),
             ("45 error", True, {45: "warning"}),
             ("never sent warning", False, {**names, "never sent": "warning", 45: "error"}),
@@ -246,8 +251,9 @@ class Severities(unittest.TestCase):
                 with self.subTest(lines=lines, allowed=is_allowed, of=item):
                     self.assertEqual((severity.classify(item), severity.is_error(item)),
                                      (word, word == "error"))
-        self.assertEqual((Severity(None).classify(72), Severity(None, True).classify(45)),
-                         ("error", "warning"))
+        self.assertEqual([Severity(None, is_allowed, True).classify(number)
+                          for is_allowed in (False, True) for number in (45, 79)],
+                         ["error", "error", "warning", "error"])  # a given --pace wins
 
     def test_refuses_wrong_lines(self) -> None:
         none = (0, 5, 9, 26, 29, 41, 43, 46, 49, 58, 59, 75, 81, 83, 90, 100)

@@ -26,6 +26,7 @@ from subtitles.judging.subtitles import OptionAdvice
 from subtitles.judging.timing import (
     PartSearch, find_desync, find_subtitle_packets, list_timed_parts, report_estimated_origin)
 from subtitles.judging.transmissions import describe_control_bits
+from subtitles.judging.unchecked import summarize_pictures
 from subtitles.recording.notices import (
     Notice, format_presence, format_duration, find_character_set_notices, find_count_notices,
     find_jump_notices, find_pause_notices, find_pmt_notices, find_repeat_notices)
@@ -96,7 +97,8 @@ class PartClocks(unittest.TestCase):
             for source, count in ((GIVEN, 2), (RECORDING, 2), (START, 3), (TCP, 3)):
                 desync = find_desync(survey, 9, TimedPart(10, 100, Clock(0, source)), 0, 7)
                 self.assertEqual([fault.part for fault in desync.faults], [7] * count, source)
-                self.assertEqual([" at 1 place where " in note for note in desync.notes], [True],
+                self.assertEqual([" at 1 place where " in text
+                                  for text in summarize_pictures(desync.unchecked)], [True],
                                  (source, count))
 
 

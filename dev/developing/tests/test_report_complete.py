@@ -11,12 +11,12 @@ from subtitles.common.markup import escape
 from subtitles.common.times import TICKS
 from subtitles.formats.listing import NamedFault
 from subtitles.formats.stl import Subtitle
+from subtitles.judging.coverage import UNCHECKED_DELAY, UNCHECKED_GAP
 from subtitles.judging.status import REFUSED
 from subtitles.judging.transmissions import ExpectedPages
 from subtitles.judging.verdict import Gap, Unjudged, Verdict
 from subtitles.recording.notices import Notice
 from subtitles.report import page as report_page
-from subtitles.report.page import UNCHECKED_GAP, UNCHECKED_DELAY
 from subtitles.request.commands import CommandPaths
 from subtitles.stream.gaps import LossPlace
 from subtitles.stream.packets import Packets, PES

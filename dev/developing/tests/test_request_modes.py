@@ -47,6 +47,7 @@ VALUES = {"--page": "801", "--every": "25", "--within": "1", "--option": "german
           "--from": "00:00:01:00",
           "--to": "00:00:02:00", "--layout": "fit", "--pace": "9", "--late": "0:9/0:9"}
 MANUAL = os.path.join(TOP, "docs", "manual", "qc.md")
+NO_RECORDING = "no recording was given"
 MODE_OPTIONS = {"--batch", "--watch", "--collect", "--measure", "--help", "-h", "--version"}
 
 
@@ -89,16 +90,17 @@ class Modes(Case):
             self.must(words, result[name] == value, result)
         for words, mode, printed in (
                 ("--every 25 --every 50", COLLECT, "--every may be given with"),
-                ("--complete --no-complete", ALONE, "--complete may be given with"),
+                ("--complete --no-complete", ALONE, f"{NO_RECORDING}, but --complete"),
                 ("--no-complete --complete", COLLECT, "--complete may be given with"),
                 ("--jobs 2 --settled 3", BATCH,
                  "--settled may be given with --watch, not with --batch"),
                 ("--every 25 --breaks 1", COLLECT, "--every may be given with"),
                 # An option is refused even if its value is the default.
-                ("--pes=1-2", ALONE, "--pes may be given with"),
-                ("--breaks 0", ALONE, "--breaks may be given with"),
-                ("--breaks=0", ALONE, "--breaks may be given with"),
-                ("--start tcp", ALONE, "--start may be given with")):
+                ("--pes=1-2", ALONE, f"{NO_RECORDING}, but --pes needs one"),
+                ("--breaks 0", ALONE, f"{NO_RECORDING}, but --breaks needs one"),
+                ("--breaks=0", ALONE, f"{NO_RECORDING}, but --breaks needs one"),
+                ("--start tcp", ALONE, f"{NO_RECORDING}, but --start needs one"),
+                ("--profile house", ALONE, f"{NO_RECORDING}, but --profile needs one")):
             with self.assertRaises(Stop) as refused:
                 refuse_options(make_parser(""), [*CALLS[mode], *words.split()], mode)
             self.must(words, str(refused.exception).startswith(printed), refused.exception)
@@ -143,7 +145,7 @@ class Modes(Case):
 
     def test_ends_a_wrong_call_with_status_2(self) -> None:
         self.write("list", b"one.stl\n")
-        for words in (["a.stl", "--pid", "5"], ["--collect", ".", "-o", "out"],
+        for words in (["a.stl", "--jobs", "5"], ["--collect", ".", "-o", "out"],
                       ["--batch", "list", "--settled", "5"]):
             process = self.tool("qc", *words)
             self.must(" ".join(words), process.status == 2 and len(process.told) == 1
@@ -267,10 +269,11 @@ VALID: dict[str, list[list[str]]] = {
     "program": [[]], "qc": [[STL, PES, "--origin", "0"], [STL]],
     "reading-list": [["Good"], ["--lowest-first", "Good"], ["check_all.reported"]],
     "sizes": [[]], "sources": [[]],
-    "check-every-place": [["--count", "1", "--recordings", "1"]], "check-survey": [["--count", "1"]],
+    "check-every-place": [["--count", "1", "--recordings", "1"]],
+    "check-survey": [["--count", "1"]],
 }
-# Scripts whose calls need the toolchain, a browser or several minutes. The gate and the release call
-# them, or (make-pages) they write into the repository, and another test compares what they make.
+# Scripts whose calls need the toolchain, a browser or several minutes. The gate and the release
+# call them. make-pages writes into the repository, and another test compares what it makes.
 LONG_CALLS = {"prove", "slow-proofs", "release", "check-preview", "make-picture", "check-program",
               "check-tools", "check-manual", "check-readme", "check-live", "faults", "plant",
               "install-test-tools", "make-pages"}

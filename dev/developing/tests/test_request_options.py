@@ -129,7 +129,7 @@ class NewOptions(Case):
                   "A new one. What is new." and output["schema"]["newer"] == {
                       "description": "It is newer.", "type": "boolean"}, output["schema"])
         alone, pair, collect = output["not with"]
-        self.must("modes", pair is None and "--newer may be given with" in alone and
+        self.must("modes", pair is None and "no recording was given, but --newer needs one" == alone and
                   "--new-one may be given with" in collect, output["not with"])
 
 
@@ -176,8 +176,7 @@ class OptionRows(Case):
                       (item.member is None) == item.name.startswith("--no-"))
             self.must(f"{item.name}: lines", LINE in item.modes, item.modes)
         self.must("of a file", [item.name for item in OPTIONS if ALONE in item.modes] == [
-            "--option", "--severity", "--strict", "--from", "--to", "--layout", "--open",
-            "--profile"])
+            "--option", "--severity", "--strict", "--from", "--to", "--layout", "--open"])
 
     def test_selects_subtitles_by_time(self) -> None:
         day = FRAMES_OF_A_DAY

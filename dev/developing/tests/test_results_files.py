@@ -135,7 +135,10 @@ class WrittenResults(Case):
         rows: list[tuple[str, int, dict[str, Any], bool]] = [
             ("accepted", 0, {"origin": 0}, True), ("accepted", 0, {"start": "tcp"}, True),
             ("accepted", 0, {}, False), ("accepted", 0, {"relative": True}, False),
-            ("accepted", 0, {"recording": None}, True), ("accepted", 3, {"origin": 0}, False),
+            ("accepted", 0, {"recording": None}, False), ("accepted", 3, {"origin": 0}, False),
+            ("accepted", 0, {"recording": None, "origin": 0}, False),
+            ("valid", 0, {"recording": None}, True), ("valid", 0, {"origin": 0}, False),
+            ("valid", 1, {"recording": None}, False), ("waived", 0, {"recording": None}, True),
             ("waived", 0, {"origin": 0}, True), ("waived", 0, {}, False),
             ("relative", 3, {}, True), ("relative", 0, {}, False),
             ("relative", 0, {"relative": True}, True), ("relative", 1, {}, False),

@@ -431,7 +431,7 @@ class Losses(ProgrammeCase):
             self.check_faults(f"{cut.__name__} {count}", judged, word,
                               *["45 Lost pes 155"] * (word == "refused"))
             self.must(f"{cut.__name__} {count}: said", IRREGULAR_NOTE in judged.told and
-                      IRREGULAR_NOTE in judged.result["notes"] and
+                      IRREGULAR_NOTE in judged.notes and
                       not judged.lines("pace: ") and judged.parts("pace") == [(None,)], judged.said)
         for words in ("--pace=none", "--pace=180"):
             judged = self.judge_stream(remove_pid_packets(multiplex, first, 16), words)

@@ -10,7 +10,8 @@ from developing.pes import decode_pts
 from subtitles.clock.start import Clock, GIVEN, RECORDING, START, TimedPart
 from subtitles.common.times import CLOCK, TICKS, format_frame, pts_of
 from subtitles.formats.listing import PICTURES_LEFT
-from subtitles.judging.timing import NOT_CHECKED, find_departures, find_desync, find_late_jumps
+from subtitles.judging.timing import find_departures, find_desync, find_late_jumps
+from subtitles.judging.unchecked import NOT_CHECKED, summarize_pictures
 from subtitles.stream.pace import Pace, REGULAR
 from subtitles.stream.packets import PacketRun, Packets, find_announced_jumps
 from subtitles.stream.pictures import Departure, VideoLead, locate_departures
@@ -156,14 +157,13 @@ class DepartureFaults(Case):
                               source: str = GIVEN,
               origin: int = 0) -> tuple[list[tuple[str | None, str | None, str]], list[str]]:
         """Return the start, end and direction of each fault, and all notes."""
-        faults, notes, _ = find_desync(survey_extra_lines(make_lead_survey_lines(steps, origin),
-                                                              origin), PID,
-                                    TimedPart(
-            1000, 2000, Clock(origin, source)), within, 1)
+        faults, notes, unchecked = find_desync(
+            survey_extra_lines(make_lead_survey_lines(steps, origin), origin), PID,
+            TimedPart(1000, 2000, Clock(origin, source)), within, 1)
         self.check("kinds",
                    {(fault.name, fault.part) for fault in faults} - {(PICTURES_LEFT, 1)}, set())
         return [(fault.time, fault.until, fault.text.partition(" on, subtitles are ")[2].partition(
-            " for viewers")[0]) for fault in faults], notes
+            " for viewers")[0]) for fault in faults], [*notes, *summarize_pictures(unchecked)]
 
     def test_reports_departures_as_early_or_late(self) -> None:
         middle, end = "00:01:00:00", "00:01:19:24"
@@ -217,7 +217,8 @@ class DepartureFaults(Case):
                  [f"{NOT_CHECKED}: the video's decoding times have no usual step"]),
                 ("no line", Survey(), [])):
             desync = find_desync(survey, PID, TimedPart(1000, 2000, Clock(0, GIVEN)), 0, 1)
-            self.check(name, desync[:2], ([], expected))
+            self.check(name, (desync.faults, desync.notes, [*summarize_pictures(desync.unchecked)]),
+                       ([], [], expected))
 
 
 class Pairs(Case):

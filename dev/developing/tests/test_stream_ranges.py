@@ -77,7 +77,7 @@ class DayFiles(Case):
         judged_pair = judge_files(self, last_bad, second, *LATER, "-o", self.path("out"))
         self.must("inside", judged_pair.verdict.line == "refused 50 Character block 6 at 11" and
                   judged_pair.result["faults"][0]["subtitle"]["position"] == 6, judged_pair.said)
-        for words, word in ((EARLIER, "accepted"), ((), "refused"), (LATER, "refused")):
+        for words, word in ((EARLIER, "valid"), ((), "refused"), (LATER, "refused")):
             self.must(f"alone {words}", judge_files(self, last_bad, *words).word == word)
 
     def test_refuses_a_range_without_subtitles(self) -> None:
@@ -196,8 +196,9 @@ class SkippedSubtitles(Case):
                 self.must(f"{title} {recording}: refused", not (recording or number == 21) or
                           str(number) in (result.verdict.line or ""), result.said)
                 result = judge_files(self, whole, *recording, "--from", "10:00:02:00")
-                self.must(f"{title} {recording}: without", result.word == "accepted" and not any(
-                    "00:00:00:00" in item for item in result.told), result.said)
+                self.must(f"{title} {recording}: without",
+                          result.word == ("accepted" if recording else "valid") and not any(
+                              "00:00:00:00" in item for item in result.told), result.said)
 
 
 class AdjoiningSubtitles(ProgrammeCase):

@@ -174,7 +174,8 @@ class Checker:
         name = programme.name
         result = read_call_result(os.path.join(self.work, name + ENDING), name,
                                   1 if status == UNFINISHED else status, lines)
-        return Outcome(result, result["reason"] or result["worst_fault"], status != UNFINISHED)
+        return Outcome(result, result["reason"] or result["worst_fault"] or result["line"],
+                       status != UNFINISHED)
 
     def judge(self, programme: Programme, stretch: UnbrokenRun) -> int:
         """Judge a programme in the current process. Return the exit status."""

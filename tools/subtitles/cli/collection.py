@@ -15,7 +15,7 @@ from ..common.command_line import (
 from ..common.files import Inputs, NO_INPUTS, STANDARD_OUTPUTS, refuse_output_name, open_result
 from ..common.markup import BREAK, HEAD, Markup, NO_MARKUP, Value, join_markup, markup
 from ..judging.status import (
-    ACCEPTED, LOST, NOT_JUDGED, REFUSED, RELATIVE, WAIVED, WARNED, combine_statuses)
+    ACCEPTED, LOST, NOT_JUDGED, REFUSED, RELATIVE, VALID, WAIVED, WARNED, combine_statuses)
 from ..request.commands import make_index_path
 from ..results.files import (
     ENDING, NO_CLOCK, Row, TestCase, sort_rows, make_junit_file, read_result, read_results,
@@ -56,9 +56,8 @@ fieldset { border: 1px solid var(--line); display: flex; flex-wrap: wrap; gap: 4
   .pairs td.verdict { border-left: 4px solid; } td:empty { display: none; } }
 @media print { fieldset { display: none; } .pairs thead th { position: static; } }
 """)
-VERDICT_SIGNS = {ACCEPTED: "\u2713", WAIVED: "\u2212", REFUSED: "\u2715", LOST: "\u29d6",
-                 WARNED: "!",
-                 NOT_JUDGED: "?", RELATIVE: "\u223c"}
+VERDICT_SIGNS = {ACCEPTED: "\u2713", VALID: "\u25a1", WAIVED: "\u2212", REFUSED: "\u2715",
+                 LOST: "\u29d6", WARNED: "!", NOT_JUDGED: "?", RELATIVE: "\u223c"}
 PAGE_HEADS = ("Verdict", "Pair", "What is wrong", "Faults", "Files")
 MAX_CAUSES = 6
 
@@ -104,8 +103,8 @@ def make_cause_totals(rows: Sequence[Row]) -> Markup:
 
 def make_sort_key(row: Row) -> tuple[int, str]:
     """Return a key that sorts refused pairs first, then pairs that were not judged, then waived and
-    relative pairs, and accepted pairs last."""
-    ranks = {NOT_JUDGED: 1, WAIVED: 2, RELATIVE: 2, ACCEPTED: 3}
+    relative pairs and subtitle files without a recording, and accepted pairs last."""
+    ranks = {NOT_JUDGED: 1, WAIVED: 2, RELATIVE: 2, VALID: 2, ACCEPTED: 3}
     return ranks.get(row.verdict, 0), row.name
 
 
@@ -276,10 +275,11 @@ def format_summary(rows: Sequence[Row], note: str = "") -> Iterator[str]:
 def format_progress(rows: dict[str, Row], count: int, kept_count: int, start_time: float) -> str:
     """Return the progress line: the number of pairs by verdict, and the estimated time left."""
     verdicts = [row.verdict for row in rows.values()]
-    good_counts = [f"{verdicts.count(word)} {word}, " for word in (ACCEPTED, WAIVED, RELATIVE)
+    good_words = (ACCEPTED, VALID, WAIVED, RELATIVE)
+    good_counts = [f"{verdicts.count(word)} {word}, " for word in good_words
                    if word in verdicts or word == ACCEPTED]
     unjudged_count = verdicts.count(NOT_JUDGED)
-    refused = sum(word not in (ACCEPTED, WAIVED, RELATIVE, NOT_JUDGED) for word in verdicts)
+    refused = sum(word not in (*good_words, NOT_JUDGED) for word in verdicts)
     line = f"{len(rows)} of {counted(count, 'pair')}: {''.join(good_counts)}{refused} refused, " \
         f"{unjudged_count} not judged"
     done_count = len(rows) - kept_count
@@ -291,6 +291,8 @@ def format_progress(rows: dict[str, Row], count: int, kept_count: int, start_tim
 
 def worst_fault(row: Row) -> str:
     """Return the worst fault of a pair and its hint, or the reason why the pair was not judged."""
+    if row.verdict == VALID:
+        return "no recording was judged"
     if row.verdict == ACCEPTED or not row.line:
         return ""
     if row.verdict == RELATIVE and not row.faults:

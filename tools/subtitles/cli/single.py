@@ -24,7 +24,8 @@ from ..formats.listing import parse_count_line, is_check_line
 from ..judging.causes import format_cause_counts
 from ..judging.faults import list_hints
 from ..judging.pair import PairJudge
-from ..judging.status import ACCEPTED, NOT_JUDGED, RELATIVE, Severity
+from ..judging.status import ACCEPTED, NOT_JUDGED, RELATIVE, Severity, VALID
+from ..judging.unchecked import summarize_pictures
 from ..judging.verdict import Unjudged, Verdict
 from ..recording.recording import Recording
 from ..request.commands import (
@@ -239,8 +240,10 @@ def stamp_inputs(request: Request) -> dict[str, Stamp | None]:
 
 def make_verdict(request: Request, listener: Listener) -> Verdict:
     """Return an empty verdict that shares the notes, commands and choices of `listener`."""
-    return Verdict(request, Severity(request.severity, request.is_loss_allowed), now(),
-                   notes=listener.notes, commands=listener.commands, selections=listener.selections)
+    return Verdict(request, Severity(
+        request.severity, request.is_loss_allowed, request.pace is not None), now(),
+                   notes=listener.notes, unchecked_losses=listener.unchecked_losses,
+                   commands=listener.commands, selections=listener.selections)
 
 
 def refuse_outputs(call: PairOptions, request: Request, out: str | None, name: str) -> None:
@@ -321,7 +324,8 @@ def print_verdict(verdict: Verdict, printer: Printer, page: str | None = None) -
         printer.print_error(line)
     if verdict.is_lost and not verdict.request.is_loss_allowed:
         printer.print_error("record that part again: the missing frames were not checked")
-    for line in verdict.notes:
+    for line in [*verdict.notes, *(f"not checked: {text}" for text in (
+            *verdict.unchecked_losses, *summarize_pictures(verdict.unchecked_pictures)))]:
         printer.print_error(line)
     for warning in verdict.warnings:
         printer.print_error(warning.format_warning())
@@ -347,7 +351,7 @@ def print_verdict(verdict: Verdict, printer: Printer, page: str | None = None) -
 def format_reference(verdict: Verdict, page: str | None) -> str:
     """Return a sentence that refers the reader to the report or, if there is no report, to the
     manual's section about the worst fault. Return an empty string if there is no fault."""
-    if verdict.word == ACCEPTED or verdict.word == RELATIVE and not verdict.fault_count:
+    if verdict.word in (ACCEPTED, VALID) or verdict.word == RELATIVE and not verdict.fault_count:
         return ""
     if page:
         return f" See {page}."

@@ -71,6 +71,7 @@ class OriginEstimate:
     # Whether all cues of the first part match, or all its in-cues (or out-cues) share a delay
     has_all_cues: bool = True
     matches_every_cue: bool = False  # whether every cue of the file matches the expected page
+    mismatch: str = ""  # says that the file is probably another programme's
     first_shift: int | None = None  # first frame from which the delay is different
     shift_texts: list[str] = dataclasses.field(default_factory=list)  # changes of the delay
     printed: list[str] = dataclasses.field(default_factory=list)  # command-line options to print
@@ -168,7 +169,9 @@ def store_first_part(origin: OriginEstimate, search: OriginSearch, bases: Sequen
         add_part(origin, part, part.time_base.packets if is_back else None, None, len(cues))
         origin.matches_every_cue = part.best.matches == part.best.content_matches == len(cues)
     origin.lines += format_part(part, len(cues), search.has_picture)
-    compare_with_known_origin(origin, search.origin, part)
+    origin.mismatch = describe_mismatch(part)
+    if not origin.mismatch:
+        compare_with_known_origin(origin, search.origin, part)
     if len(parts) > 1:
         origin.first_shift = cues[row[1].first].frame
         origin.shift_texts = shift_lines(row, parts,
@@ -332,9 +335,23 @@ def format_part(part: EstimatedPart, count: int, has_picture: bool = False) -> I
         yield (f"{best.matches - best.exact_matches} of the matching cues match only to the "
                "nearest "
                "frame: PTS that are not whole frames apart are refused with fault 61")
-    if best.matches * 2 < best.total and not cue_offset:
+    if mismatch := describe_mismatch(part):
+        yield mismatch
+    elif best.matches * 2 < best.total and not cue_offset:
         yield (f"fewer than half of the cues match with --origin {best.origin}: check that this "
                "is the right subtitle file")
+
+
+def describe_mismatch(part: EstimatedPart) -> str:
+    """Return a message if the file is probably another programme's, otherwise "". Then fewer than
+    half of the cues match a page change, and more than a quarter of these changes show another
+    text. If the file is right, but its subtitles are late or missing, the matching cues show their
+    text."""
+    best = part.best
+    is_other = best.matches * 2 < best.total and best.content_matches * 4 < best.matches * 3 \
+        and not part.time_base.find_cue_offset(best)
+    return "probably another programme's subtitle file: " \
+        f"{best.matches} of {counted(best.total, 'cue')} match" if is_other else ""
 
 
 def describe_early_cues(early: EarlyCues, has_picture: bool) -> str:

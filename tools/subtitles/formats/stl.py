@@ -104,6 +104,25 @@ def encode_page_characters(text: bytes, option: str) -> bytes:
 CODE_PAGE = slice(0, 3)  # code page number (CPN)
 ORIGINAL, TRANSLATED = slice(16, 48), slice(80, 112)  # programme titles (OPT, TPT)
 CODE_PAGES = {"437", "850", "860", "863", "865"}
+DISK_FORMAT = slice(3, 11)  # disk format code (DFC)
+# The first bytes of other files, and what they are
+OTHER_FILES = {b"\x1f\x8b": "gzip-compressed: unpack it", b"PK\3\4": "a zip archive: unpack it",
+               b"\x89PNG": "a picture", b"%PDF": "a PDF file"}
+
+
+def describe_other_file(path: str) -> str:
+    """Return what a file is if it is no STL file, otherwise "". An STL file has a DFC that begins
+    with STL or one of the five CPNs, so one damaged field does not make it another file."""
+    head = read_first_bytes(path, GSI)
+    if head[DISK_FORMAT].startswith(b"STL") or head[CODE_PAGE].decode("latin-1") in CODE_PAGES:
+        return ""
+    if not head:
+        return "empty"
+    if b"\n" in head and not head.translate(None, b"\t\n\r" + bytes(range(0x20, 0x100))):
+        return "text: export the subtitles as EBU STL"
+    return next((text for begin, text in OTHER_FILES.items() if head.startswith(begin)),
+                "not an EBU STL file: it begins with neither a code page (CPN, such as 850) nor a "
+                "disk format code (DFC, STL25.01)")
 
 
 def read_titles(path: str) -> list[str]:

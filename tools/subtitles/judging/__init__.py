@@ -9,9 +9,10 @@ sentence       the fault to report first, and the sentence about the verdict
 subtitles      refused subtitles, advice on them, and the subtitles that are judged anyway
 cues           when each subtitle was expected, and when a receiver decoded it
 part           a part of a pair, with its frames, PES packets and faults
-unchecked      what was not checked about the pictures
+unchecked      kinds of what was not checked, and pictures that were not compared
 timing         the parts of a recording: clocks, PES packets and their intervals, pictures
 verdict        the verdict on a pair, with its texts, gaps and delays
+coverage       a list of everything that was not checked
 faults         the faults of a verdict, with their places, details and hints
 pair           judging a pair step by step, and explaining why a part is refused
 """

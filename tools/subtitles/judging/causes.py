@@ -3,7 +3,7 @@ from __future__ import annotations
 
 import collections
 import functools
-from typing import Iterable, NamedTuple
+from typing import Collection, Iterable, NamedTuple
 
 from ..common.command_line import counted
 from ..common.shapes import Members
@@ -47,6 +47,7 @@ class Cause(NamedTuple):
     other_index: int | None  # index of the subtitle with the text of this page
     details: str
     final_frame: int  # last frame that can change the cause
+    frame: int | None = None  # first frame of a text in a pause
 
     @property
     def may_be_correct(self) -> bool:
@@ -110,7 +111,12 @@ class CauseFinder(PageTransmissions):
             return self.classify_later_fault(place, faulty_frames)
         unknown_page = self.find_unknown_page(place, sent_frame)
         if unknown_page is not None:
-            return self.classify_difference(place, unknown_page)
+            cause = self.classify_difference(place, unknown_page)
+            if place == 0 or not self.is_sent_for_next(unknown_page, place - 1):
+                return cause
+            early = subtitle.begin - self.timeline.frames[unknown_page]
+            return cause._replace(details="; ".join(filter(None, [
+                cause.details, f"{counted(early, 'frame')} {EARLY}"])))
         other = self.find_other_text_at_cue(place)
         if other is not None:
             return self.make_other_text_cause(place, other, self.find_search_window(place).last)
@@ -171,7 +177,9 @@ class CauseFinder(PageTransmissions):
             page = self.timeline.pages[number]
             if page != BLANK_PAGE and self.belongs_to_subtitle(number, place) and \
                     is_partial_page(page, self.pages[place]):
-                return Cause(place, WRONG_TEXT, None, page, None, "rows are missing", window.last)
+                words = "the subtitle has no text" if self.pages[place] == BLANK_PAGE else \
+                    "rows are missing"
+                return Cause(place, WRONG_TEXT, None, page, None, words, window.last)
         sent = self.timeline.get_page_at(subtitle.begin)
         is_decoded_completely = self.timeline.last >= min(window.last, subtitle.begin + MIN_FRAMES)
         words = self.subcode_text if is_decoded_completely else \
@@ -275,9 +283,18 @@ class CauseFinder(PageTransmissions):
         if is_unexpected_page and not is_expected_text and self.timeline.was_received(subtitle.end,
                                                                                       frame):
             return Cause(place, TEXT_IN_PAUSE, None, page, None, f"at {format_frame(frame)}",
-                         subtitle.end)
+                         subtitle.end, frame)
         return self.make_unknown_cause(place, frame, subtitle.end,
                                        f"sent after its TCO, at {format_frame(frame)}")
+
+    def find_text_in_pause(self, place: int, span: Span) -> Cause | None:
+        """Return the cause if a span of wrong frames has a text that was sent in the pause after a
+        subtitle and belongs to no subtitle."""
+        number = self.timeline.find_page_number_at(span.first)
+        if number < 0 or self.timeline.frames[number] < self.subtitles[place].end:
+            return None
+        cause = self.classify_after_end(place, number, span.first)
+        return cause if cause.name == TEXT_IN_PAUSE else None
 
     def describe_removal(self, place: int, number: int) -> str:
         """Describe how long page `number` stayed after the TCO, or return "" if this is unknown."""
@@ -348,6 +365,9 @@ class Causes:
         self.expected, self.timeline, self.recorded_span = expected, timeline, recorded_span
         self.finder = CauseFinder(expected, timeline)
         self.cause_by_index: dict[int, Cause] = {}  # causes, by index of the subtitle
+        # The first text in each pause that belongs to no subtitle, by index of the subtitle before.
+        # This subtitle may be right.
+        self.pause_texts: dict[int, Cause] = {}
         # Index of the subtitle with fault `BEGIN` or `END`, if frames outside the range are known
         self.frames_by_end_fault: dict[int, int] = {}
         self.pending: dict[int, FaultyFrames] = {}
@@ -376,7 +396,11 @@ class Causes:
             self.add_span(self.finder.find_owner(span.first), span)
 
     def add_span(self, place: int, span: Span) -> int:
-        """Add frames with a wrong page to the subtitle with index `place`, and return `place`."""
+        """Add frames with a wrong page to the subtitle with index `place`, or to the pause after
+        it, and return `place`."""
+        if pause_text := self.finder.find_text_in_pause(place, span):
+            self.pause_texts.setdefault(place, pause_text)
+            return place
         self.first_wrong_frames.setdefault(place, span.first)
         if place not in self.cause_by_index:
             self.pending.setdefault(place, FaultyFrames()).add(span, self.expected.subtitles[place])
@@ -448,7 +472,10 @@ class Causes:
     def find_cause(self, number: int, frame: int) -> Cause | None:
         """Return the cause of fault `number` in a frame, or `None` if no cause was found."""
         if number == CONTENT:
-            return self.cause_by_index.get(self.finder.find_owner(frame))
+            place = self.finder.find_owner(frame)
+            pause_text = self.pause_texts.get(place)
+            is_pause = pause_text and pause_text.frame is not None and frame >= pause_text.frame
+            return pause_text if is_pause else self.cause_by_index.get(place)
         edge = self.frames_by_end_fault.get(number)
         return None if edge is None else self.cause_by_index.get(edge)
 
@@ -461,13 +488,27 @@ class Causes:
         return self.timeline.find_page_number_at(sent_frame) + 1 < len(self.timeline.frames)
 
     def list_causes(self) -> list[Cause]:
-        return [self.cause_by_index[place] for place in sorted(self.cause_by_index)]
+        """Return the causes in the order of the subtitles and of the pauses after them."""
+        return sorted([*self.cause_by_index.values(), *self.pause_texts.values()],
+                      key=lambda cause: (cause.subtitle_index, cause.name == TEXT_IN_PAUSE))
+
+    def find_pause_text_span(self, cause: Cause) -> Span:
+        """Return the frames in which the text of a cause `TEXT_IN_PAUSE` is decoded."""
+        assert cause.frame is not None
+        return self.timeline.get_page_span(self.timeline.find_page_number_at(cause.frame))
+
+
+
+def find_first_frame(causes: Causes, cause: Cause) -> int | None:
+    """Return the first frame with a wrong page that a cause explains, if known."""
+    return causes.first_wrong_frames.get(cause.subtitle_index) if cause.frame is None \
+        else cause.frame
 
 
 def count_causes(several: Iterable[Causes]) -> dict[str, int]:
     """Return the number of causes in several parts, by name of the cause."""
     counted = collections.Counter(cause.name for item in several
-                                  for cause in item.cause_by_index.values())
+                                  for cause in item.list_causes())
     return {name: counted[name] for name in CAUSE_NAMES}
 
 
@@ -490,6 +531,7 @@ class CauseDescriber:
             "subtitle": {"position": subtitle.index, "number": subtitle.number,
                          "begin": format_frame(subtitle.begin), "end": format_frame(subtitle.end)},
             "name": cause.name, "frames": cause.frames,
+            "time": None if cause.frame is None else format_frame(cause.frame),
             "expected_text": self.format_expected_text(cause),
             "decoded_text": None if cause.sent_page is None
             else format_page_text(cause.sent_page, self.option),
@@ -534,11 +576,16 @@ class CauseDescriber:
 
 
 def format_cause_counts(several: list[Causes]) -> str:
-    """Return a line with the number of subtitles whose fault has a cause, in total and by cause."""
+    """Return a line with the number of subtitles whose fault has a cause, in total and by cause,
+    and the number of pauses with another text."""
     count = sum(len(item.cause_by_index) for item in several)
-    return f"{counted(count, 'subtitle')} with faults: {list_cause_counts(several)}"
+    pause_count = sum(len(item.pause_texts) for item in several)
+    causes = list_cause_counts(several, (TEXT_IN_PAUSE,))
+    return "; ".join([f"{counted(count, 'subtitle')} with faults: {causes}"] * (count > 0)
+                     + [f"{counted(pause_count, 'pause')} with another text"] * (pause_count > 0))
 
 
-def list_cause_counts(several: list[Causes]) -> str:
-    """Return a text with the number of subtitles for each cause."""
-    return ", ".join(f"{count} {name}" for name, count in count_causes(several).items() if count)
+def list_cause_counts(several: list[Causes], left_out: Collection[str] = ()) -> str:
+    """Return a text with the number of subtitles for each cause that is not in `left_out`."""
+    return ", ".join(f"{count} {name}" for name, count in count_causes(several).items()
+                     if count and name not in left_out)

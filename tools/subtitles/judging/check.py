@@ -43,6 +43,7 @@ class CheckOutput:
         self.path, self.last_line = path, ""
         self.exit_status: int | None = None  # `None` until `check` has ended
         self.is_accepted = False  # whether the last line is `accepted`
+        self.is_file = False  # whether only the subtitle file was judged, and has no fault
         self.unknown_line: str | None = None  # the first line that `check` can't have printed
         self.frames: int | None = None
         self.transmissions: int | None = None
@@ -162,7 +163,7 @@ class CheckOutput:
 
     def accept_file(self, line: str) -> None:
         """Accept a subtitle file that has no faults, if there is no recording."""
-        self.last_line, self.exit_status, self.is_accepted = line, 0, True
+        self.last_line, self.exit_status, self.is_accepted, self.is_file = line, 0, True, True
         self.clear_faults()
         with open(self.path, "wb"):
             pass
@@ -174,7 +175,7 @@ class CheckOutput:
         is_list = is_clear and self.first_fault is not None and self.frames is None
         counted = parse_count_line(self.last_line) if is_list else None
         return CheckSummary(self.exit_status, is_clear and self.is_accepted, self.fault_count,
-                            counted, self.fault_numbers, is_read)
+                            counted, self.fault_numbers, is_read, self.is_file)
 
     @property
     def verdict(self) -> str:

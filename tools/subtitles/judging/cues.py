@@ -10,16 +10,15 @@ from ..common.command_line import counted
 from ..common.shapes import Members
 from ..common.times import Span, format_frame, join_spans, pts_of, subtract_pts, wrap_pts
 from ..formats.listing import BEGIN, FAULTS_WITH_CAUSE, FaultLine, STL_FAULTS
-from ..formats.stl import COMMENT, LAST_BLOCK, NamedSubtitle, Subtitle, SubtitleFile, USER_DATA, \
-    decode_subtitles
-from ..formats.teletext import OPTION_BY_WORD, decode_text
+from ..formats.stl import COMMENT, LAST_BLOCK, NamedSubtitle, Subtitle, SubtitleFile, USER_DATA
+from ..formats.teletext import OPTION_BY_WORD
 from ..stream.receiver import BLANK_PAGE, Rows, Timeline
 from .causes import (
     Cause, CauseDescriber, EARLY, LATE, NOT_RECEIVED, OTHER_TEXT, UNKNOWN_CAUSE, WRONG_ATTRIBUTE,
     WRONG_PLACE, WRONG_TEXT)
 from .pages import SPACE, format_page_text
 from .part import Part
-from .status import ACCEPTED, Severity
+from .status import ACCEPTED, Severity, VALID
 from .subtitles import ValidSubtitles
 from .transmissions import ExpectedPages
 
@@ -153,6 +152,8 @@ class CueJudge:
 
     def judge(self, cue: Cue) -> CueVerdict:
         """Return the verdict on the subtitle of a cue."""
+        if self.part.check_output.is_file:
+            return CueVerdict(VALID)
         begin, end = cue.subtitle.begin, cue.subtitle.end
         numbers = [number for number, spans in self.spans.items()
                    if any(True for _ in spans.between(begin, end))]
@@ -308,12 +309,6 @@ def make_judged_rows(part: Part, severity: Severity) -> Iterator[Members]:
             "decoded_text": None if cue.decoded is None else format_page_text(cue.decoded, option),
             "verdict": verdict.word, "reason": judge.describe_reason(verdict) or None,
             "complete_after": part.delays[place] if part.delays else None}
-    if part.recording is None and not part.check_output.fault_numbers:
-        for subtitle in decode_subtitles(part.open_subtitle_file().data):
-            text = " / ".join(map(decode_text, subtitle.text.split(b"\x8a")))
-            yield make_file_row(part, NamedSubtitle(
-                subtitle.index, subtitle.number, format_frame(subtitle.begin),
-                format_frame(subtitle.end)), RIGHT, None, text)
 
 
 def make_refused_rows(part: Part, severity: Severity, valid_subtitles: ValidSubtitles | None) \
@@ -325,14 +320,9 @@ def make_refused_rows(part: Part, severity: Severity, valid_subtitles: ValidSubt
             word = NOT_KNOWN if not refused.faults else \
                 WAIVED if refused.is_waived(severity) else WRONG
             reason = "; ".join(fault.line for fault in refused.faults) or NEXT_REFUSED
-            yield make_file_row(part, refused.subtitle, word, reason, None)
-
-
-def make_file_row(part: Part, subtitle: NamedSubtitle, verdict: str, reason: str | None,
-                  text: str | None) -> Members:
-    """Return the JSON value of a subtitle that was not compared with the recording."""
-    unknown_values = dict.fromkeys(("recording_offset", "actual_in", "actual_out", "delay_in",
-                                    "delay_out", "decoded_text", "complete_after"))
-    return {"part": part.number, "position": subtitle.position, "number": subtitle.number,
-            "expected_in": subtitle.begin, "expected_out": subtitle.end, "expected_text": text,
-            "verdict": verdict, "reason": reason, **unknown_values}
+            subtitle, unknown_values = refused.subtitle, dict.fromkeys((
+                "recording_offset", "actual_in", "actual_out", "delay_in", "delay_out",
+                "expected_text", "decoded_text", "complete_after"))
+            yield {"part": part.number, "position": subtitle.position, "number": subtitle.number,
+                   "expected_in": subtitle.begin, "expected_out": subtitle.end,
+                   "verdict": word, "reason": reason, **unknown_values}

@@ -27,7 +27,7 @@ from .faults import LENGTH_FAULTS, describe_block_subtitle, describe_first_hint,
 from .pages import describe_drawing_differences, find_hidden_rows, may_hide_rows
 from .part import Part, choose_parts, find_part_causes, refuse_missing_subtitles, report_causes
 from .sentence import WorstFault
-from .status import NOT_ANSWERED, REFUSED
+from .status import NOT_ANSWERED, REFUSED, VALID
 from .subtitles import advise_on_title, draw_valid_pages, find_valid_subtitles, has_valid_subtitles
 from .timing import (
     NO_CLOCK, PartClocks, PartSearch, find_desync, find_part_packets, find_parts, get_given_clock,
@@ -173,7 +173,6 @@ class PairJudge:
             yield
         except NeverSent as never:
             assert self.recording
-            self.verdict.recording = self.recording.file
             self.verdict.named_faults.append(never.fault)
             for line in self.recording.survey.lines():
                 self.listener.print_line(line)
@@ -250,11 +249,14 @@ class PairJudge:
             for line in answer.read_lines():
                 self.listener.printer.print_list_line(line)
             self.listener.printer.end_list(answer.last_line)
-        else:
-            count = self.verdict.subtitle_count = len(self.find_subtitles())
-            answer.accept_file(f"{counted(count, 'subtitle')} without a fault")
         part = Part(1, self.request, self.names, answer, severity=self.verdict.severity,
                     is_recording_read=self.request.recording is None)
+        if not is_refused:
+            subtitles = self.find_subtitles()
+            count = self.verdict.subtitle_count = len(subtitles)
+            answer.accept_file(f"{VALID}: {counted(count, 'subtitle')}; no recording was judged")
+            part = dataclasses.replace(part, expected_pages=functools.lru_cache(maxsize=None)(
+                lambda: self.make_expected_pages(self.request, subtitles)))
         self.verdict.parts.append(part)
         if answer.first_fault:
             self.verdict.parts[-1] = dataclasses.replace(
@@ -269,10 +271,11 @@ class PairJudge:
             return self.verdict.valid_subtitles.judged
         subtitles = read_subtitles(self.command_paths.program_path, self.names.program_stl, between,
                                    self.request.is_open)
-        if not subtitles and between != ALL_DAY:
-            raise Unclear(f"{self.request.stl} has no subtitle with a TCI at "
-                          f"{format_frame(between.begin)} or later and before "
-                          f"{format_frame(between.end)}")
+        if not subtitles:
+            period_text = "" if between == ALL_DAY else \
+                f" with a TCI at {format_frame(between.begin)} or later and before " \
+                f"{format_frame(between.end)}"
+            raise Unclear(f"{self.request.stl} has no subtitle{period_text}")
         return subtitles
 
     @functools.cached_property
@@ -281,16 +284,16 @@ class PairJudge:
         request = self.request
         subtitles = self.find_subtitles()
         self.verdict.subtitle_count = len(subtitles)
-        if not subtitles:
-            raise Unclear(f"{request.stl} has no subtitle")
         clock = get_given_clock(request) or NO_CLOCK
         programme = PartSearch(request, TimedPart(subtitles[0].begin, subtitles[-1].end, clock),
                                request.pes, self.skipped_positions, self.is_continued(subtitles[0]))
         self.recording = recording = Recording(request, self.command_paths, self.names,
                                                self.listener, [(subtitle.begin, subtitle.end)
                                                                for subtitle in subtitles])
-        recording.read(self.is_result_written)
-        self.verdict.recording = recording.file
+        try:
+            recording.read(self.is_result_written)
+        finally:
+            self.verdict.recording = recording.file
         self.refuse_range(recording)
         if request.pes is None:
             option = OPTION_BY_WORD[request.option]
@@ -302,6 +305,7 @@ class PairJudge:
         refuse_other_pid(request, recording.survey, pts_of(first.begin, first.origin),
                          pts_of(last.end, last.origin))
         self.verdict.notes[:0] = clocks.delay_notes
+        self.verdict.mismatch = clocks.mismatch
         return LocatedRecording(recording, clocks, subtitles)
 
     def is_continued(self, first: Subtitle) -> bool:
@@ -431,7 +435,7 @@ class PairJudge:
             recording.survey, recording.packets.pid, alignment, part.request.within, part.number,
             part.list_pts())
         self.verdict.named_faults += faults
-        self.verdict.not_checked += unchecked
+        self.verdict.unchecked_pictures += unchecked
         self.listener.add_notes(*notes)
 
     def make_expected_pages(self, request: Request, subtitles: list[Subtitle]) -> ExpectedPages:

@@ -258,7 +258,7 @@ def find_part_causes(part: Part) -> Causes | None:
                     find_recorded_span(None if recording.packets.refusal
                                        else recording.find_recorded_pts(), alignment))
     causes.classify_faults(part.check_output)
-    return causes if causes.cause_by_index else None
+    return causes if causes.list_causes() else None
 
 
 def find_recorded_span(pts: tuple[int, int] | None, alignment: TimedPart) -> Span | None:

@@ -17,10 +17,11 @@ from ..formats.teletext import OPTION_BY_WORD
 from .causes import (
     Cause, CAUSE_NAMES, Causes, EARLY, ERASED, INCOMPLETE_REPEAT, LATE, NEVER, NOT_ERASED,
     NOT_RECEIVED, OTHER_TEXT, TEXT_IN_PAUSE, UNKNOWN_CAUSE, WRONG_ATTRIBUTE, WRONG_PLACE,
-    WRONG_TEXT)
+    WRONG_TEXT, find_first_frame)
 from .check import CheckOutput
 from .pages import format_page_text
-from .status import ACCEPTED, LOST, NOT_ANSWERED, NOT_JUDGED, REFUSED, RELATIVE, WAIVED, WARNED
+from .status import (
+    ACCEPTED, LOST, NOT_ANSWERED, NOT_JUDGED, REFUSED, RELATIVE, VALID, WAIVED, WARNED)
 
 
 class Rank(enum.IntEnum):
@@ -93,7 +94,7 @@ def find_worst_fault(answer: CheckOutput, causes: Causes | None,
                      left_out: Collection[int] = ()) -> WorstFault | None:
     """Return the first fault of the worst rank in a part, if there is a fault. Ignore the fault
     numbers in `left_out`."""
-    is_caused = bool(causes and causes.cause_by_index)
+    is_caused = bool(causes and causes.list_causes())
     worst_faults = [WorstFault(rank_number(number), at, told)
                     for at, (number, told) in enumerate(answer.first_faults.items())
                     if number not in left_out and not (number == CONTENT and is_caused)]
@@ -110,7 +111,7 @@ def find_fault_line(answer: CheckOutput, causes: Causes, cause: Cause) -> FaultL
     cue_fault = next((number for number in (BEGIN, END)
                       if causes.frames_by_end_fault.get(number) == cause.subtitle_index
                       and number in answer.first_faults), None)
-    first = causes.first_wrong_frames.get(cause.subtitle_index)
+    first = find_first_frame(causes, cause)
     if cue_fault is not None or first is None:
         return answer.first_faults.get(cue_fault or CONTENT)
     last = answer.first_faults.get(CONTENT)
@@ -205,6 +206,8 @@ NONE_PREDICATES = {
     NOT_RECEIVED: "was received", UNKNOWN_CAUSE: "is as expected"}
 HINTS_ON_ALL = {GAP, OFF_FRAME}  # faults whose hint is about all frames, not about the first fault
 HINTS_FOR_CLAUSE = {CONTROL, PARITY}  # faults explained by their hint, not by `FAULT_CLAUSES`
+FILE_ONLY = "No recording was judged"
+ANOTHER_DELAY = "another delay"  # of subtitles that do not have the delay of all others
 MAX_NUMBERS = 4  # maximum number of fault numbers listed in a sentence
 
 
@@ -252,9 +255,11 @@ def write_sentence(facts: Facts) -> str:
         return f"{describe_relative_match(facts)} was not checked: " \
             f"{advise_on_clock(facts.has_picture)}.{describe_unchecked(facts)}"
     if facts.word == WAIVED:
-        return f"{describe_waived_faults(facts)}.{describe_unchecked(facts)}"
+        return f"{describe_waived_faults(facts)}.{f' {FILE_ONLY}.' * facts.is_file}" \
+            f"{describe_unchecked(facts)}"
     acceptance = "all faults that were found are declared as warnings" if facts.faults \
-        or facts.refused else "everything that was received is right"
+        or facts.refused else FILE_ONLY.lower() if facts.is_file \
+        else "everything that was received is right"
     if facts.word == LOST:
         more = f", and in {counted(len(facts.lost) - 1, 'more place')}" if len(facts.lost) > 1 \
             else ""
@@ -263,6 +268,8 @@ def write_sentence(facts: Facts) -> str:
     if facts.word == WARNED:
         kinds = ", ".join(dict.fromkeys(facts.warnings))
         return f"Not accepted: --strict treats warnings as faults ({kinds}); {acceptance}."
+    if facts.word == VALID:
+        return f"The subtitle file is valid: {counted(facts.subtitles, 'subtitle')}. {FILE_ONLY}."
     assert facts.word == ACCEPTED
     return f"Accepted: {describe_success(facts)}.{describe_unchecked(facts)}"
 
@@ -299,8 +306,6 @@ def describe_relative_match(facts: Facts) -> str:
 def describe_success(facts: Facts) -> str:
     """Return the clause that says that the subtitles have no fault."""
     subtitles = counted(facts.subtitles, "subtitle")
-    if facts.is_file:
-        return f"{subtitles} without a fault"
     if facts.subtitles > 1:
         return f"all {subtitles} have the right text {describe_text_period(facts)}"
     return f"{subtitles} has the right text {describe_text_period(facts)}"
@@ -332,7 +337,9 @@ def describe_faults(facts: Facts) -> str:
         return describe_valid_subtitles(facts)
     words = describe_first_fault(facts)
     if facts.delay and facts.first and facts.first.number in FAULTS_WITH_CAUSE:
-        return describe_delay(facts.subtitles, facts.delay) + describe_other_faults(facts)
+        return describe_delay(facts.subtitles, facts.delay) + (
+            describe_other_delays(facts.causes, facts.delay) if facts.causes else "") \
+            + describe_other_faults(facts)
     if facts.has_cause and facts.causes:
         words = describe_causes(facts.causes, facts.option) + describe_other_faults(facts)
     return words
@@ -342,6 +349,24 @@ def describe_delay(subtitles: int, delay: int) -> str:
     """Return a clause with the delay that all subtitles share, in frames."""
     subject = f"all {subtitles:,} subtitles" if subtitles > 1 else "the subtitle"
     return f"{subject} appeared {counted(abs(delay), 'frame')} {LATE if delay > 0 else EARLY}"
+
+
+def describe_other_delays(causes: Causes, delay: int) -> str:
+    """Return a clause with the causes other than the delay that all subtitles share."""
+    shared = LATE if delay > 0 else EARLY
+    names = [cause.name if cause.name not in (LATE, EARLY) else ANOTHER_DELAY
+             for cause in causes.list_causes()
+             if (cause.name, cause.frames) != (shared, abs(delay))]
+    return f"; also {count_names(names, 1)}" if names else ""
+
+
+def count_names(names: Iterable[str], least: int) -> str:
+    """Return the names of causes, worst first, with their counts from `least` on."""
+    counts = collections.Counter(names)
+    order = [*CAUSE_NAMES, ANOTHER_DELAY]
+    return ", ".join(f"{name} ({counts[name]:,})" if counts[name] >= least else name
+                     for name in sorted(counts, key=lambda name: (
+                         CAUSE_RANKS.get(name, Rank.MOVED), order.index(name))))
 
 
 def describe_first_fault(facts: Facts) -> str:
@@ -399,13 +424,8 @@ def describe_causes(causes: Causes, option: str) -> str:
     subtitles = causes.expected.subtitles
     words = describe_single_cause(worst_cause, causes, option) if len(same_causes) == 1 else \
         describe_shared_cause(same_causes, subtitles)
-    others = collections.Counter(cause.name for cause in every if cause.name != worst_cause.name)
-    if not others:
-        return words
-    known = sorted(others, key=lambda name: (CAUSE_RANKS[name], CAUSE_NAMES.index(name)))
-    counts = ", ".join(name if others[name] == 1 else f"{name} ({others[name]:,})"
-                       for name in known)
-    return f"{words}; other subtitles: {counts}"
+    others = [cause.name for cause in every if cause.name != worst_cause.name]
+    return f"{words}; other subtitles: {count_names(others, 2)}" if others else words
 
 
 def describe_single_cause(cause: Cause, causes: Causes, option: str) -> str:

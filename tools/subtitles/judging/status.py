@@ -20,16 +20,16 @@ CHECK_FAULTS = FAULT_NUMBERS - {3, 4, 82}  # fault numbers that `check` reports
 class Severity:
     """The severity of each fault number and fault name.
 
-    A fault is an error unless the severity file at `path` makes it a warning. Lost packets are a
-    warning only with `is_loss_allowed` (--allow-lost) or if the file lists them; the name `others`
-    in the file does not include them. If lost packets are a warning, an interval without a PES
-    packet that is too long (79) is one too, unless the file lists it.
+    A fault is an error unless the severity file at `path` makes it a warning. Lost packets (45) are
+    a warning only with `is_loss_allowed` (--allow-lost) or if the file lists them; the name
+    `others` in the file does not include them. --allow-lost also makes an interval without a PES
+    packet (79) a warning, unless the file lists 79 or `others`, or the operator gave --pace.
     """
 
-    def __init__(self, path: str | None, is_loss_allowed: bool = False) -> None:
+    def __init__(self, path: str | None, is_loss_allowed: bool = False,
+                 is_pace_given: bool = False) -> None:
         self.severity_by_fault: dict[int | str, str] = {}
-        self.default = ERROR
-        self.is_loss_allowed = is_loss_allowed
+        self.is_loss_allowed, self.is_pace_given = is_loss_allowed, is_pace_given
         if path is not None:
             text = decode_text(path, read_bounded_bytes(path, MAX_PROFILE_BYTES))
             for at, line in enumerate(text.split("\n"), 1):
@@ -44,9 +44,7 @@ class Severity:
         is_number = name.isascii() and name.isdecimal()
         if severity not in (ERROR, WARNING) or not is_number and name not in (OTHERS, *FAULT_NAMES):
             raise Stop(f"{path}, line {line_number}: a line is `NUMBER error` or `NUMBER warning`")
-        if name == OTHERS:
-            self.default = severity
-        elif name in FAULT_NAMES:
+        if name in (OTHERS, *FAULT_NAMES):
             self.severity_by_fault[name] = severity
         elif name.lstrip("0") in map(str, FAULT_NUMBERS):
             self.severity_by_fault[int(name)] = severity
@@ -59,20 +57,23 @@ class Severity:
             return ERROR
         if number == LOST_PACKETS:
             return WARNING if self.is_loss_allowed else self.severity_by_fault.get(number, ERROR)
-        is_loss = number == SILENT and not self.is_error(LOST_PACKETS)
-        return self.severity_by_fault.get(number, WARNING if is_loss else self.default)
+        is_loss = number == SILENT and self.is_loss_allowed and not self.is_pace_given
+        default = self.severity_by_fault.get(OTHERS, WARNING if is_loss else ERROR)
+        return self.severity_by_fault.get(number, default)
 
     def is_error(self, number: int | str) -> bool:
         return self.classify(number) == ERROR
 
 
 ACCEPTED, WAIVED = "accepted", "waived"  # a waived pair has only faults that are warnings
+VALID = "valid"  # a subtitle file without faults, and no recording
 RELATIVE = "relative"  # accepted or waived, but with an estimated clock
 REFUSED = "refused"
 LOST = "lost"  # no errors, but TS packets were lost
 WARNED = "warned"  # no errors, but --strict does not accept warnings
 NOT_JUDGED = "not judged"
-STATUSES = {ACCEPTED: 0, WAIVED: 0, REFUSED: 1, LOST: 1, WARNED: 1, NOT_JUDGED: 2, RELATIVE: 3}
+STATUSES = {ACCEPTED: 0, VALID: 0, WAIVED: 0, REFUSED: 1, LOST: 1, WARNED: 1, NOT_JUDGED: 2,
+            RELATIVE: 3}
 POSSIBLE_RESULTS = [*STATUSES.items(), (RELATIVE, 0)]  # the last entry is for --relative
 STATUS_ORDER = (2, 1, 3, 0)
 
@@ -89,6 +90,7 @@ class CheckSummary(NamedTuple):
     printed_total: int | None = None  # the number that the last line of the output states
     fault_numbers: Collection[int] = ()
     is_read: bool = True  # false if there is a recording, but `check` read no PES packet
+    is_file: bool = False  # whether only the subtitle file was judged, and has no fault
 
 
 class Grounds(NamedTuple):
@@ -131,7 +133,7 @@ def decide_part(summary: CheckSummary) -> str:
     the exit status of `check` agree."""
     if summary.exit_status == 0 and summary.is_accepted and not summary.fault_count and \
             not summary.fault_numbers:
-        return ACCEPTED
+        return VALID if summary.is_file else ACCEPTED
     if summary.exit_status == 1 and summary.fault_numbers and \
             summary.fault_count == summary.printed_total and \
             CHECK_FAULTS.issuperset(summary.fault_numbers):
@@ -162,6 +164,8 @@ def decide(grounds: Grounds) -> Decision:
         return Decision(NOT_JUDGED, "\n".join(grounds.doubts))
     if grounds.warnings and grounds.is_strict:
         return Decision(WARNED)
+    if VALID in words:
+        return Decision(WAIVED if grounds.named_faults else VALID)
     if not grounds.has_clock:
         return Decision(RELATIVE, is_relative_allowed=grounds.is_relative_allowed)
     return Decision(WAIVED if REFUSED in words or grounds.named_faults else ACCEPTED)

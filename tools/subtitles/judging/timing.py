@@ -26,8 +26,7 @@ from ..stream.ranges import PacketRange, find_range
 from ..stream.pictures import Departure, locate_changes_of_video, locate_departures
 from ..stream.survey import Survey
 from .part import Part
-from .unchecked import (
-    IRREGULAR as IRREGULAR_VIDEO, NOT_CHECKED, Unchecked, find_unchecked, make_unclear_places)
+from .unchecked import Unchecked, find_unchecked, make_irregular_video, make_unclear_places
 
 
 NO_CLOCK = Clock(0, RECORDING)  # a placeholder until the clock is known
@@ -53,6 +52,7 @@ class PartClocks(NamedTuple):
     search: PartSearch
     alignments: list[TimedPart]
     delay_notes: list[str]
+    mismatch: str  # says that the file is probably another programme's
 
 
 def find_parts(search: PartSearch, recording: Recording, listener: Listener) -> PartClocks:
@@ -70,7 +70,7 @@ def find_parts(search: PartSearch, recording: Recording, listener: Listener) -> 
         clock, delay = add_delay(given_clock, origin)
         alignments[0] = alignments[0]._replace(clock=clock)
         refuse_wrong_clock(search, recording, alignments[0])
-    return PartClocks(search, alignments, delay)
+    return PartClocks(search, alignments, delay, origin.mismatch)
 
 
 def get_given_clock(request: Request) -> Clock | None:
@@ -181,7 +181,8 @@ def describe_wrong_clock(request: Request, clock: Clock, delay: int) -> str:
 def make_unclear_origin(origin: OriginEstimate, commands: Iterable[str]) -> Unclear:
     """Return the exception that explains why the origin is ambiguous, and suggests commands."""
     is_printed = origin.airings or origin.breaks is not None
-    reason = "\n".join(origin.lines) if is_printed else \
+    reason = f"{origin.mismatch}, so the clock cannot be estimated" if origin.mismatch else \
+        "\n".join(origin.lines) if is_printed else \
         f"the clock cannot be estimated: {'; '.join(origin.lines)}"
     return Unclear(reason, *commands)
 
@@ -191,7 +192,8 @@ def suggest_options(recording: Recording, origin: OriginEstimate) -> Iterator[st
     if origin.airings:
         yield recording.suggest_call("--pes", "I-J")
     elif origin.breaks is None:
-        yield recording.suggest_call("--origin", "T")
+        if not origin.mismatch:
+            yield recording.suggest_call("--origin", "T")
         yield from recording.suggest_other_pages([recording.packets])
 
 
@@ -226,13 +228,12 @@ def find_part_packets(search: PartSearch, part: Part, listener: Listener) -> Ran
 
 
 NEXT_FRAME = 1  # interval between PES packets, in frames, if each frame has one
-UNCHECKED = "not checked:"  # the beginning of a note
 
 
 def measure_part_pace(part: Part, times: Sequence[tuple[int, int]], listener: Listener) -> Part:
     """Return a copy of the part with --pace computed from the usual intervals between PES packets.
-    Do not compute --pace if it is given, or if the intervals are irregular. Add notes about losses
-    that can't be detected. `times` has the TCI and TCO of each subtitle."""
+    Do not compute --pace if it is given, or if the intervals are irregular. Store which losses
+    can't be detected. `times` has the TCI and TCO of each subtitle."""
     number, request, (recording, _) = part.number, part.request, part.judged_recording
     pace, unseen_frames = measure_pace(part, times)
     jumps, count = find_late_jumps(part, pace)
@@ -245,9 +246,10 @@ def measure_part_pace(part: Part, times: Sequence[tuple[int, int]], listener: Li
             listener.add_selection(make_pace_selection(pace, recording.is_stream, number))
             request = dataclasses.replace(request, pace_word=str(pace.frames))
         elif note:
-            listener.add_selection(Selection(PACE_CHOICE, None, note, part=number),
+            listener.add_selection(Selection(PACE_CHOICE, None, f"not checked: {note}",
+                                             part=number),
                                    is_printed=False)
-    listener.add_notes(*notes)
+    listener.add_unchecked_losses(*notes)
     return dataclasses.replace(part, request=request, jumps=jumps)
 
 
@@ -277,7 +279,7 @@ def find_late_jumps(part: Part, pace: Pace) -> tuple[list[PTSPair], int]:
 def describe_jumps(count: int, recording: Recording) -> str:
     """Return the note that losses can't be detected at `count` announced jumps of the counter, or
     "" if `count` is 0."""
-    return f"{UNCHECKED} losses on {format_pid(recording.packets.pid)}, at " \
+    return f"losses on {format_pid(recording.packets.pid)}, at " \
         f"{counted(count, 'place')} where the stream announces a jump of the continuity counter" \
         if count else ""
 
@@ -307,31 +309,31 @@ def describe_unchecked_losses(pace: Pace, unseen_frames: int | None, recording: 
         seconds = (pace.loss_interval - 1) / FRAMES_A_SECOND
         loss_text = f"losses of up to {seconds:.2f} s on this PID alone" \
             if recording.is_stream else "a missing PES packet"
-        return f"{UNCHECKED} {loss_text}, at {counted(pace.hidden_places, 'place')} where PES " \
+        return f"{loss_text}, at {counted(pace.hidden_places, 'place')} where PES " \
             "packets are too close together"
     reason = {IRREGULAR: "the PES packets come at irregular intervals",
               PAUSED: f"there is no PES packet for up to {counted(pace.interval, 'frame')}",
               TOO_FEW: "there are too few PES packets to measure their interval"}[pace.kind]
     if not recording.is_stream:
-        return f"{UNCHECKED} missing PES packets, since {reason}"
+        return f"missing PES packets, since {reason}"
     tenths_of_second = 10 * (unseen_frames or 0) // FRAMES_A_SECOND
     loss_text = f"losses of {tenths_of_second / 10} s or more" if tenths_of_second else "losses"
-    return f"{UNCHECKED} {loss_text} on this PID alone, since {reason}"
+    return f"{loss_text} on this PID alone, since {reason}"
 
 
 def describe_missing_pcr(recording: Recording) -> str:
-    """Return the note that there is no PCR to show losses, or "" if there is one."""
+    """Return the losses that are not detected if there is no PCR, or "" if there is one."""
     if not recording.is_stream or recording.survey.get_pcr_range(recording.packets.pid) is not None:
         return ""
-    return f"the programme of {format_pid(recording.packets.pid)} has no PCR, so a loss that the " \
-        "counter does not show, such as 16 TS packets, is not detected"
+    return "losses that the counter does not show, such as 16 TS packets, since the programme of " \
+        f"{format_pid(recording.packets.pid)} has no PCR"
 
 
 # Viewers notice if subtitles and pictures drift apart, but the Teletext PTS do not show the drift.
 
 class DesyncFindings(NamedTuple):
     """The faults of pictures that drift from the subtitles, notes about drifts that --within
-    allows or that could not be checked, and what could not be checked."""
+    allows, and what could not be checked."""
 
     faults: list[NamedFault]
     notes: list[str]
@@ -348,7 +350,6 @@ def find_desync(survey: Survey, pid: int, alignment: TimedPart, within: int, num
     several = [*by_video.values()]
     faults, notes, unclear = list[NamedFault](), list[str](), list[Departure]()
     unchecked = [*find_unchecked(survey, pid, by_video, alignment, sent, number)] if sent else []
-    notes += [item.line for item in unchecked if item.has_video]
     for leads in several:
         departure_places = locate_departures(leads)
         inside = find_departures(departure_places or [], alignment)
@@ -357,10 +358,8 @@ def find_desync(survey: Survey, pid: int, alignment: TimedPart, within: int, num
         notes += make_delay_notes(departed, alignment, within)
         unclear += [departure for departure in inside if not departure.ticks]
         if departure_places is None:
-            notes += make_unclear_notes(False, 0)
-            unchecked.append(Unchecked(IRREGULAR_VIDEO, notes[-1], part=number))
+            unchecked.append(make_irregular_video(number))
     unclear += find_departures(locate_changes_of_video(several), alignment)
-    notes += make_unclear_notes(True, len(unclear))
     unchecked += make_unclear_places(unclear, alignment.origin, number)
     return DesyncFindings(faults, notes, unchecked)
 
@@ -431,13 +430,3 @@ def make_delay_notes(several: Sequence[Departure], alignment: TimedPart, within:
     return [f"{desync_span.describe()}, as --within {within} allows"
             for desync_span in find_desync_spans(several, alignment)
             if is_allowed_delay(desync_span.ticks, within)]
-
-
-def make_unclear_notes(is_steady: bool, count: int) -> list[str]:
-    """Return notes about drifts that were not checked: about all drifts if `is_steady` is false,
-    otherwise about the drifts at `count` places."""
-    if not is_steady:
-        return [f"{NOT_CHECKED}: the video's decoding times have no usual step"]
-    return [f"{NOT_CHECKED} at {counted(count, 'place')} where the video's decoding times jump: "
-            "the multiplexer's delay varies, pictures are lost too, or the place is within a "
-            "second of the programme's beginning or end"] if count else []

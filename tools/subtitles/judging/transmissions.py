@@ -333,14 +333,14 @@ class PageTransmissions:
     def is_sent_for_next(self, number: int, place: int) -> bool:
         """Return whether page `number` was sent for the subtitle after `place`. This is so if the
         page belongs to no subtitle, follows the page of the subtitle at `place`, and lasts longer
-        in the time of the next subtitle than in the time of this one."""
+        in the time of the next subtitle than before its TCI."""
         if place + 1 >= len(self.subtitles) or not self.is_unknown_page(number, place):
             return False
         item, following = self.subtitles[place], self.subtitles[place + 1]
-        return item.begin < self.timeline.frames[number] < item.end and \
+        return item.begin < self.timeline.frames[number] < following.begin and \
             self.was_sent_by_cue(place) and \
             self.count_frames(number, following.begin, following.end) > \
-            self.count_frames(number, item.begin, item.end)
+            self.count_frames(number, item.begin, following.begin)
 
     def find_search_window(self, place: int) -> Span:
         """Return the frames in which to search for the page transmission of a subtitle."""

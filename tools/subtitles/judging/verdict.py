@@ -146,7 +146,8 @@ class Verdict:
     gaps: list[Gap] = dataclasses.field(default_factory=list)
     warnings: list[Notice] = dataclasses.field(default_factory=list)
     notes: list[str] = dataclasses.field(default_factory=list)  # neither faults nor warnings
-    not_checked: list[Unchecked] = dataclasses.field(default_factory=list)
+    unchecked_losses: list[str] = dataclasses.field(default_factory=list)
+    unchecked_pictures: list[Unchecked] = dataclasses.field(default_factory=list)
     hints: list[str] = dataclasses.field(default_factory=list)  # one for each fault number
     commands: list[str] = dataclasses.field(default_factory=list)
     selections: list[Selection] = dataclasses.field(default_factory=list)
@@ -160,6 +161,7 @@ class Verdict:
     files_at_start: dict[str, object] = dataclasses.field(default_factory=dict)
     seconds: float = 0.0  # duration of judging
     subtitle_count: int = 0
+    mismatch: str = ""  # says that the subtitle file is probably another programme's
     # Set only if some subtitles are refused and others are judged
     valid_subtitles: ValidSubtitles | None = None
     # Faults that have a name instead of a number
@@ -209,13 +211,13 @@ class Verdict:
                        self.request.is_strict, [self.unjudged.reason] if self.unjudged else [],
                        self.failed_outputs, [fault.name for fault in self.named_faults],
                        self.has_clock, self.request.is_relative_allowed,
-                       [item.line for item in self.not_checked if item.may_be_wrong]
-                       if self.severity.is_error(PICTURES_LEFT) else [])
+                       [f"not checked {item.line}" for item in self.unchecked_pictures
+                        if item.may_be_wrong] if self.severity.is_error(PICTURES_LEFT) else [])
 
     @property
     def unchecked_kinds(self) -> list[str]:
         """Return the kinds of what was not checked although the programme has video."""
-        return [*dict.fromkeys(item.kind for item in self.not_checked if item.has_video)]
+        return [*dict.fromkeys(item.kind for item in self.unchecked_pictures if item.has_video)]
 
     @property
     def decision(self) -> Decision:
@@ -271,7 +273,8 @@ class Verdict:
             facts = add_worst_fault(facts._replace(hint=refused.hint,
                                                    of_block=refused.block_subtitle,
                                                    causes=refused.causes), refused.worst_fault)
-        return write_sentence(facts)
+        is_other = self.mismatch and self.word in (REFUSED, NOT_JUDGED)
+        return f"{self.mismatch.capitalize()}. " * bool(is_other) + write_sentence(facts)
 
     @property
     def delay_of_all(self) -> int:
@@ -288,7 +291,7 @@ class Verdict:
         parts = [part for part in self.parts if part.worst_transmission_fault]
         part = find_worst_part(parts, lambda item: item.worst_transmission_fault)
         facts = facts._replace(refused=valid_subtitles.describe(),
-                               subtitles=len(valid_subtitles.judged), is_file=False,
+                               subtitles=len(valid_subtitles.judged),
                                faults=sum(answer.transmission_fault_count
                                           for answer in outputs), counts=
                                count_fault_numbers(self.parts, STL_FAULTS | {UNDECIDED}))

@@ -15,6 +15,7 @@ from ..common.command_line import (
 from ..common.files import (
     BackgroundChecksum, STANDARD, SummedFile, read_first_bytes, add_name_to_errors, read_chunks)
 from ..common.times import subtract_pts
+from ..formats.stl import describe_other_file
 from ..formats.teletext import START
 from ..request.commands import (
     CommandPaths, KEPT_PES, KEPT_TS, Listener, OutputNames, Printer, make_qc_command)
@@ -85,13 +86,15 @@ def is_recording(path: str) -> bool:
 
 
 def refuse_files(request: Request) -> None:
-    """Raise `Unclear` if the subtitle file is missing or is a recording. Raise `OSError` if the
-    recording is missing."""
+    """Raise `Unclear` if the subtitle file is missing or is no subtitle file. Raise `OSError` if
+    the recording is missing."""
     if not os.path.isfile(request.stl_path):
         name = request.stl.removeprefix("./") if request.stl.startswith("./-") else request.stl
         raise Unclear(f"{name or 'an empty name'} does not exist or is not a file")
     if is_recording(request.stl_path):
         raise Unclear(f"{request.stl} is a recording: give the subtitle file before it")
+    if other_text := describe_other_file(request.stl_path):
+        raise Unclear(f"{request.stl} is {other_text}")
     if request.recording is not None and request.recording != STANDARD:
         os.stat(request.recording)
 

@@ -10,9 +10,9 @@ from ..common.command_line import counted
 from ..common.markup import BREAK, Markup, NO_MARKUP, Value, join_markup, markup
 from ..common.times import format_frame, parse_frame
 from ..formats.listing import FAULTS_WITH_CAUSE, FaultLine
-from ..formats.stl import NamedSubtitle, Subtitle, SubtitleFile, decode_subtitles
-from ..formats.teletext import OPTION_BY_WORD, decode_text
-from ..judging.causes import Cause, CAUSE_NAMES, LATE, TEXT_IN_PAUSE
+from ..formats.stl import NamedSubtitle, Subtitle, SubtitleFile
+from ..formats.teletext import OPTION_BY_WORD
+from ..judging.causes import Cause, CAUSE_NAMES, LATE, find_first_frame
 from ..judging.cues import (
     Cue, CueJudge, CueVerdict, NEXT_REFUSED, NOT_KNOWN, RIGHT, WAIVED, WRONG, find_cues,
     find_recording_start, find_refused_subtitles, format_recording_offset, read_block_text)
@@ -20,15 +20,18 @@ from ..judging.pages import format_page_text
 from ..judging.part import Part
 from ..judging.sentence import (
     CAUSE_RANKS, describe_shared_cause, describe_single_cause, rank_number)
-from ..judging.status import Severity
+from ..judging.status import Severity, VALID
 from ..judging.subtitles import ValidSubtitles
+from ..stream.receiver import BLANK_PAGE
 from .blocks import make_fault_lines, mark_text, mark_times
 
 COLUMNS = ("No.", "Into recording", "Expected in", "Expected out", "Actual in", "Actual out",
            "Frames late (in / out)", "Text", "Verdict")
 MAX_PRINTED_ROWS = 200  # maximum number of rows to print on paper
 MAX_BARS = 12  # maximum number of delays in the histogram
-ROW_CLASSES = {RIGHT: "ok", WAIVED: "waived", WRONG: "bad", NOT_KNOWN: "unseen"}  # CSS classes
+# CSS classes
+ROW_CLASSES = {RIGHT: "ok", VALID: "valid", WAIVED: "waived", WRONG: "bad", NOT_KNOWN: "unseen"}
+GOOD_CLASSES = {ROW_CLASSES[RIGHT], ROW_CLASSES[VALID]}
 
 
 class Kind(NamedTuple):
@@ -47,6 +50,11 @@ class CueRow(NamedTuple):
     kinds: Sequence[str]
     cells: Sequence[Value]
     is_repeated: bool = False  # whether the previous row has the same fault; if so, not printed
+    is_pause: bool = False  # whether the row is about the pause after the subtitle
+
+    @property
+    def anchor(self) -> str:
+        return f"{self.position}-pause" if self.is_pause else f"{self.position}"
 
 
 class CueList:
@@ -61,10 +69,10 @@ class CueList:
         self.rows = sorted([*self.make_judged_rows(), *self.make_refused_rows()],
                            key=lambda row: row.position)
         self.counts = collections.Counter(key for row in self.rows for key in row.kinds)
-        self.first_rows: dict[str, int] = {}
+        self.first_rows: dict[str, str] = {}  # anchor of the first row of each kind
         for row in self.rows:
             for key in row.kinds:
-                self.first_rows.setdefault(key, row.position)
+                self.first_rows.setdefault(key, row.anchor)
 
     @functools.cached_property
     def file(self) -> SubtitleFile:
@@ -72,7 +80,7 @@ class CueList:
 
     def make_judged_rows(self) -> Iterator[CueRow]:
         last: object = None
-        for cue in self.cues:
+        for place, cue in enumerate(self.cues):
             verdict = self.judge.judge(cue)
             kinds = [*([make_cause_key(cue.cause)] if cue.cause else []),
                      *(f"n{number}" for number in verdict.fault_numbers)]
@@ -80,22 +88,28 @@ class CueList:
             yield CueRow(cue.subtitle.index, ROW_CLASSES[verdict.word], kinds,
                          self.cells(cue, verdict), bool(repeat_key) and repeat_key == last)
             last = repeat_key
-        if self.part.recording is None and not self.part.check_output.fault_numbers:
-            for subtitle in decode_subtitles(self.file.data):
-                text = join_markup(map(decode_text, subtitle.text.split(b"\x8a")), BREAK)
-                yield CueRow(subtitle.index, ROW_CLASSES[RIGHT], (), [
-                    make_number_cell(subtitle.index, subtitle.number), "",
-                    format_frame(subtitle.begin), format_frame(subtitle.end), "", "", "",
-                    text, RIGHT])
+            if self.causes and (text := self.causes.pause_texts.get(place)):
+                yield self.make_pause_row(cue.subtitle.index, text)
 
     def cells(self, cue: Cue, verdict: CueVerdict) -> list[Value]:
         subtitle, late = cue.subtitle, [format_signed(cue.delay_in), format_signed(cue.delay_out)]
         return [make_number_cell(subtitle.index, subtitle.number),
                 self.format_offset(subtitle.begin), format_frame(subtitle.begin),
-                format_frame(subtitle.end), mark_late_time(cue.begin, cue.delay_in),
-                mark_late_time(cue.end, cue.delay_out), late[0] if late[0] == late[1]
+                format_frame(subtitle.end), *((
+                    mark_late_time(cue.begin, cue.delay_in), mark_late_time(cue.end, cue.delay_out))
+                    if self.part.recording else ("", "")), late[0] if late[0] == late[1]
                 else " / ".join(frames or "-" for frames in late), self.make_text_cell(cue),
                 self.make_verdict_cell(verdict)]
+
+    def make_pause_row(self, position: int, cause: Cause) -> CueRow:
+        """Return the row about a text that was sent in the pause after a subtitle."""
+        assert self.causes and cause.frame is not None
+        text = format_page_text(cause.sent_page or BLANK_PAGE, self.option)
+        return CueRow(position, ROW_CLASSES[WAIVED if self.judge.is_cause_waived else WRONG], [
+            make_cause_key(cause)], [
+                "", self.format_offset(cause.frame), "", "", format_frame(cause.frame),
+                format_frame(self.causes.find_pause_text_span(cause).last + 1), "", text,
+                cause.name], is_pause=True)
 
     def make_verdict_cell(self, verdict: CueVerdict) -> Value:
         """Return the cell with a verdict and its reason. Fault numbers are links."""
@@ -103,7 +117,7 @@ class CueList:
         links = [markup('<a href="#n{}">{} {}</a>', number, number, faults_by_number[number].name)
                  for number in verdict.fault_numbers]
         words = join_markup(filter(None, [verdict.cause, *links, verdict.doubt]), "; ")
-        return RIGHT if verdict.word == RIGHT else \
+        return verdict.word if verdict.word in (RIGHT, VALID) else \
             markup("{}: {}", WAIVED, words) if verdict.word == WAIVED else words
 
     def make_text_cell(self, cue: Cue) -> Value:
@@ -111,7 +125,7 @@ class CueList:
         expected = format_page_text(cue.expected, self.option)
         sent = cue.decoded or (cue.cause.sent_page if cue.cause else None)
         decoded = format_page_text(sent, self.option) if sent else expected
-        if decoded == expected or cue.cause is None or cue.cause.name == TEXT_IN_PAUSE:
+        if decoded == expected or cue.cause is None:
             return expected
         return join_markup([*mark_difference(expected, decoded)], BREAK)
 
@@ -173,15 +187,18 @@ class CueList:
             words = describe_single_cause(causes[0], self.causes, self.part.request.option) \
                 if len(causes) == 1 else \
                 describe_shared_cause(causes, self.causes.expected.subtitles)
-            first = self.causes.expected.subtitles[causes[0].subtitle_index]
+            first, frame = self.causes.expected.subtitles[causes[0].subtitle_index], causes[0].frame
             rows.append(markup('<tr><td>{}{}</td><td><a href="#s{}">{}</a></td><td>{}</td></tr>',
-                               words[0].upper(), words[1:], first.index, len(causes),
-                               self.format_offset(first.begin)))
+                               words[0].upper(), words[1:],
+                               first.index if frame is None else f"{first.index}-pause",
+                               len(causes),
+                               self.format_offset(first.begin if frame is None else frame)))
         return markup(
-            '<table class="groups"><caption>What is wrong with {}</caption><thead><tr><th '
+            '<table class="groups"><caption>What is wrong{}</caption><thead><tr><th '
             'scope="col">Cause</th><th scope="col">Subtitles</th><th scope="col">First, into the '
             "recording</th></tr></thead><tbody>{}</tbody></table>",
-            counted(len(self.causes.cause_by_index), "subtitle"), join_markup(rows))
+            f" with {counted(count, 'subtitle')}" if (count := len(self.causes.cause_by_index))
+            else "", join_markup(rows))
 
     def make_histogram(self) -> Markup:
         """Return a histogram of the delays, or empty markup if no cue is late or early."""
@@ -213,17 +230,17 @@ class CueList:
         """Return the HTML section with the cue list."""
         number = self.part.number
         heads = join_markup(markup('<th scope="col">{}</th>', name) for name in COLUMNS)
-        wrong_count = sum(row.row_class != ROW_CLASSES[RIGHT] for row in self.rows)
+        wrong_count = sum(row.row_class not in GOOD_CLASSES for row in self.rows)
         hidden = len(self.rows) - wrong_count, max(wrong_count - MAX_PRINTED_ROWS, 0)
         printed_count = 0
         rows = []
         for row in self.rows:
-            printed_count += row.row_class != ROW_CLASSES[RIGHT] and not row.is_repeated
+            printed_count += row.row_class not in GOOD_CLASSES and not row.is_repeated
             classes = [row.row_class, *row.kinds, *["again"] * row.is_repeated,
                        *["more"] * (printed_count > MAX_PRINTED_ROWS)]
             cells = join_markup(markup("<td>{}</td>", cell) for cell in row.cells[1:])
             rows.append(markup('<tr id="s{}" class="{}"><th scope="row">{}</th>{}</tr>',
-                               row.position, " ".join(classes), row.cells[0], cells))
+                               row.anchor, " ".join(classes), row.cells[0], cells))
         choices = [("all", "all", len(self.rows)), (ROW_CLASSES[WRONG], "not right", wrong_count)]
         choices += [(kind.key, kind.name, self.counts[kind.key]) for kind in self.kinds
                     if self.counts[kind.key]]
@@ -235,18 +252,23 @@ class CueList:
             '<section class="cues"><h2 id="cues">Cue list</h2><fieldset class="filter"><legend>'
             'Show subtitles</legend>{}</fieldset><p class="paper">On paper, {:,} right subtitles, '
             "repeated faults and {:,} more rows are omitted.</p><table "
-            'class="list"><caption>{}</caption><thead><tr>{}</tr></thead><tbody>{}</tbody></table>'
+            'class="list{}"><caption>{}</caption><thead><tr>{}</tr></thead><tbody>{}</tbody>'
+            "</table>"
             "</section>",
-            radios if wrong_count else NO_MARKUP, *hidden, self.make_caption(), heads,
+            radios if wrong_count else NO_MARKUP, *hidden,
+            "" if self.part.recording else " file", self.make_caption(), heads,
             join_markup(rows, "\n"))
 
     def make_caption(self) -> str:
         """Return the caption of the cue list, which explains its columns."""
-        row_classes = collections.Counter(row.row_class for row in self.rows)
+        subtitle_rows = [row for row in self.rows if not row.is_pause]
+        row_classes = collections.Counter(row.row_class for row in subtitle_rows)
         counts = ", ".join(f"{row_classes[row_class]:,} {word}" for word, row_class in
                            ROW_CLASSES.items() if row_classes[row_class])
-        words = f"{counted(len(self.rows), 'subtitle')}: {counts}. Expected: TCI and TCO. " \
-            "Actual: the first frame at whose end a receiver has the page, and the first without."
+        words = f"{counted(len(subtitle_rows), 'subtitle')}: {counts}. Expected: TCI and TCO."
+        if self.part.recording:
+            words += " Actual: the first frame at whose end a receiver has the page, and the " \
+                "first without."
         if self.start is not None:
             words += " Into recording: counted from its first PCR."
         if self.part.clock and self.part.clock.is_estimated:
@@ -263,8 +285,8 @@ class CueList:
             item = self.causes.expected.subtitles[cause.subtitle_index]
             if cause.name not in seen and item.begin >= self.causes.timeline.first:
                 seen.add(cause.name)
-                first = self.causes.first_wrong_frames.get(cause.subtitle_index, item.begin)
-                yield cause.name, item, item.begin if cause.name == LATE else first
+                first = find_first_frame(self.causes, cause)
+                yield cause.name, item, item.begin if first is None or cause.name == LATE else first
 
 
 def make_number_cell(position: int, number: int) -> Value:

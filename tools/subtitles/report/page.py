@@ -10,14 +10,15 @@ from ..common.command_line import counted
 from ..common.files import SummedFile
 from ..common.markup import BREAK, HEAD, Markup, NO_MARKUP, Value, join_markup, markup, read_style
 from ..common.program import describe_program
-from ..common.times import ALL_DAY, Span, format_frame
+from ..common.times import Span, format_frame
 from ..formats.listing import (
     CHANGED, CONTENT, FaultLine, PARITY, make_cell_markup, make_number_link, read_meanings)
-from ..formats.stl import Subtitle, SubtitleFile, read_titles
+from ..formats.stl import Subtitle, read_titles
 from ..formats.teletext import OPTION_BY_WORD, page_name
 from ..judging.causes import list_cause_counts
+from ..judging.coverage import describe_unchecked
 from ..judging.part import Part, belongs_to_part, find_lost_spans
-from ..judging.status import ACCEPTED, LOST, NOT_JUDGED, REFUSED, RELATIVE, WAIVED, WARNED
+from ..judging.status import ACCEPTED, LOST, NOT_JUDGED, REFUSED, RELATIVE, VALID, WAIVED, WARNED
 from ..judging.subtitles import advise_on_midnight
 from ..judging.verdict import Verdict, summarize_delays
 from ..request.commands import CommandPaths
@@ -34,6 +35,8 @@ from .timeline import Lanes
 SHAPES = {
     ACCEPTED: ("accepted", markup('<circle cx="31" cy="31" r="27"/><path d="M17 32L28 43L46 '
                                   '20"/>')),
+    VALID: ("valid", markup('<path d="M12 4H38L52 18V58H12z"/><path d="M38 4V18H52M20 30H44M20 '
+                            '42H44"/>')),
     WAIVED: ("waived", markup('<circle cx="31" cy="31" r="27"/><path d="M18 31H44"/>')),
     REFUSED: ("refused", markup('<path d="M20 4H42L58 20V42L42 58H20L4 42V20z"/><path d="M21 21L41 '
                                 '41M41 21L21 41"/>')),
@@ -45,14 +48,14 @@ SHAPES = {
     NOT_JUDGED: ("unjudged", markup('<path d="M31 4L58 31L31 58L4 31z"/><path d="M23 25Q23 17 31 '
                                     '17Q39 17 39 24Q39 29 31 32V37M31 41V46"/>'))}
 MAX_LINES = 5  # number of places to show; a longer list is folded
-UNCHECKED_ROW_0 = "row 0, the header line of the page"
-UNCHECKED_DELAY = "a delay of all subtitles, since the clock was estimated"
-UNCHECKED_GAP = "the transmission between the parts"
 LOST_TITLE = "TS packets are missing from the recording, which could not be checked there"
 NAMED_FAULTS_TITLE = "Faults that only qc finds"
 PROOF_NOTE = markup("The verdict and the faults are the lines that <code>subttx check --all</code> "
               "printed. The times, texts and pictures are computed by Python that is not proved; "
               "they show one receiver, tuned in before the first packet.")
+FILE_NOTE = markup("With an empty recording, <code>subttx check --all</code> printed fault 60 "
+                   "(Empty) alone: the file keeps the rules of faults 10 to 25 and 50 to 57. The "
+                   "texts are computed by Python that is not proved.")
 
 
 def draw_verdict(word: str) -> tuple[str, Markup]:
@@ -77,7 +80,7 @@ def make_verdict_box(verdict: Verdict) -> Markup:
                   for item in (verdict.unjudged_reason or "").splitlines()[1:]]
         parts += [markup('<p>Type <code class="long">{}</code></p>', item)
                   for item in verdict.suggestions]
-    elif verdict.word != ACCEPTED:
+    elif verdict.word not in (ACCEPTED, VALID):
         parts.append(make_advice(verdict))
     notes = [*verdict.notes, *(item.format_warning() for item in verdict.warnings), *dict.fromkeys(
         part.drawing_differences for part in verdict.parts if part.drawing_differences)]
@@ -159,7 +162,7 @@ class PartView:
         if groups:
             yield markup('<section><h2 id="causes">What is wrong</h2><div class="beside">{}</div>'
                          "</section>", groups)
-        if self.cue_list.cues:
+        if self.cue_list.cues and self.part.recording:
             yield markup('<section><h2 id="timeline">Timeline</h2>{}</section>',
                          self.draw_timeline())
         if pictures := join_markup(self.pictures()):
@@ -275,35 +278,6 @@ def make_scope_section(verdict: Verdict) -> Markup:
         ("Delays", delays.describe() if delays else "")])
 
 
-def list_unchecked(verdict: Verdict) -> Iterator[str]:
-    """Yield descriptions of everything that was not checked."""
-    request = verdict.request
-    if request.recording is None:
-        yield "the transmission: no recording was given"
-    if verdict.estimated_clock_note:
-        yield UNCHECKED_DELAY
-    if len(verdict.parts) > 1:
-        yield UNCHECKED_GAP
-    if any(part.pes for part in verdict.parts):
-        yield UNCHECKED_ROW_0
-        judged_count = sum(part.pes[1] + 1 - part.pes[0] for part in verdict.parts if part.pes)
-        count = verdict.parts[0].packets.count
-        if judged_count < count:
-            yield f"{counted(count - judged_count, 'PES packet')} of {count:,}, before and after " \
-                "the subtitles"
-    elif request.recording:
-        yield f"{request.recording}: it was not read"
-    if request.between != ALL_DAY and verdict.parts:
-        file = SubtitleFile(verdict.parts[0].names.program_stl)
-        count = len(file.begins) - verdict.subtitle_count
-        yield f"{counted(count, 'subtitle')} outside of --from and --to"
-    if verdict.valid_subtitles:
-        skipped = counted(len(verdict.valid_subtitles.skipped_positions), "subtitle")
-        yield f"{skipped} refused in the file, or followed by a refused subtitle"
-    yield from (f"{gap.format_line()}, outside the judged range" for gap in verdict.gaps
-                if not gap.is_judged)
-
-
 def list_waived(verdict: Verdict) -> Iterator[str]:
     """Yield descriptions of the faults that the severity file turns into warnings."""
     counts = {number: part.check_output.first_faults[number].name for part in verdict.parts
@@ -345,7 +319,7 @@ def make_footer(verdict: Verdict, command_paths: CommandPaths) -> Markup:
     return join_markup([
         markup('<section><h2 id="unchecked">Not checked, waived</h2>{}</section>',
                make_definition_list([
-            ("Not checked", "; ".join(list_unchecked(verdict))),
+            ("Not checked", "; ".join(describe_unchecked(verdict))),
             ("Waived", "; ".join(list_waived(verdict)) or "nothing")])),
         markup('<section><h2 id="files">Made from</h2><table class="files"><caption>Files and '
                'their checksums</caption><thead><tr><td></td><th scope="col">Name</th><th '
@@ -354,7 +328,8 @@ def make_footer(verdict: Verdict, command_paths: CommandPaths) -> Markup:
                    ("Commands", commands), *(("Options", format_judging_options(verdict, part))
                                              for part in verdict.parts),
                    ("Date", verdict.date.replace("T", " ").replace("Z", " UTC")),
-                   ("Version", program.version), ("PROVED", proved)]), PROOF_NOTE)])
+                   ("Version", program.version), ("PROVED", proved)]),
+               FILE_NOTE if verdict.word == VALID else PROOF_NOTE)])
 
 
 PART_COLUMNS = ("From", "To", "Verdict", "Faults", "Causes", "Clock")

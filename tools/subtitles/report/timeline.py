@@ -56,6 +56,11 @@ class Lanes:
         for cue in self.cues.cues:
             if cue.cause:
                 places[make_cause_key(cue.cause)].append(find_cue_span(cue))
+        causes = self.cues.causes
+        for cause in causes.pause_texts.values() if causes else ():
+            assert causes
+            span = causes.find_pause_text_span(cause)
+            places[make_cause_key(cause)].append((span.first, span.last + 1))
         for number, spans in self.cues.judge.spans.items():
             places[f"n{number}"] += [(span.first, span.last + 1) for span in spans]
         for kind in self.cues.kinds:

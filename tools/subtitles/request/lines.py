@@ -15,7 +15,8 @@ from ..common.command_line import Stop, ToolParser, format_error
 from ..common.files import Inputs, read_bounded_bytes, describe_kind, make_safe_name
 from .commands import ListNames, make_pair_name
 from .request import (
-    Mode, OPTIONS, Profile, Request, Setting, add_options, get_option_values, make_request,
+    ALONE, Mode, OPTIONS, PAIR, Profile, Request, Setting, add_options, get_option_values,
+    make_request,
     make_file_request)
 
 
@@ -195,6 +196,8 @@ def remove_replaced_clock(options: Mapping[str, Any], names: Collection[str]) ->
 
 def describe_mode_conflict(name: str, modes: Sequence[Mode], mode: Mode) -> str:
     """Return the message which reports that an option can't be used in a mode."""
+    if mode is ALONE and PAIR in modes:
+        return f"no recording was given, but {name} needs one"
     *others, last = (mode_.text for mode_ in modes)
     accepted_modes = f"{', '.join(others)} or {last}" if others else last
     return f"{name} may be given with {accepted_modes}, not with {mode.text}"

@@ -230,7 +230,7 @@ OPTIONS: tuple[Option, ...] = (
            read=parse_pace_or_none, check_default=None, is_in_profile=True,
            shape=Maybe(Text(r"(none|[1-9][0-9]{0,6})")), note=PART_NOTE),
     Option("--profile", "FILE", "read options from FILE, [one per line](#a-profile); options on "
-           "the command line override them", JUDGED, "none", field="profile",
+           "the command line override them", PAIRS, "none", field="profile",
            write=lambda profile: str(profile.name), shape=Maybe(PROFILE),
            note="The other keys have its options."),
 )

@@ -204,7 +204,7 @@ def make_row(result: dict[str, Any], name: str) -> Row:
     title = " ".join(request[key] for key in ("stl", "recording") if request[key])
     counts = result["subtitle_counts"]
     return Row(name, title or name, result["verdict"], result["status"],
-               result["reason"] or result["worst_fault"], result["fault_count"],
+               result["reason"] or result["worst_fault"] or result["line"], result["fault_count"],
                count_row_causes(result),
                [fault["line"] for fault in result["faults"][:MAX_ROW_LINES]], result["seconds"],
                find_hint(result), SubtitleCounts(**counts).describe() if counts else "",

@@ -12,13 +12,15 @@ from ..common.command_line import MAX_EVERY, PACKET_SIZES
 from ..common.program import ProgramInfo
 from ..common.shapes import (
     COUNT, Flag, Integer, ListOf, Maybe, Member, MAX_NUMBER, Number, OneOf, PID, PTS, Record,
-    Rules, Schema, CHECKSUM, Text, TIME, make_definitions, make_named_shape)
+    Rules, Schema, Shape, CHECKSUM, Text, TIME, make_definitions, make_named_shape)
 from ..common.times import FRAMES_OF_A_DAY, format_frame
 from ..judging.causes import CAUSE_NAMES, CauseDescriber, count_causes
+from ..judging.coverage import list_unchecked
 from ..judging.cues import NOT_KNOWN, RIGHT, WAIVED, WRONG, make_subtitle_rows
 from ..judging.faults import make_faults
 from ..judging.part import Part
-from ..judging.status import ACCEPTED, NOT_JUDGED, POSSIBLE_RESULTS, RELATIVE, STATUSES
+from ..judging.status import (
+    ACCEPTED, NOT_JUDGED, POSSIBLE_RESULTS, REFUSED, RELATIVE, STATUSES, VALID)
 from ..judging.unchecked import KINDS as UNCHECKED_KINDS
 from ..judging.verdict import Verdict
 from ..request.request import CHOICES, list_request_members
@@ -58,6 +60,8 @@ CAUSE_MEMBERS = (
     Member("name", CAUSE_NAME),
     Member("frames", Maybe(Integer(1, FRAMES_OF_A_DAY)),
            "The number of frames by which the subtitle is late or early."),
+    Member("time", Maybe(TIME), "The first frame of another text in a pause. `subtitle` is then "
+           "the subtitle before the pause, which may be right."),
     Member("expected_text", Text(), "A slash separates the rows."),
     Member("decoded_text", Maybe(Text())),
     Member("other_number", Maybe(Integer(0, 65535)), OTHER_SUBTITLE),
@@ -144,8 +148,8 @@ JUDGED_PART = Record(
     Member("origin", Maybe(PTS), getter=lambda of: of.part.origin),
     Member("from", Maybe(TIME), getter=lambda of: of.part.format_time_codes()[0]),
     Member("to", Maybe(TIME), getter=lambda of: of.part.format_time_codes()[1]),
-    Member("verdict", OneOf("accepted", "refused", "not judged"), "`not judged` means that a "
-           "signal ended the call after the listed faults.",
+    Member("verdict", OneOf(ACCEPTED, VALID, "refused", NOT_JUDGED), "`not judged` means that "
+           "a signal ended the call after the listed faults.",
            lambda of: of.part.check_output.verdict),
     Member("line", Text(), "The last line that `check` prints without `--all`.",
            lambda of: of.part.check_output.line),
@@ -191,9 +195,9 @@ WARNING = Record(
 
 UNCHECKED = Record(
     "unchecked", "",
-    Member("part", PART),
-    Member("kind", OneOf(*UNCHECKED_KINDS), "`no_video` means that there is no video to compare. "
-           "All other kinds count as warnings for --strict."),
+    Member("part", Maybe(PART), "Null if it applies to all parts."),
+    Member("kind", OneOf(*UNCHECKED_KINDS), "The kinds that begin with `video` count as warnings "
+           "for --strict."),
     Member("line", Text()),
     Member("from", Maybe(TIME), getter=lambda item: item.begin),
     Member("to", Maybe(TIME), getter=lambda item: item.end))
@@ -219,8 +223,9 @@ CUE = Record(
     Member("delay_out", DELAY),
     Member("expected_text", Maybe(Text())),
     Member("decoded_text", Maybe(Text())),
-    Member("verdict", OneOf(RIGHT, WRONG, WAIVED, NOT_KNOWN), "right, wrong, waived (all faults "
-           "are warnings) or not known (it could not be judged)."),
+    Member("verdict", OneOf(RIGHT, VALID, WRONG, WAIVED, NOT_KNOWN), "right, valid (there is no "
+           "recording), wrong, waived (all faults are warnings) or not known (it could not be "
+           "judged)."),
     Member("reason", Maybe(Text())),
     Member("complete_after", Maybe(COUNT), "The number of frames from the TCI until the page was "
            "complete and, with `--complete`, closed."))
@@ -317,15 +322,21 @@ TEXT, NOTHING = Text(least=1), OneOf(None)
 JOINT_RULES = Rules([
     {"verdict": OneOf(word), "status": OneOf(status),
      "line": NOTHING if word == NOT_JUDGED else TEXT,
-     "worst_fault": NOTHING if word == NOT_JUDGED else TEXT,
+     "worst_fault": NOTHING if word in (ACCEPTED, VALID, NOT_JUDGED) else
+     TEXT if word in (REFUSED, WAIVED) else Maybe(TEXT),
      "reason": TEXT if word == NOT_JUDGED else NOTHING} for word, status in POSSIBLE_RESULTS])
-# Without a clock no pair is accepted or waived. The verdict `relative` has status 0 only with
-# --relative.
-HAS_CLOCK = Rules([{"origin": PTS}, {"start": TEXT}, {"recording": NOTHING}])
+# Without a clock no pair is accepted or waived. Only a subtitle file without a recording is valid,
+# and it is never accepted. The verdict `relative` has status 0 only with --relative.
+IS_FILE: dict[str, Shape | Rules] = {"recording": NOTHING}
+HAS_CLOCK: list[dict[str, Shape | Rules]] = [
+    {"origin": PTS, "recording": TEXT}, {"start": TEXT, "recording": TEXT}]
 RELATIVE_RULES = Rules([{"relative": OneOf(True)}])
 TIME_RULES = Rules([
-    {"verdict": OneOf(*(word for word in STATUSES if word not in (ACCEPTED, WAIVED, RELATIVE)))},
-    {"verdict": OneOf(ACCEPTED, WAIVED), "request": HAS_CLOCK},
+    {"verdict": OneOf(*(word for word in STATUSES
+                        if word not in (ACCEPTED, VALID, WAIVED, RELATIVE)))},
+    {"verdict": OneOf(ACCEPTED), "request": Rules(HAS_CLOCK)},
+    {"verdict": OneOf(WAIVED), "request": Rules([*HAS_CLOCK, IS_FILE])},
+    {"verdict": OneOf(VALID), "request": Rules([IS_FILE])},
     {"verdict": OneOf(RELATIVE), "status": OneOf(STATUSES[RELATIVE])},
     {"verdict": OneOf(RELATIVE), "request": RELATIVE_RULES}])
 
@@ -336,11 +347,11 @@ LISTS = (
     Member("losses", ListOf(LOSS, MAX_LISTED_ITEMS), getter=lambda known: known.verdict.gaps),
     Member("notes", ListOf(Text(), MAX_LISTED_ITEMS),
            getter=lambda known: known.verdict.list_notes()),
+    Member("not_checked", ListOf(UNCHECKED, MAX_LISTED_ITEMS), "What was not checked.",
+           lambda known: list_unchecked(known.verdict)),
     Member("hints", ListOf(Text(), MAX_LISTED_ITEMS), getter=lambda known: known.verdict.hints),
     Member("warnings", ListOf(WARNING, MAX_LISTED_ITEMS),
            getter=lambda known: known.verdict.warnings),
-    Member("not_checked", ListOf(UNCHECKED, MAX_LISTED_ITEMS), "What was not checked about the "
-           "pictures.", lambda known: known.verdict.not_checked),
     Member("commands", ListOf(Text(), MAX_LISTED_ITEMS),
            getter=lambda known: known.verdict.commands),
     Member("choices", ListOf(CHOICE, MAX_LISTED_ITEMS),
@@ -364,7 +375,8 @@ VERDICT = Record(
     Member("line", Maybe(Text()), "The last line on standard output.",
            lambda known: known.verdict.line),
     Member("worst_fault", Maybe(Text()), "The last line, but with the worst fault instead of "
-           "the first.", lambda known: known.verdict.worst_line),
+           "the first; null if there is no fault.",
+           lambda known: known.verdict.worst_line if known.verdict.fault_count else None),
     Member("sentence", Text(), getter=lambda known: known.verdict.sentence),
     Member("reason", Maybe(Text()), "The reason why the pair was not judged.",
            lambda known: known.verdict.unjudged_reason),

@@ -108,7 +108,8 @@ def locate_changes_of_video(several: Sequence[Sequence[VideoLead]]) -> list[Depa
     unclear whether the pictures drift there."""
     first = next((leads[0].pts for leads in several if leads), 0)
     ordered = sorted(((subtract_pts(first, lead.pts), at, lead)
-                      for at, leads in enumerate(several) for lead in leads), key=lambda row: row[0])
+                      for at, leads in enumerate(several) for lead in leads),
+                     key=lambda row: row[0])
     groups = [(at, [lead for _, _, lead in group])
               for at, group in itertools.groupby(ordered, key=lambda row: row[1])]
     long_groups = [(at, group) for at, group in groups if len(group) > 1]
@@ -116,9 +117,9 @@ def locate_changes_of_video(several: Sequence[Sequence[VideoLead]]) -> list[Depa
     for (old_at, old), (new_at, new) in zip(long_groups, long_groups[1:]):
         if old_at == new_at:
             continue
-        rows = [[lead.ticks for lead in old[-SAMPLE_SIZES[-1]:]],
-                [lead.ticks for lead in new[:SAMPLE_SIZES[-1]]]]
-        mean_change, error = compare_means(*rows, compute_typical_step(rows))
+        before = [lead.ticks for lead in old[-SAMPLE_SIZES[-1]:]]
+        after = [lead.ticks for lead in new[:SAMPLE_SIZES[-1]]]
+        mean_change, error = compare_means(before, after, compute_typical_step([before, after]))
         if abs(mean_change) + error >= TICKS / 2:
             departures.append(Departure(new[0].pts, old[-1].pts, None,
                                         max(0, int(abs(mean_change) - error))))
