@@ -20,10 +20,10 @@ _subttx_value() {
         --option) _subttx_words 'english german swedish italian french spanish czech' "$2" ;;
         --receiver) _subttx_words 'blank keep drop anew' "$2" ;;
         --packet-size) _subttx_words '188 192 204' "$2" ;;
-        --at | --breaks | --every | --every-seconds | --flip | --free | --from | --jobs | \
-            --late | --layout | --length | --limit | --line | --lose | --margin | --on-result | \
-            --origin | --pace | --page | --pause | --pes | --pid | --settled | --skip | \
-            --start | --to | --within)
+        --against | --at | --breaks | --every | --every-seconds | --flip | --free | --from | \
+            --jobs | --late | --layout | --length | --limit | --line | --lose | --margin | \
+            --on-result | --origin | --pace | --page | --pause | --pes | --pid | --settled | \
+            --skip | --start | --to | --within)
             COMPREPLY=()
             ;;
 # end
@@ -87,4 +87,4 @@ _subttx_tool() {
 }
 
 complete -F _subttx subttx
-complete -F _subttx_tool subttx-qc subttx-air
+complete -F _subttx_tool subttx-qc subttx-air subttx-read

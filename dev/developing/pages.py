@@ -27,6 +27,7 @@ from .cited import correct_number_rows
 TABLE = os.path.join("docs", "manual", "reference.md")
 PROGRAM_PAGE, QC_PAGE = os.path.join("docs", "subttx.1"), os.path.join("docs", "subttx-qc.1")
 AIR_PAGE = os.path.join("docs", "subttx-air.1")
+READ_PAGE = os.path.join("docs", "subttx-read.1")
 SCHEMA = os.path.join("docs", "verdict.schema.json")
 NUMBERS = os.path.join("docs", "ASSURANCE.md")  # the document with the table of proof numbers
 QC_CHAPTER = os.path.join("docs", "manual", "qc.md")
@@ -380,6 +381,7 @@ def make_pages() -> dict[str, str]:
     parts = {PROGRAM_PAGE: make_program_parts(usage, table),
              QC_PAGE: make_tool_parts(help_texts["qc"]),
              AIR_PAGE: make_air_parts(help_texts["air"], command_helps),
+             READ_PAGE: make_tool_parts(help_texts["read"], "read"),
              QC_CHAPTER: make_chapter_parts(table), RESULTS_CHAPTER: make_results_parts(),
              COMPLETION: make_completion_parts(usage, table,
                                                [*help_texts.values(), *command_helps.values()])}

@@ -1,4 +1,4 @@
-"""The Python modules of tools/qc and tools/air.
+"""The Python modules of tools/qc, tools/air and tools/read.
 
 A package imports only from packages above it in this list, which `dev/check-tools` tests. The
 docstring of each package lists its modules.
@@ -14,6 +14,7 @@ results    result files: JSON, CSV and JUnit
 report     the HTML page about a verdict
 cli        the commands of qc: judging a pair, many pairs, or a folder
 air        recording and judging programmes on air, for tools/air
+reading    reading the subtitles that a recording carries, for tools/read
 
 To find                                See
 how a pair is judged, step by step     cli/single.py, then `PairJudge.judge` of judging/pair.py
@@ -24,6 +25,7 @@ how PES packets are selected           stream/ranges.py
 how a loss of 16 TS packets is found   stream/pace.py, for a part judging/timing.py
 how the verdict is decided             judging/status.py `decide`
 how the sentence is written            judging/sentence.py `write_sentence`
+how subtitles are read                 reading/received.py `read_pages`
 where to add an option                 request/request.py `OPTIONS`
 where to add a member of a result      results/schema.py
 """

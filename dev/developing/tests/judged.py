@@ -14,7 +14,6 @@ from subtitles.cli.single import (
 from subtitles.common.program import ProgramInfo
 from subtitles.judging.pair import PairJudge
 from subtitles.judging.status import decide
-from subtitles.judging.unchecked import summarize_pictures
 from subtitles.judging.verdict import Verdict
 from subtitles.request.commands import CommandPaths, Listener, OutputNames
 from subtitles.request.lines import read_options
@@ -67,9 +66,7 @@ class JudgedPair(NamedTuple):
     @property
     def notes(self) -> list[str]:
         """Return the notes, and what was not checked, as printed on standard error."""
-        return [*self.result["notes"], *(f"not checked: {text}" for text in (
-            *self.verdict.unchecked_losses,
-            *summarize_pictures(self.verdict.unchecked_pictures)))]
+        return [*self.result["notes"], *self.verdict.list_unchecked_lines()]
 
     def lines(self, begin: str) -> list[str]:
         """Return the printed lines with the prefix `begin`, without this prefix."""

@@ -199,7 +199,7 @@ class GeneratedParts(unittest.TestCase):
 FOLDERS = [("tools", "Tools"), ("dev", "For developers of this repository")]
 PACKAGES = [*(os.path.join("tools", "subtitles", name)
               for name in ("common", "formats", "request", "stream", "clock", "recording",
-                           "judging", "results", "report", "cli", "air")),
+                           "judging", "results", "report", "cli", "air", "reading")),
             os.path.join("dev", "developing"), os.path.join("dev", "developing", "every_place")]
 SCRIPT = re.compile(r"`([a-z][\w.-]*/?)`")
 LINE = re.compile(r"^([a-z_]+) +\S", re.M)  # line of the module list in __init__.py

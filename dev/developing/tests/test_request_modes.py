@@ -267,6 +267,7 @@ VALID: dict[str, list[list[str]]] = {
     "graph": [["Good"], ["--clauses", "sub_check"]], "install": [["to"]],
     "make-examples": [["."]], "pes2ts": [[PES, "0x101"]], "poke": [[STL], [STL, "-c", "1"]],
     "program": [[]], "qc": [[STL, PES, "--origin", "0"], [STL]],
+    "read": [[PES]],
     "reading-list": [["Good"], ["--lowest-first", "Good"], ["check_all.reported"]],
     "sizes": [[]], "sources": [[]],
     "check-every-place": [["--count", "1", "--recordings", "1"]],

@@ -25,7 +25,6 @@ from ..judging.causes import format_cause_counts
 from ..judging.faults import list_hints
 from ..judging.pair import PairJudge
 from ..judging.status import ACCEPTED, NOT_JUDGED, RELATIVE, Severity, VALID
-from ..judging.unchecked import summarize_pictures
 from ..judging.verdict import Unjudged, Verdict
 from ..recording.recording import Recording
 from ..request.commands import (
@@ -324,8 +323,7 @@ def print_verdict(verdict: Verdict, printer: Printer, page: str | None = None) -
         printer.print_error(line)
     if verdict.is_lost and not verdict.request.is_loss_allowed:
         printer.print_error("record that part again: the missing frames were not checked")
-    for line in [*verdict.notes, *(f"not checked: {text}" for text in (
-            *verdict.unchecked_losses, *summarize_pictures(verdict.unchecked_pictures)))]:
+    for line in [*verdict.notes, *verdict.list_unchecked_lines()]:
         printer.print_error(line)
     for warning in verdict.warnings:
         printer.print_error(warning.format_warning())

@@ -103,8 +103,8 @@ def find_proved_line(program: str, sha256: str) -> str | None:
     return None
 
 
-TOOLS = ["qc", "air"]
-PAGES = ["subttx.1", "subttx-qc.1", "subttx-air.1"]
+TOOLS = ["qc", "air", "read"]
+PAGES = ["subttx.1", "subttx-qc.1", "subttx-air.1", "subttx-read.1"]
 INSTALLED_DOCUMENTS = ["README.md", os.path.join("docs", "MANUAL.md"),
                        os.path.join("docs", "verdict.schema.json"), "VERSION"]
 COMPLETION = os.path.join("tools", "completion.bash")

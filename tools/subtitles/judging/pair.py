@@ -20,7 +20,7 @@ from ..recording.recording import Recording, refuse_files
 from ..request.commands import CommandPaths, Listener, OutputNames, make_qc_command
 from ..request.request import (
     OPTION_CHOICE, Request, Selection, Unclear, IncompleteAnswer, describe_option)
-from ..stream.packets import HEADER
+from ..stream.packets import HEADER, Range
 from .causes import Causes
 from .check import CheckOutput, check_file_alone, print_file_check_command, run_check
 from .faults import LENGTH_FAULTS, describe_block_subtitle, describe_first_hint, describe_hint
@@ -134,6 +134,8 @@ def find_nearest_pauses(subtitles: Sequence[Subtitle], at: int) -> list[int]:
 
 class PairJudge:
     """Judges a pair step by step, and collects the results in `verdict`."""
+
+    may_be_empty = False  # whether a recording may be judged by a file without subtitles
 
     def __init__(self, verdict: Verdict, command_paths: CommandPaths, names: OutputNames,
                  listener: Listener, is_result_written: bool) -> None:
@@ -271,7 +273,7 @@ class PairJudge:
             return self.verdict.valid_subtitles.judged
         subtitles = read_subtitles(self.command_paths.program_path, self.names.program_stl, between,
                                    self.request.is_open)
-        if not subtitles:
+        if not subtitles and not self.may_be_empty:
             period_text = "" if between == ALL_DAY else \
                 f" with a TCI at {format_frame(between.begin)} or later and before " \
                 f"{format_frame(between.end)}"
@@ -385,7 +387,7 @@ class PairJudge:
         own = [subtitle for subtitle in subtitles if request.between.includes(subtitle.begin)]
         due = functools.lru_cache(maxsize=None)(lambda: self.make_expected_pages(request, own))
         part = dataclasses.replace(part, expected_pages=due).add_packets(
-            find_part_packets(programme, part, listener),
+            self.find_packets(part, programme),
             sum_file(recording.path, recording.display_name)
             if self.is_result_written and recording.is_piped else None)
         self.current_part = part
@@ -396,9 +398,17 @@ class PairJudge:
         self.refuse_adjoining_cut(part)
         self.verdict.parts.append(part)
         self.check_pictures(part)
-        part = explain_part(part, self.verdict, listener, self.is_result_written)
+        part = self.explain(part)
         self.verdict.parts[-1] = part
         self.add_part_warnings(part, subtitles)
+
+    def explain(self, part: Part) -> Part:
+        """Return a copy of a part with the causes of its faults, its hints and its delays."""
+        return explain_part(part, self.verdict, self.listener, self.is_result_written)
+
+    def find_packets(self, part: Part, programme: PartSearch) -> Range:
+        """Return the range of PES packets to judge in a part, and report it."""
+        return find_part_packets(programme, part, self.listener)
 
     def refuse_adjoining_cut(self, part: Part) -> None:
         """Raise `Unclear` if the only fault is in the page decoded at the last TCO, and the next

@@ -22,7 +22,7 @@ from .status import (
     ACCEPTED, Decision, Grounds, LOST, NOT_JUDGED, REFUSED, RELATIVE, Severity, WAIVED, WARNED,
     decide)
 from .subtitles import SubtitleCounts, ValidSubtitles
-from .unchecked import Unchecked
+from .unchecked import Unchecked, summarize_pictures
 
 
 # Faults that may delay a page. Without them, and with --within 0, each page is complete at its TCI.
@@ -218,6 +218,11 @@ class Verdict:
     def unchecked_kinds(self) -> list[str]:
         """Return the kinds of what was not checked although the programme has video."""
         return [*dict.fromkeys(item.kind for item in self.unchecked_pictures if item.has_video)]
+
+    def list_unchecked_lines(self) -> list[str]:
+        """Return the lines about losses and pictures that were not checked."""
+        return [f"not checked: {text}" for text in (
+            *self.unchecked_losses, *summarize_pictures(self.unchecked_pictures))]
 
     @property
     def decision(self) -> Decision:

@@ -93,11 +93,11 @@ class CueList:
 
     def cells(self, cue: Cue, verdict: CueVerdict) -> list[Value]:
         subtitle, late = cue.subtitle, [format_signed(cue.delay_in), format_signed(cue.delay_out)]
+        actual_times: tuple[Value, Value] = ("", "") if self.part.recording is None else (
+            mark_late_time(cue.begin, cue.delay_in), mark_late_time(cue.end, cue.delay_out))
         return [make_number_cell(subtitle.index, subtitle.number),
                 self.format_offset(subtitle.begin), format_frame(subtitle.begin),
-                format_frame(subtitle.end), *((
-                    mark_late_time(cue.begin, cue.delay_in), mark_late_time(cue.end, cue.delay_out))
-                    if self.part.recording else ("", "")), late[0] if late[0] == late[1]
+                format_frame(subtitle.end), *actual_times, late[0] if late[0] == late[1]
                 else " / ".join(frames or "-" for frames in late), self.make_text_cell(cue),
                 self.make_verdict_cell(verdict)]
 
@@ -146,7 +146,7 @@ class CueList:
 
     def make_file_row(self, subtitle: NamedSubtitle, times: tuple[Value, Value], text: Value,
                       verdict: Value, row_class: str, kinds: Sequence[str]) -> CueRow:
-        """Return the row of a subtitle for which only the subtitle file is checked."""
+        """Return the row of a subtitle that has no expected page."""
         begin = parse_frame(subtitle.begin)
         return CueRow(subtitle.position, row_class, kinds, [
             make_number_cell(subtitle.position, subtitle.number),

@@ -1,0 +1,322 @@
+"""Test tools/read: stored pages, cut and joined pages, verdicts and complete calls."""
+from __future__ import annotations
+
+import json
+from typing import Any
+
+from developing.pes import decode_pts, encode_triplet, make_packet, make_pes_packet
+from subtitles.common.times import CLOCK, TICKS
+from subtitles.formats.layout import PLAIN, draw_text, make_page_rows
+from subtitles.formats.stl_writer import StoredPage, store_page
+from subtitles.formats.teletext import ENGLISH, FRENCH, GERMAN, OPTIONS, NationalOption
+from subtitles.judging.status import ACCEPTED, LOST, NOT_JUDGED, REFUSED, Severity
+from subtitles.judging.unchecked import JUMP, Unchecked
+from subtitles.judging.verdict import Verdict
+from subtitles.reading.received import (
+    ShownPage, choose_language, find_likely_errors, join_late_pages, mark_cuts)
+from subtitles.reading.result import (
+    AS_SHOWN, NOT_READ, PageResult, ReadingGrounds, WITH_FAULTS, decide_reading)
+from subtitles.stream.receiver import BLANK_PAGE, Rows
+from .bench import Case, CompletedCall
+from .parts import make_example_request
+from .streams import add_pictures, make_stream_of_pids
+from .transmissions import CLOSING, HEADER, make_numbered_row, make_random_stl, packets, replace_pts
+
+
+def page(*rows: tuple[int, bytes]) -> Rows:
+    """Return a page with the given rows, each with its number."""
+    texts = dict(rows)
+    return tuple(texts.get(number, b"").ljust(40) for number in range(1, 25))
+
+
+def boxed(text: bytes) -> bytes:
+    return b"\x0b\x0b" + text + b"\x0a\x0a"
+
+
+class StoredPages(Case):
+    def test_stores_rows_as_the_text_that_draws_them(self) -> None:
+        for name, rows, option, expected in (
+                ("centred", page((22, b" " * 16 + boxed(b"Hi!!"))), ENGLISH,
+                 StoredPage(22, 2, b"Hi!!")),
+                ("left", page((22, boxed(b"Hi"))), ENGLISH, StoredPage(22, 1, b"Hi")),
+                ("right", page((22, b" " * 34 + boxed(b"Hi"))), ENGLISH, StoredPage(22, 3, b"Hi")),
+                ("at no margin", page((22, b" " * 5 + boxed(b"Hi"))), ENGLISH,
+                 StoredPage(22, 1, b"     \x0b\x0bHi\x0a\x0a")),
+                ("double height", page((20, b"\x0d" + boxed(b"a")), (22, b"\x0d" + boxed(b"b"))),
+                 ENGLISH, StoredPage(20, 1, b"\x0d\x0b\x0ba\x0a\x0a\x8a\x8a\x0d\x0b\x0bb\x0a\x0a")),
+                ("one box", page((1, b"\x0bHi")), ENGLISH, StoredPage(1, 1, b"\x0bHi")),
+                ("an accent", page((23, boxed(b"caf\x40"))), FRENCH,
+                 StoredPage(23, 1, b"caf\xc1a")),
+                ("a dollar", page((23, boxed(b"\x24"))), ENGLISH, StoredPage(23, 1, b"\xa4")),
+                ("row 24", page((22, boxed(b"a")), (24, b"b")), ENGLISH, "row 24 has text"),
+                ("no box", page((21, b"Hi")), ENGLISH, "row 21 has no start box (0B)"),
+                ("a mosaic", page((21, b"\x0b\x11a")), ENGLISH, "row 21 has the code 11, for which "
+                 "the national option english has no byte in a text"),
+                ("no character", page((21, b"\x0b\x7e")), ENGLISH, "row 21 has the code 7E, for "
+                 "which the national option english has no byte in a text"),
+                ("below double height", page((20, b"\x0d\x0ba"), (21, b"\x0bb")), ENGLISH,
+                 "row 21 is directly below a row of double height (0D)"),
+                ("double height in row 23", page((23, b"\x0d\x0ba")), ENGLISH,
+                 "row 23 has double height (0D)")):
+            self.check(name, store_page(rows, option), expected)
+
+    def test_draws_each_stored_character_as_its_code(self) -> None:
+        for option in OPTIONS:
+            self.check(option.word, [code for code in range(0x20, 0x7F)
+                                     if not self.is_drawn(code, option)], self.missing(option))
+
+    @staticmethod
+    def is_drawn(code: int, option: NationalOption) -> bool:
+        rows = page((12, boxed(b"A" + bytes([code]) + b"A")))
+        stored = store_page(rows, option)
+        if isinstance(stored, str):
+            return False
+        drawn = draw_text(stored.text, stored.row, stored.justify, PLAIN, option)
+        return isinstance(drawn, list) and make_page_rows(drawn) == rows
+
+    @staticmethod
+    def missing(option: NationalOption) -> list[int]:
+        codes = bytes.fromhex("23 24 40 5B 5C 5D 5E 5F 60 7B 7C 7D 7E")
+        return [code for code, words in zip(codes, option.cells.split()) if words == "-"]
+
+
+ONE, TWO, BLANK = page((22, b"\x0bOne")), page((21, b"\x0bTwo"), (22, b"\x0bOne")), BLANK_PAGE
+
+
+class ReceivedPages(Case):
+    def test_joins_pages_whose_rows_come_late(self) -> None:
+        def join(within: int, *parts: tuple[int, Rows]) -> list[tuple[int, int, Rows]]:
+            ends = [*(begin for begin, _ in parts[1:]), 100]
+            pages = [ShownPage(begin, end, rows, "") for (begin, rows), end in zip(parts, ends)]
+            return [item[:3] for item in join_late_pages(pages, within)]
+
+        for name, found, expected in (
+                ("nothing without --within", join(0, (0, ONE), (5, BLANK), (6, ONE)),
+                 [(0, 5, ONE), (5, 6, BLANK), (6, 100, ONE)]),
+                ("a repeat", join(1, (0, ONE), (5, BLANK), (6, ONE)), [(0, 100, ONE)]),
+                ("a longer pause", join(1, (0, ONE), (5, BLANK), (7, ONE)),
+                 [(0, 5, ONE), (5, 7, BLANK), (7, 100, ONE)]),
+                ("a row later", join(1, (0, BLANK), (5, ONE), (6, TWO)),
+                 [(0, 5, BLANK), (5, 100, TWO)]),
+                ("a repeat in three steps", join(1, (0, TWO), (5, BLANK), (6, ONE), (7, TWO)),
+                 [(0, 100, TWO)]),
+                ("a pause between others", join(2, (0, ONE), (5, BLANK), (6, TWO)),
+                 [(0, 5, ONE), (5, 6, BLANK), (6, 100, TWO)])):
+            self.check(name, found, expected)
+
+    def test_marks_pages_that_the_recording_cuts(self) -> None:
+        rows: dict[str, tuple[list[Rows], list[str | None]]] = {
+            "both": ([ONE, BLANK, TWO], ["start", None, "end"]),
+            "none": ([BLANK, ONE, BLANK], [None, None, None]),
+            "only one page": ([ONE], ["both"]), "no page": ([], [])}
+        for name, (pages, expected) in rows.items():
+            shown = mark_cuts([ShownPage(at, at + 1, item, "") for at, item in enumerate(pages)])
+            self.check(name, [item.cut for item in shown], expected)
+
+    def test_finds_pages_that_differ_in_few_characters(self) -> None:
+        other = page((22, b"\x0bOnf"))
+        for name, rows, expected in (("a letter", [ONE, other], {0, 1}), ("a row", [ONE, TWO], {}),
+                                     ("a letter more", [ONE, page((22, b"\x0bOnes"))], {})):
+            pages = [ShownPage(at, at + 1, item, "") for at, item in enumerate(rows)]
+            self.check(name, find_likely_errors(pages), {*expected})
+
+    def test_chooses_the_language_by_the_announcement_and_the_headers(self) -> None:
+        self.check_rows(choose_language, {
+            "announced": ((["deu"], GERMAN), b"08"), "English": ((["eng"], ENGLISH), b"09"),
+            "the second one": ((["eng", "ger"], GERMAN), b"08"),
+            "another one": ((["deu"], ENGLISH), b"00"), "none": (([], ENGLISH), b"00"),
+            "none, German": (([], GERMAN), b"08"),
+            "another one, French": ((["eng"], FRENCH), b"0F")})
+
+
+class Decisions(Case):
+    def test_decides_the_verdict(self) -> None:
+        cut = ReadingGrounds(REFUSED, {74}, 1, is_cut=True)
+        self.check_rows(decide_reading, {
+            "accepted": ((ReadingGrounds(ACCEPTED),), AS_SHOWN),
+            "accepted with a problem": ((ReadingGrounds(ACCEPTED, other_count=1),), WITH_FAULTS),
+            "not judged": ((ReadingGrounds(NOT_JUDGED, other_count=1),), NOT_READ),
+            "lost": ((ReadingGrounds(LOST),), WITH_FAULTS),
+            "refused": ((ReadingGrounds(REFUSED, {72}, 1),), WITH_FAULTS),
+            "cut": ((cut,), AS_SHOWN),
+            "74, but not cut": ((cut._replace(is_cut=False),), WITH_FAULTS),
+            "cut, with a frame that is not trusted": ((cut._replace(untrusted_frames=1),),
+                                                      WITH_FAULTS),
+            "cut, with another fault": ((cut._replace(fault_numbers={74, 73}, fault_count=2),),
+                                        WITH_FAULTS),
+            "cut, with a second 74": ((cut._replace(fault_count=2),), WITH_FAULTS),
+            "cut, with a problem": ((cut._replace(other_count=1),), WITH_FAULTS)})
+
+
+    def test_a_large_jump_of_pictures_is_a_problem(self) -> None:
+        for change, names in ((0, []), (25 * TICKS, ["pictures"])):
+            verdict = Verdict(make_example_request("one.stl", "one.ts"), Severity(None), "now",
+                              unchecked_pictures=[Unchecked(JUMP, "unclear", change=change)])
+            self.check(f"{change}", [problem.name for problem in PageResult(
+                "888", None, (), verdict).problems], names)
+
+
+OTHER_OPTION = make_packet(0, 0, [8, 8, 0, 8, 0, 8, 1, 8], b" " * 32)  # German
+RESERVED_OPTION = make_packet(0, 0, [8, 8, 0, 8, 0, 8, 1, 14], b" " * 32)
+OTHER_SUBCODE = make_packet(0, 0, [8, 8, 1, 8, 0, 8, 1, 0], b" " * 32)
+ROW = make_numbered_row(22, b"Good evening.")
+# M/29: region 1, so that receivers above level 1 show other characters
+OTHER_SET = make_packet(0, 29, [0], b"") + encode_triplet(0x400) + encode_triplet(0) * 12
+
+
+class WholeCalls(Case):
+    def read(self, *args: str) -> CompletedCall:  # type: ignore[override]
+        return self.tool("read", *args, "-o", "out")
+
+    def result(self, name: str = "888") -> dict[str, Any]:
+        with open(self.path(f"out/{name}.json"), encoding="utf-8") as file:
+            result: dict[str, Any] = json.load(file)
+        return result
+
+    def send(self, *transmissions: tuple[int, list[bytes]]) -> str:
+        """Write PES packets with the given frames and Teletext packets. Return their path."""
+        return self.write("sent.pes", b"".join(make_pes_packet(TICKS * frame, item)
+                                               for frame, item in transmissions))
+
+    def test_reads_back_random_programmes(self) -> None:
+        for seed in range(4):
+            data, _ = make_random_stl(seed)
+            stl = self.write("one.stl", data)
+            layout = ["--layout", "before=0D0B0B,row=-1"] if seed % 2 else []
+            sent = self.schedule(stl, "sent.pes", "--every", "25", *layout)
+            call = self.read(sent, "--origin", "0")
+            self.check(f"{seed}", (call.status, self.result()["verdict"]), (0, AS_SHOWN))
+            again = self.schedule(self.path("out/888.stl"), "again.pes", "--every", "25")
+            status, lines = self.program("check", stl, again, *layout)
+            self.must(f"{seed}: the source accepts it", status == 0, lines)
+            rows = self.result()["subtitles"]
+            self.must(f"{seed}: certain", all(row["certain"] for row in rows), rows)
+
+    def test_says_where_the_times_come_from(self) -> None:
+        sent = [make_pes_packet(90_000 + TICKS * frame, [HEADER, *([ROW] * text), CLOSING])
+                for frame, text in ((0, 0), (25, 1), (50, 0))]
+        self.write("sent.pes", b"".join(sent))
+        self.write("sent.ts", add_pictures(b"".join(sent), 90_000).data)
+        for args, clock, begin in ((("sent.pes",), "first PES packet", "00:00:01:00"),
+                                   (("sent.pes", "--origin", "0"), "given", "00:00:02:00"),
+                                   (("sent.ts", "--start", "10:00:00:00"), "start", "10:00:01:00")):
+            call = self.read(*args)
+            result = self.result()
+            self.check(" ".join(args), (call.status, result["clock"], result["subtitles"][0]["in"]),
+                       (0, clock, begin))
+        call = self.read("sent.pes", "--start", "10:00:00:00")
+        self.check("no picture", (call.status, self.result()["verdict"]), (2, NOT_READ))
+
+    def test_marks_what_the_recording_cuts(self) -> None:
+        text, blank = [HEADER, ROW, CLOSING], [HEADER, CLOSING]
+        rows: dict[str, tuple[list[tuple[int, list[bytes]]], list[str | None]]] = {
+            "both": ([(0, text), (25, blank), (50, text), (75, text)], ["start", "end"]),
+            "the beginning": ([(0, text), (25, blank)], ["start"]),
+            "the end": ([(0, blank), (25, text)], ["end"]),
+            "one subtitle all the time": ([(0, text), (25, text)], ["both"]),
+            "no text": ([(0, blank), (25, blank)], [])}
+        for name, (frames, cuts) in rows.items():
+            call = self.read(self.send(*frames))
+            shown = self.result()["subtitles"]
+            self.check(name, (call.status, [row["cut"] for row in shown],
+                              [row["certain"] for row in shown]), (0, cuts, [True] * len(cuts)))
+
+    def test_names_what_it_can_not_vouch_for(self) -> None:
+        text, blank = [HEADER, ROW, CLOSING], [HEADER, CLOSING]
+        other = [OTHER_OPTION, ROW, CLOSING]
+        jumping = [(100, text), (125, blank), (5, text), (30, blank)]
+        switching = [(25 * at, [HEADER if at % 2 else OTHER_SUBCODE, ROW, CLOSING])
+                     for at in range(8)]
+        for name, frames, args, status, begin in (
+                ("two options", [(0, text), (25, blank), (50, other), (75, blank)], (), 1,
+                 "refused 67"),
+                ("reserved bits", [(0, [RESERVED_OPTION, CLOSING])], (), 2, "C12, C13 and C14"),
+                ("no such page", [(0, text)], ("--page", "889"), 2, "page 889 was never sent"),
+                ("row 24", [(0, blank), (25, [HEADER, make_packet(0, 24, (), b"x" * 40), CLOSING]),
+                            (50, blank)], (), 1, "not in the file, 00:00:01:00 to 00:00:02:00: "
+                 "row 24 has text"),
+                ("PTS go back", jumping, (), 1, "time goes back, the PTS go back at PES packet 2"),
+                ("its first part", jumping, ("--pes", "0-1"), 0, ""),
+                ("its second part", jumping, ("--pes", "2-3"), 0, ""),
+                ("another character set", [(0, text), (10, [OTHER_SET]), (25, blank)], (), 1,
+                 "character set"),
+                ("sub-pages", [*switching, (250, blank)], (), 1, "sub-pages"),
+                ("a missing repeat", [(0, text), (300, blank)], (), 1, "refused 73"),
+                ("allowed", [(0, text), (300, blank)], ("--every", "300"), 0, ""),
+                ("not closed", [(0, [HEADER, ROW]), (1, blank)], (), 1, "refused 77")):
+            call = self.read(self.send(*frames), *args)
+            self.must(name, call.status == status and
+                      self.result(args[1] if "--page" in args else "888")["line"].partition(": ")[2]
+                      .startswith(begin), call)
+
+    def test_names_a_reading_that_ends_early(self) -> None:
+        data = self.read_bytes(25)
+        pes = packets(data)
+        broken = bytearray(data)
+        broken[len(b"".join(pes[:10])) + 5] ^= 1
+        self.check("the length", (self.read(self.write("a.pes", broken)).status,
+                                  self.result()["problems"][0]["name"]), (1, "ends early"))
+        self.check("the end", (self.read(self.write("a.pes", data[:-50])).status,
+                               self.result()["problems"][0]["name"]), (1, "ends early"))
+
+    def read_bytes(self, every: int) -> bytes:
+        stl = self.write("one.stl", make_random_stl(1)[0])
+        with open(self.schedule(stl, "sent.pes", "--every", str(every)), "rb") as file:
+            return file.read()
+
+    def test_reads_over_the_wrap_of_the_pts(self) -> None:
+        data = self.read_bytes(25)
+        first = decode_pts(data)
+        moved = replace_pts(data, lambda _, pts: (pts - first - 90_000 * 5) % CLOCK)
+        self.check("status", self.read(self.write("a.pes", moved)).status, 0)
+
+    def test_needs_a_pid_for_a_page_on_two(self) -> None:
+        data = self.read_bytes(25)
+        self.write("two.ts", make_stream_of_pids((0x101, data), (0x102, data)))
+        call = self.read("two.ts")
+        line = self.result()["line"]
+        self.must("both", call.status == 2 and "PID 0x101, PID 0x102" in line, call)
+        self.check("one", self.read("two.ts", "--pid", "0x102").status, 0)
+
+    def test_replaces_only_its_own_files(self) -> None:
+        sent = self.send((0, [HEADER, CLOSING]), (25, [HEADER, ROW, CLOSING]),
+                         (50, [HEADER, CLOSING]))
+        self.check("first", self.read(sent).status, 0)
+        self.check("again", self.read(sent).status, 0)
+        self.write("out/888.stl", make_random_stl(1)[0])
+        call = self.read(sent)
+        self.must("of the operator", call.status == 2 and "was not written by read" in
+                  "".join(call.told), call)
+
+    def test_compares_another_file_with_what_was_read(self) -> None:
+        def move(frame: int, first: int) -> int:
+            return frame + 2 * (frame >= first)
+
+        text, blank = [HEADER, ROW, CLOSING], [HEADER, CLOSING]
+        frames = [(0, blank), (25, text), (50, blank), (75, text), (100, blank)]
+        one = self.write("one.pes", self.read_sent(frames))
+        for name, other, status in (
+                ("the same", frames, 0), ("all later", [(at + 2, sent) for at, sent in frames], 1),
+                ("the second later", [(move(at, 75), sent) for at, sent in frames], 1),
+                ("one subtitle less", frames[:3], 1),
+                ("one more", [*frames, (125, text), (150, blank)], 1),
+                ("no text", [(0, blank), (100, blank)], 1)):
+            call = self.read(one, "--origin", "0", "--against",
+                             self.write("two.pes", self.read_sent(other)))
+            self.check(name, (call.status, b"the same subtitles" in call.out), (status, not status))
+            call = self.read(self.path("two.pes"), "--origin", "0", "--against", one)
+            self.check(f"{name}, the other way", call.status, status)
+        self.check("its own file", self.read(one, "--origin", "0").status, 0)
+        stl = self.write("own.stl", self.read_file("out/888.stl"))
+        self.check("a file", self.read(one, "--origin", "0", "--against", stl).status, 0)
+        more = self.write("two.pes", self.read_sent([*frames, (125, text), (150, blank)]))
+        self.check("not on air", self.read(more, "--origin", "0", "--against", stl).status, 1)
+        self.check("no clock", self.read(one, "--against", stl).status, 2)
+
+    def read_sent(self, frames: list[tuple[int, list[bytes]]]) -> bytes:
+        with open(self.send(*frames), "rb") as file:
+            return file.read()
+
+    def read_file(self, name: str) -> bytes:
+        with open(self.path(name), "rb") as file:
+            return file.read()

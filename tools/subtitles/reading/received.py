@@ -1,0 +1,250 @@
+"""Find the pages that a receiver shows during a recording, and the subtitles that draw them.
+
+Nothing here decides a verdict: `check` compares the subtitles with the recording, frame by frame.
+"""
+from __future__ import annotations
+
+import collections
+from typing import Iterator, NamedTuple, Sequence
+
+from ..clock.start import Clock, GIVEN
+from ..common.command_line import counted, format_pid
+from ..common.times import TICKS, format_frame, subtract_pts, wrap_pts
+from ..formats.stl import TTI
+from ..formats.stl_writer import (
+    StoredPage, encode_time_code, make_gsi_block, make_subtitle_blocks, store_page)
+from ..formats.teletext import (
+    NationalOption, OPTION_BY_BITS, RESERVED, choose_language_option, choose_track_option)
+from ..judging.pages import is_partial_page
+from ..request.request import Request, Unclear
+from ..stream.packets import (
+    HEADER, Packets, Range, describe_subpages, find_alternating_subcodes, parse_headers)
+from ..stream.receiver import BLANK_PAGE, Rows, Timeline, read_national_option
+from ..stream.survey import CODES
+
+PUBLISHER = b"subttx read"  # marks the files that tools/read may replace
+MAX_TITLE = 32
+FEW_CELLS = 2  # a page that differs from its neighbour in so few characters may be an error
+
+
+START, END, BOTH = "start", "end", "both"
+CUT_TEXTS = {START: "the recording begins during this subtitle: its in-cue is not known",
+             END: "the recording ends during this subtitle: its out-cue is not known",
+             BOTH: "the recording shows only this subtitle: its cues are not known"}
+
+
+class Problem(NamedTuple):
+    """A finding that forbids the verdict `as shown`: its name, its text, and its time, if any."""
+
+    name: str
+    text: str
+    time: str | None = None
+
+
+class ShownPage(NamedTuple):
+    """A page that is not blank, the frames `range(begin, end)` in which a receiver shows it, and
+    the fields of the subtitle that draws it, or the reason why there is none."""
+
+    begin: int
+    end: int
+    rows: Rows
+    stored: StoredPage | str
+    cut: str | None = None  # a key of `CUT_TEXTS`, if the recording begins or ends meanwhile
+
+    @property
+    def is_written(self) -> bool:
+        return not isinstance(self.stored, str)
+
+
+class Reading(NamedTuple):
+    """What a receiver shows on a page, from its first header to the end of the recording."""
+
+    pes: Range  # PES packets from the first header on
+    clock: Clock
+    first: int  # first frame
+    last: int  # last frame
+    option: NationalOption
+    pages: list[ShownPage]
+    problems: list[Problem]
+    notes: list[str]
+
+    @property
+    def origin(self) -> int:
+        return self.clock.origin
+
+    @property
+    def written_pages(self) -> list[ShownPage]:
+        return [page for page in self.pages if page.is_written]
+
+    @property
+    def is_cut(self) -> bool:
+        """Return whether the page is shown when the recording ends."""
+        return bool(self.pages) and self.pages[-1].cut in (END, BOTH)
+
+
+def find_header_range(packets: Packets, inside: Range | None) -> Range:
+    """Return the PES packets from the first header of the page on. Raise `Unclear` if there is
+    none."""
+    last = min(packets.count - 1, inside[1] if inside else packets.count)
+    for run in packets.list_runs_between(inside[0] if inside else 0, last):
+        if HEADER in run.flags and run.pts is not None and not run.fault:
+            return run.first, last
+    raise Unclear("no header of the page can be read" + (" in this range" if inside else ""))
+
+
+def find_step_back(packets: Packets, pes: Range) -> int | None:
+    """Return the first PES packet whose PTS is at least a frame before the last one, if any."""
+    last: int | None = None
+    for run in packets.list_runs_between(*pes):
+        if run.pts is None or run.last is None or run.fault:
+            continue
+        if last is not None and subtract_pts(last, run.pts) <= -TICKS:
+            return run.first
+        if run.length > 1 and run.step <= -TICKS:
+            return run.first + 1
+        last = run.last
+    return None
+
+
+def choose_origin(packets: Packets, pes: Range, inside: Range | None) -> int:
+    """Return the origin with which the first PES packet is in frame 0 and the first header of the
+    page exactly at the beginning of a frame."""
+    header, first = packets.get_pts(pes[0]), next(packets.pts(inside))
+    assert header is not None
+    return wrap_pts(header - TICKS * max(subtract_pts(first, header) // TICKS, 0))
+
+
+def choose_header_option(packets: Packets, pes: Range) -> NationalOption:
+    """Return the national option of most headers. Raise `Unclear` if all have reserved bits."""
+    counts: collections.Counter[int] = collections.Counter()
+    for run in packets.list_runs_between(*pes):
+        for header in () if run.fault else parse_headers(run.control):
+            counts[read_national_option(header)] += run.length
+    del counts[RESERVED]
+    if not counts:
+        raise Unclear("C12, C13 and C14 are set in each header of the page, which is reserved: no "
+                      "national option has its characters")
+    return OPTION_BY_BITS[counts.most_common(1)[0][0]]
+
+
+def list_spans(timeline: Timeline) -> Iterator[ShownPage]:
+    """Yield the decoded pages, including blank pages."""
+    for number, rows in enumerate(timeline.pages):
+        first, last = timeline.get_page_span(number)
+        yield ShownPage(first, last + 1, rows, "")
+
+
+def join_late_pages(pages: Sequence[ShownPage], within: int) -> list[ShownPage]:
+    """Join pages that a transmission splits because its rows come up to `within` frames after its
+    header: an incomplete page belongs to the page after it, and a blank page between equal pages
+    to these."""
+    joined: list[ShownPage] = []
+    for page in pages:
+        while joined and joined[-1].end - joined[-1].begin <= within and \
+                is_partial_page(joined[-1].rows, page.rows):
+            is_blank = joined[-1].rows == BLANK_PAGE
+            if is_blank and not (len(joined) > 1 and joined[-2].rows == page.rows):
+                break
+            page = page._replace(begin=joined.pop().begin)
+        if joined and joined[-1].rows == page.rows:
+            joined[-1] = joined[-1]._replace(end=page.end)
+        else:
+            joined.append(page)
+    return joined
+
+
+def mark_cuts(pages: list[ShownPage]) -> list[ShownPage]:
+    """Mark the first page if the recording begins with it, and the last if it ends with it."""
+    if pages and pages[0].rows != BLANK_PAGE:
+        pages[0] = pages[0]._replace(cut=START)
+    if pages and pages[-1].rows != BLANK_PAGE:
+        pages[-1] = pages[-1]._replace(cut=BOTH if pages[-1].cut else END)
+    return pages
+
+
+def read_pages(packets: Packets, request: Request, clock: Clock | None) -> Reading:
+    """Return what a receiver shows on the page of `request`. If `clock` is `None`, choose an
+    origin. Raise `Unclear` if nothing can be read."""
+    pes = find_header_range(packets, request.pes)
+    option = choose_header_option(packets, pes)
+    clock = clock or Clock(choose_origin(packets, pes, request.pes), GIVEN)
+    origin = clock.origin
+    back = find_step_back(packets, pes)
+    pes = pes if back is None else (pes[0], back - 1)
+    timeline = Timeline(packets, request.page, origin, request.within, pes)
+    problems = find_early_end(packets, request.pes)
+    if back is not None:
+        problems.append(Problem(
+            "time goes back", f"the PTS go back at PES packet {back}, after "
+            f"{format_frame(max(timeline.last, 0))}, so reading ends there: read the rest with "
+            f"--pes {back}-{packets.count - 1}", format_frame(max(timeline.last, 0))))
+    if not timeline.pages:
+        raise Unclear("no header of the page has a time between 00:00:00:00 and 24:00:00:00 on "
+                      "this clock: check --origin or --start")
+    subcodes = find_alternating_subcodes(packets, pes)
+    if subcodes:
+        problems.append(Problem("sub-pages", describe_subpages(subcodes, request.page_name)))
+    pages = mark_cuts(join_late_pages([*list_spans(timeline)], request.within))
+    stored = [page._replace(stored=store_page(page.rows, option)) for page in pages
+              if page.rows != BLANK_PAGE]
+    problems += [Problem("not in the file", f"{format_frame(page.begin)} to "
+                         f"{format_frame(page.end)}: {page.stored}", format_frame(page.begin))
+                 for page in stored if isinstance(page.stored, str)]
+    return Reading(pes, clock, timeline.frames[0], timeline.last, option, stored, problems,
+                   describe_beginning(pes, request.pes, timeline))
+
+
+def describe_beginning(pes: Range, inside: Range | None, timeline: Timeline) -> list[str]:
+    """Return a note if PES packets come before the first header of the page."""
+    count = pes[0] - (inside[0] if inside else 0)
+    return [f"not judged: {counted(count, 'PES packet')} before the first header of the page, at "
+            f"{format_frame(timeline.frames[0])}"] if count else []
+
+
+def find_early_end(packets: Packets, inside: Range | None) -> list[Problem]:
+    """Return a problem if bytes after the last PES packet can't be read."""
+    if inside and inside[1] < packets.count:
+        return []
+    if packets.damage:
+        return [Problem("ends early", f"{packets.damage}: the rest was not read")]
+    if packets.refusal:
+        return [Problem("ends early", f"{format_pid(packets.pid)}: fault {packets.refusal} after "
+                        f"PES packet {packets.count - 1}: the rest was not read")]
+    return []
+
+
+def find_likely_errors(pages: Sequence[ShownPage]) -> set[int]:
+    """Return the indexes of pages that differ from an adjoining page in a few characters only. Two
+    wrong bits in a byte change a character, and no receiver notices it."""
+    found: set[int] = set()
+    for at, (page, other) in enumerate(zip(pages, pages[1:])):
+        cells, others = b"".join(page.rows), b"".join(other.rows)
+        differing = [pair for pair in zip(cells, others) if pair[0] != pair[1]]
+        if page.end == other.begin and len(differing) <= FEW_CELLS and \
+                all(min(pair) > 0x20 for pair in differing):
+            found |= {at, at + 1}
+    return found
+
+
+def choose_language(languages: Sequence[str], option: NationalOption) -> bytes:
+    """Return the language code (LC) for the first announced language that has the national option
+    of the headers. Without one, return 00, or for another option than English its first language,
+    so that `qc --option auto` chooses the right option."""
+    for language in languages:
+        if choose_track_option(language) == option:
+            codes = [code for code, words in CODES.items() if language.lower() in words.split()]
+            return b"%02X" % codes[0]
+    is_default = choose_language_option(b"00") == option
+    return b"00" if is_default else option.languages.split()[0].encode()
+
+
+def make_stl(reading: Reading, title: str, languages: Sequence[str]) -> bytes:
+    """Return the subtitle file that draws the pages of a reading."""
+    blocks = []
+    for number, page in enumerate(reading.written_pages, 1):
+        assert isinstance(page.stored, StoredPage)
+        blocks.append(make_subtitle_blocks(number, page.begin, page.end, *page.stored))
+    size = sum(map(len, blocks)) // TTI
+    return make_gsi_block(title.encode("cp850", "replace")[:MAX_TITLE], size, len(blocks),
+                          reading.first, choose_language(languages, reading.option),
+                          PUBLISHER) + b"".join(blocks)
