@@ -14,6 +14,7 @@ import os
 import runpy
 import shutil
 import signal
+import socket
 import subprocess
 import sys
 import tempfile
@@ -29,6 +30,7 @@ from .failures import (
 
 EXAMPLES = os.path.join(TOP, "examples")
 MAX_NAME_LENGTH = 160  # maximum number of characters of a check's name in a message
+INTERNAL_ERROR = ": internal error: "  # in the message of a tool that failed because of a bug
 SECONDS = 600  # time limit for a command or a wait, in seconds
 
 
@@ -119,6 +121,14 @@ class Case(unittest.TestCase):
             file.write(data)
         return self.path(name)
 
+    def make_socket(self, name: str) -> str:
+        """Make a socket. The path given to `bind` is short, since at most 107 bytes are allowed."""
+        folder = os.open(self.folder, os.O_PATH)
+        with socket.socket(socket.AF_UNIX) as result:
+            result.bind(f"/proc/self/fd/{folder}/{name}")
+        os.close(folder)
+        return self.path(name)
+
     def write_program(self, name: str, text: str) -> str:
         path = self.write(name, text.encode())
         os.chmod(path, 0o755)
@@ -139,8 +149,13 @@ class Case(unittest.TestCase):
         process = subprocess.run(command, cwd=os.path.join(self.folder, folder), check=False,
                                  stdout=subprocess.PIPE, stderr=subprocess.PIPE, timeout=SECONDS,
                                  input=data or b"", env=env, user=user, preexec_fn=does)
-        return CompletedCall(process.returncode, process.stdout,
-                             process.stderr.decode("utf-8", "surrogateescape").splitlines())
+        told = process.stderr.decode("utf-8", "surrogateescape").splitlines()
+        self.check_no_internal_error(told)
+        return CompletedCall(process.returncode, process.stdout, told)
+
+    def check_no_internal_error(self, told: Sequence[str]) -> None:
+        """Check that no bug ended a tool. Its status would be that of a wrong argument."""
+        self.check("internal errors", [line for line in told if INTERNAL_ERROR in line], [])
 
     def tool(self, name: str, *args: str, data: bytes | None = None) -> CompletedCall:
         return self.call([get_tool_path(name), *args], data)

@@ -12,6 +12,7 @@ from typing import Iterator
 
 HELPERS = ("bench.py", "failures.py", "snapshots.py")  # files skipped in the search for the caller
 MAX_LINES_PRINTED = 60  # maximum number of printed lines
+MAX_TEXT_PRINTED = 600  # maximum number of printed characters of a value in a comparison
 WIDTH = 96
 
 
@@ -39,6 +40,11 @@ def shorten_lines(lines: list[str]) -> str:
     """Join lines, but replace those after MAX_LINES_PRINTED with a line that gives their number."""
     more = [f"  .. {len(lines) - MAX_LINES_PRINTED} more lines"] * (len(lines) > MAX_LINES_PRINTED)
     return "\n".join([*lines[:MAX_LINES_PRINTED], *more])
+
+
+def crop(text: str) -> str:
+    return text if len(text) <= MAX_TEXT_PRINTED else \
+        f"{text[:MAX_TEXT_PRINTED]}.. {len(text)} characters"
 
 
 def list_lines(value: object) -> list[str]:
@@ -76,7 +82,8 @@ def list_conditions(condition: ast.expr) -> Iterator[ast.expr]:
 def explain_condition(frame: FrameType, helper: str = "must") -> str:
     """Return the text of the first false operand in a failed condition.
 
-    Add both sides of a comparison. The condition is evaluated again, which may have side effects.
+    Add both sides of a comparison. The condition is evaluated again, which the text says if the
+    condition contains a call: a call may return something else than before.
     """
     condition = condition_in(frame, helper)
     names = {**frame.f_globals, **frame.f_locals}
@@ -89,11 +96,13 @@ def explain_condition(frame: FrameType, helper: str = "must") -> str:
             if value(fact):
                 continue
             text = f"  false:    {ast.unparse(fact)}"
+            if any(isinstance(node, ast.Call) for node in ast.walk(fact)):
+                text += "\n  evaluated again, so these may not be the values that failed:"
             if isinstance(fact, ast.Compare) and len(fact.ops) == 1:
                 left, right = value(fact.left), value(fact.comparators[0])
                 kind = isinstance(fact.ops[0], ast.Eq)
                 return f"{text}\n" + (format_comparison(left, right) if kind else shorten_lines(
-                    [f"  left:     {left!r}", f"  right:    {right!r}"]))
+                    [f"  left:     {crop(repr(left))}", f"  right:    {crop(repr(right))}"]))
             return text
     except Exception as error:
         return f"  not explained: {type(error).__name__}: {error}"

@@ -93,7 +93,9 @@ def find_tests(names: Sequence[str]) -> list[unittest.TestCase]:
         tuple(f"{each}." for each in list_tests_of(name)))] for name in names]
     for name, several in zip(names, of_names):
         if not several:
-            raise Stop(f"no test is named {name}, and none is of a module or script of that name")
+            broken = [item.id() for item in everything if "_FailedTest" in item.id()]
+            raise Stop(f"no test is named {name}, and none is of a module or script of that name"
+                       + f"; not loaded: {', '.join(broken)}" * bool(broken))
     expected = {item for several in of_names for item in several}
     return [item for item in everything if not names or item in expected]
 
@@ -124,7 +126,8 @@ class TestProcess:
                 counts = Counts(is_verbose)
                 unittest.TestSuite(several).run(counts)
                 counts.over += BENCH.over
-                os.write(printed, json.dumps((counts.passed, counts.failed, counts.over)).encode())
+                os.write(printed, json.dumps((counts.passed, counts.failed, counts.testsRun,
+                                              counts.over)).encode())
             finally:
                 os._exit(0)
         os.close(printed)
@@ -140,8 +143,9 @@ class TestProcess:
         _, status = os.waitpid(self.process, 0)
         if not printed:
             print(f"FAILED: {self.name}: its process ended by {status}", flush=True)
-        passed, failed, over = json.loads(printed or b"[0, 1, []]")
+        passed, failed, count, over = json.loads(printed or b"[0, 1, 1, []]")
         whole.passed, whole.failed = whole.passed + passed, whole.failed + failed
+        whole.testsRun += count
         whole.over += over
 
 

@@ -425,6 +425,7 @@ ALARM_CASES: dict[str, tuple[dict[str, Any], list[str]]] = {
     "no header": ({"headers": {(0, 0x88): DAY - 601}}, ["page 888"]),
     "a header just now": ({"headers": {(0, 0x88): DAY - 599}}, []),
     "it has just begun": ({"headers": {(0, 0x88): 0.0}, "oldest": DAY - 599}, []),
+    "a page never seen": ({"headers": {(0, 0x88): 0.0}}, ["page 888"]),
     "two pages": ({"headers": {(0, 0x88): DAY - 601, (0, 0x89): DAY}}, ["page 888"]),
     "a result is late": ({"late": ["one"]}, ["late"]),
     "a fault in the schedule": ({"schedule_faults": ["line 3: what?"]}, ["schedule"])}

@@ -92,10 +92,13 @@ class Lines(AirCase):
             self.check(repr(end), len(self.read_lines(end.join(lines) + end, WRITTEN)), 2)
 
     def test_reports_a_second_line_with_the_same_name(self) -> None:
-        line = "2026-12-01T08:00:00Z a.stl\n"
-        self.check("both", self.read_lines(line * 2), [
-            "20261201T080000Z-a 0 None", "line 2 is not judged: its result would be named "
-            "20261201T080000Z-a, as that of line 1"])
+        lines = b"2026-12-01T08:00:00Z a.stl --within 1\n2026-12-01T08:00:00Z a.stl --within 50\n"
+        self.write("schedule", lines)
+        schedule = self.read_schedule()
+        self.check("judged", [(programme.name, programme.request.within)
+                              for programme in schedule.programmes], [("20261201T080000Z-a", 1)])
+        self.check("reported", [*schedule.faults], [
+            "line 2 is not judged: its result would be named 20261201T080000Z-a, as that of line 1"])
 
     def test_finds_files_in_the_folder_of_the_schedule(self) -> None:
         self.write_schedule("2026-12-01T08:00:00Z a.stl")

@@ -8,7 +8,6 @@ import itertools
 import json
 import os
 import signal
-import socket
 import sys
 import time
 from typing import Any, Callable
@@ -50,8 +49,7 @@ class Lists(Case):
                  "{0}/one.stl {0}/one.ts\n\"\n{0}/one.stl\n{0}/one.stl {0}/folder\n"
                  "{0}/none.stl {0}/one.ts\n{0}/one.stl {0}/pipe\n{0}/x.stl -\n"
                  "{0}/x.stl /dev/null --within 2\n{0}/x.stl {0}/socket\n").format(self.folder)
-        with socket.socket(socket.AF_UNIX) as result:
-            result.bind(self.path("socket"))
+        self.make_socket("socket")
         items = read_pairs(self.write("list", lines.encode() + b"caf\xe9.stl x.ts"),
                            make_default_options())
         self.must("names", [item.name for item in items] == [

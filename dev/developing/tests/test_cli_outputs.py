@@ -21,6 +21,7 @@ from subtitles.cli.single import now
 from subtitles.clock.start import GIVEN
 from subtitles.common.command_line import escape_hidden
 from subtitles.common.files import SummedFile
+from subtitles.judging.status import STATUSES
 from subtitles.judging.verdict import Gap
 from subtitles.results.files import (
     Row, TestCase, format_cell, make_column_rows, make_junit_file as junit_of, format_change_time,
@@ -94,40 +95,41 @@ class Tables(unittest.TestCase):
 
 
 class Testcases(unittest.TestCase):
-    CASES = [("accepted", 0), ("refused", 1), ("lost", 1), ("waived", 0), ("not judged", 2),
-             ("refused", 1), ("warned", 1), ("not judged", 2)]
+    # What a test case contains, by the verdict and exit status of its pair.
+    CONTENTS = {("accepted", 0): None, ("valid", 0): "system-out", ("waived", 0): "system-out",
+                ("relative", 0): "system-out",
+                ("relative", 3): "failure", ("refused", 1): "failure", ("lost", 1): "failure",
+                ("warned", 1): "failure", ("not judged", 2): "error"}
 
-    def test_counts_failures_by_status_1_and_errors_by_status_2(self) -> None:
-        for count in range(len(self.CASES) + 1):
-            cases = [TestCase(f"pair {at}", verdict, status, "line", ["more"], 0.5)
-                     for at, (verdict, status) in enumerate(self.CASES[:count])]
-            suites = ElementTree.fromstring(junit_of(cases, "2026-11-26T10:00:00Z"))
-            statuses = [status for _, status in self.CASES[:count]]
-            expected = [str(number) for number in (count, statuses.count(1), statuses.count(2),
-                                                   f"{count / 2:.3f}")]
-            with self.subTest(count=count):
+    def test_has_a_row_for_each_verdict(self) -> None:
+        self.assertEqual({verdict for verdict, _ in self.CONTENTS}, {*STATUSES})
+
+    def test_counts_failures_and_errors(self) -> None:
+        pairs = [*self.CONTENTS, ("refused", 1), ("not judged", 2)]
+        for count in range(len(pairs) + 1):
+            suites = ElementTree.fromstring(junit_of([
+                TestCase("pair", verdict, status, "line", ["more"], 0.5)
+                for verdict, status in pairs[:count]], "2026-11-26T10:00:00Z"))
+            contents = [self.CONTENTS[pair] for pair in pairs[:count]]
+            with self.subTest(pairs[:count][-1:]):
                 for element in (suites, suites[0]):
-                    self.assertEqual([element.get(name) for name in (
-                        "tests", "failures", "errors", "time")], expected)
-                kinds = [[child.tag for child in case] for case in suites[0]]
-                self.assertEqual(kinds, [
-                    [{0: "system-out", 1: "failure", 2: "error"}[status]] * (verdict != "accepted")
-                    for verdict, status in self.CASES[:count]])
+                    self.assertEqual(
+                        {name: element.get(name) for name in ("tests", "failures", "errors", "time")
+                         }, {"tests": f"{count}", "failures": f"{contents.count('failure')}",
+                             "errors": f"{contents.count('error')}", "time": f"{count / 2:.3f}"})
 
     def test_a_test_case_has_name_time_and_first_lines(self) -> None:
-        for verdict, status, tag in (("refused", 1, "failure"), ("not judged", 2, "error"),
-                                     ("waived", 0, "system-out"), ("accepted", 0, None)):
-            suites = ElementTree.fromstring(junit_of([TestCase(
-                "a\x1bb", verdict, status, "a\ufffe\nline", ["one", "two"], 1.25)], "2026T10:00Z"))
-            self.assertEqual((suites[0].get("timestamp"), suites[0].get("skipped")),
-                             ("2026T10:00", "0"), (verdict, status, tag))
-            self.assertEqual(suites[0][0].attrib, {"classname": "subttx", "name": "a\\x1bb",
-                                                   "time": "1.250"}, (verdict, status, tag))
-            reported = [(item.tag, item.text, item.attrib) for item in suites[0][0]]
+        for (verdict, status), tag in self.CONTENTS.items():
+            suite = ElementTree.fromstring(junit_of([TestCase(
+                "a\x1bb", verdict, status, "a\ufffe\nline", ["one", "two"], 1.25)],
+                "2026T10:00Z"))[0]
             words = {"message": "a\\ufffe\nline", "type": verdict} if status else {}
-            self.assertEqual(reported,
-                             [(tag, "a\\ufffe\nline\none\ntwo", words)] * (tag is not None),
-                             (verdict, status, tag))
+            with self.subTest(verdict=verdict, status=status):
+                self.assertEqual((suite.get("timestamp"), suite.get("skipped")), ("2026T10:00", "0"))
+                self.assertEqual(suite[0].attrib, {"classname": "subttx", "name": "a\\x1bb",
+                                                   "time": "1.250"})
+                self.assertEqual([(item.tag, item.text, item.attrib) for item in suite[0]], [
+                    (tag, "a\\ufffe\nline\none\ntwo", words)] * (tag is not None))
 
 
 class Statuses(Case):

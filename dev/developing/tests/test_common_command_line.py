@@ -10,7 +10,6 @@ import os
 import random
 import shlex
 import shutil
-import socket
 import subprocess
 import sys
 import time
@@ -153,8 +152,7 @@ class CommandLine(Case):
         os.mkdir(self.path("folder"))
         os.mkfifo(self.path("pipe"))
         os.symlink("file", self.path("link"))
-        with socket.socket(socket.AF_UNIX) as result:
-            result.bind(self.path("socket"))
+        self.make_socket("socket")
         for name, kind in (("folder", "a folder"), ("pipe", "a pipe"), ("socket", "a socket"),
                            ("/dev/zero", "a device")):
             for may_be_pipe in (False, True)[:1 + (name != "pipe")]:

@@ -9,9 +9,14 @@ import struct
 import unittest
 from typing import Iterator
 
+from subtitles.air.main import make_judge_parser, make_record_parser
+from subtitles.air.state import PAGE_SILENCE, SILENCE, Monitor
 from subtitles.common.command_line import Stop
 from subtitles.common.program import TOP, read
-from subtitles.judging.status import Severity
+from subtitles.common.times import FRAMES_OF_A_DAY, TICKS
+from subtitles.formats.listing import LOST_PACKETS
+from subtitles.judging.status import NOT_JUDGED, STATUSES, Severity
+from subtitles.results.schema import FORMAT
 from .. import pages
 from ..definitions import Library
 from ..looks import find_browser
@@ -301,6 +306,56 @@ HELD = [
 # An implementation of Drop, possibly over several lines, or an import of Drop under another name.
 DROP = re.compile(r"\bimpl\b[^{};]*\bDrop\s+for\b|\bDrop\s+as\b")
 COMMENT = re.compile(r"//[^\n]*|/\*.*?\*/", re.DOTALL)
+
+
+# Values of the tools that documents state: the document, its words, and the value at {}.
+RECORDER, JUDGE = make_record_parser(), make_judge_parser()
+STATED: list[tuple[str, str, object]] = [
+    ("MANUAL.md", "{:,} ticks (one day)", FRAMES_OF_A_DAY * TICKS),
+    ("manual/results.md", "The format number is {}.", FORMAT),
+    ("manual/many-pairs.md", "exit status {} is a `failure`", " or ".join(
+        f"{status}" for status in sorted({*STATUSES.values()} - {0, STATUSES[NOT_JUDGED]}))),
+    ("manual/qc.md", "means all remaining faults except {}:", LOST_PACKETS),
+    ("manual/air.md", "segment files of {} seconds", RECORDER.get_default("length")),
+    ("manual/air.md", "up to {} seconds (`--margin`)", JUDGE.get_default("margin")),
+    ("manual/air.md", "more than {} seconds (`--pause`)", JUDGE.get_default("pause")),
+    ("manual/air.md", "`OUT/state.json` every {} seconds", JUDGE.get_default("every_seconds")),
+    ("manual/air.md", "`silence` after {:.0f} seconds", SILENCE),
+    ("manual/air.md", "`page 888` after {:.0f} minutes", PAGE_SILENCE / 60)]
+OPTION_NAME = re.compile(r"(?<![\w-])--[a-z][a-z-]*")
+# Options of other programs that the documents mention.
+OTHER_OPTIONS = {*"--forked --now --sshloginfile --workdir --joblog --resume-failed --array".split()}
+
+
+class StatedFacts(Case):
+    def test_documents_state_the_values_of_the_tools(self) -> None:
+        for name, words, value in STATED:
+            text = " ".join(read_document(f"docs/{name}").split())
+            self.check(f"docs/{name} states: {words.format(value)}", words.format(value) in text, True)
+
+    def test_the_verdict_table_has_each_status(self) -> None:
+        rows = re.findall(r"^\| `([a-z ]+)` \|.*\| (\d)[^|]*\|$",
+                          read_document("docs/manual/qc.md"), re.M)
+        self.check("rows", {word: int(status) for word, status in rows}, STATUSES)
+
+    def test_the_chapter_names_each_alarm(self) -> None:
+        monitor = Monitor()
+        monitor.now, monitor.free, monitor.headers = 1e9, [0], {(0, 0x88): 0.0}
+        monitor.late, monitor.schedule_faults = ["one"], ["line 1"]
+        listed = read_document("docs/manual/air.md").partition("- `alarms`: ")[2].partition("\n- ")[0]
+        self.check("alarms", sorted(re.findall("`([a-z][a-z 8]*)`", listed)),
+                   sorted(monitor.alarms()))
+
+    def test_each_mentioned_option_exists(self) -> None:
+        forms = ("tools/*", "dev/*", "bench/*", "tools/subtitles/*/*.py", "crates/*/src/*.rt")
+        known = {*OTHER_OPTIONS}
+        for path in (path for form in forms for path in glob.glob(os.path.join(TOP, form))):
+            known |= {*OPTION_NAME.findall(read(path) or "")} if os.path.isfile(path) else set()
+        known |= {f"--no-{name[2:]}" for name in known}
+        for path, text in list_document_texts():
+            if not path.endswith("CHANGELOG.md"):
+                quoted = "\n".join(CODE.findall(BLOCK.sub("", text)))
+                self.check(os.path.relpath(path, TOP), {*OPTION_NAME.findall(quoted)} - known, set())
 
 
 class Examples(Case):

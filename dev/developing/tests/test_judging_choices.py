@@ -1,6 +1,8 @@
 """Test the values that qc chooses by itself, and the options that --measure proposes."""
 from __future__ import annotations
 
+import contextlib
+import io
 import itertools
 import json
 import os
@@ -424,7 +426,9 @@ class Profiles(Case):
             self.must(printed, process.status == 2 and not process.out
                       and len(process.told) == 1 and printed in process.told[0], process)
         known = read_options(make_parser(""), ["--measure", stl, pes], {}, {})
-        self.must("a call", measure(known, "tools/qc") == 0)
+        with contextlib.redirect_stdout(io.StringIO()) as out:
+            status = measure(known, "tools/qc")
+        self.check("a right call", (status, out.getvalue()[:5]), (0, "# qc "))
 
     def test_never_proposes_an_implausible_layout(self) -> None:
         for text, words in (

@@ -261,34 +261,37 @@ def call_in_process(name: str, words: Sequence[str]) -> CompletedCall:
     return CompletedCall(status, out.getvalue().encode(), errors.getvalue().splitlines())
 
 
-# Calls that must succeed. Each script has at least one, or stands in `LONG_CALLS`.
+# Calls that must end with status 0. Each script has at least one, or stands in `CALLED_ELSEWHERE`.
 VALID: dict[str, list[list[str]]] = {
     "air": [["judge", "--help"]], "dist": [["to"]], "edits": [["--applies"]],
     "graph": [["Good"], ["--clauses", "sub_check"]], "install": [["to"]],
-    "make-examples": [["."]], "pes2ts": [[PES, "0x101"]], "poke": [[STL], [STL, "-c", "1"]],
-    "program": [[]], "qc": [[STL, PES, "--origin", "0"], [STL]],
-    "read": [[PES]],
+    "make-examples": [["."]], "pes2ts": [[PES, "0x101"]], "poke": [[STL], [STL, "-c", "4"]],
+    "program": [[]], "qc": [[STL], [STL, PES, "--origin", "0"]], "read": [[PES]],
     "reading-list": [["Good"], ["--lowest-first", "Good"], ["check_all.reported"]],
     "sizes": [[]], "sources": [[]],
     "check-every-place": [["--count", "1", "--recordings", "1"]],
     "check-survey": [["--count", "1"]],
 }
-# Scripts whose calls need the toolchain, a browser or several minutes. The gate and the release
-# call them. make-pages writes into the repository, and another test compares what it makes.
-LONG_CALLS = {"prove", "slow-proofs", "release", "check-preview", "make-picture", "check-program",
-              "check-tools", "check-manual", "check-readme", "check-live", "faults", "plant",
-              "install-test-tools", "make-pages"}
+# Scripts whose valid calls are in the gate, in another test, or need the toolchain.
+CALLED_ELSEWHERE = {
+    "tools/check-program": ["check-live", "check-manual", "check-preview", "check-readme",
+                            "check-tools", "faults"],
+    ".ci/run": ["check-program"], "test_dev_clones": ["release"],
+    "test_dev_documents": ["make-pages", "make-picture"],
+    "the toolchain": ["prove", "slow-proofs"], "by hand": ["plant", "install-test-tools"]}
 
 
 class ValidArguments(Case):
-    def test_each_script_accepts_a_valid_call(self) -> None:
-        self.check("scripts", sorted([*VALID, *LONG_CALLS]), list_tool_names())
+    def test_each_script_has_a_valid_call(self) -> None:
+        self.check("scripts", sorted([*VALID, *itertools.chain(*CALLED_ELSEWHERE.values())]),
+                   list_tool_names())
+
+    def test_a_valid_call_ends_with_status_0(self) -> None:
         for name, calls in VALID.items():
             for words in calls:
-                process = self.call([get_tool_path(name), *words])
-                self.must(f"{name} {' '.join(words)}",
-                          process.status == 0 and "internal error" not in "\n".join(process.told),
-                          process)
+                process = self.tool(name, *words)
+                self.check(f"{name} {' '.join(words)}", (process.status, [
+                    line for line in process.told if "internal error" in line]), (0, []))
 
     def test_scripts_read_only_arguments_that_they_define(self) -> None:
         shared_options = read(command_line.__file__) or ""
@@ -311,6 +314,7 @@ class WrongArguments(Case):
                 before = sorted(os.listdir(self.folder))
                 process = call_in_process(name, words) if is_python(get_tool_path(name)) else \
                     self.tool(name, *words)
+                self.check_no_internal_error(process.told)
                 self.must(f"{name} {' '.join(words)}", process.status == 2 and not process.out
                           and len(process.told) == 1 and process.told[0].startswith(name + ": ")
                           and sorted(os.listdir(self.folder)) == before, process)
