@@ -11,8 +11,7 @@ parts              answers, parts, requests and other values used by the tools
 results            JSON results, and a validator of their schema
 programmes         subtitle files and transmissions of whole programmes
 air                segments and schedules for the tests of tools/air
-scenario           random pairs made from seeds; wide_scenario adds more faults and options
-random_calls       random and named runs of qc; random_folders runs it on folders of pairs
+named_calls        named runs of qc
 snapshots          stored outputs in dev/snapshots/
 planted            programmes with one planted fault
 table              maps modules of the tools to their tests

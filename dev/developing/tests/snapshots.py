@@ -1,10 +1,9 @@
 """Store the output of chosen runs of qc as text, and compare later output with it.
 
-dev/snapshots/GROUP.txt has the arguments, status and printed lines of each run, and the lines of
-its output files that were not printed. The runs are named by the seeds and names in `random_calls`,
-`random_folders` and `test_report_random`. They cover all branches of the tools that 900 random runs
-cover. `dev/check-tools --update test_snapshots` writes the files again, and `git diff` then shows
-how a change affects the user.
+dev/snapshots/named.txt has the arguments, status and printed lines of each run in `named_calls`,
+and the lines of its output files that were not printed. reports.txt has the text of reports of the
+random pairs in `test_report_random`. `dev/check-tools --update test_snapshots` writes the files
+again, and `git diff` then shows how a change affects the user.
 """
 from __future__ import annotations
 
@@ -18,13 +17,12 @@ import tempfile
 from typing import Any, Callable, Iterable, Iterator, NamedTuple
 
 from subtitles.common.program import TOP
-from . import random_calls, random_folders, test_report_random as reports
+from . import named_calls, test_report_random as reports
 from .bench import BENCH
 
 FOLDER = os.path.join(TOP, "dev", "snapshots")
 HEAD, TAIL = 16, 4  # number of lines stored from the start and end of a long list
 REPORT_LINES = 60  # number of lines stored from the start of a report
-FOLDER_LINES = 6  # number of lines stored from the start of each file if a run has many pairs
 MAX_CHANGES = 12  # maximum number of different changes in a failure message
 WIDTH = 300  # maximum number of characters stored from a line
 OMITTED = re.compile(r"date$|seconds$|^files_at_start\.|^inputs\.|^commands\b|^omitted\.|^format$")
@@ -58,32 +56,32 @@ def members(value: Any, path: str = "") -> Iterator[str]:
         yield f"{path} = {json.dumps(value, ensure_ascii=False)}"
 
 
-def format_json_snapshot(text: str, printed: str, head: int) -> list[str]:
+def format_json_snapshot(text: str, printed: str) -> list[str]:
     """Return a line for each JSON value that is not in `printed`, and the hash of the text."""
     result = json.loads(text.replace(" SECONDS,", ' "seconds": 0,'))  # by `replace_volatile_text`
     lines = [line for line in members(result) if "=" not in line
              or line.partition(" = ")[2].strip('"') not in printed]
-    return [*shorten_lines(lines, head), f"whole: {compute_short_hash(text)}"]
+    return [*shorten_lines(lines), f"whole: {compute_short_hash(text)}"]
 
 
-def page_text(text: str, head: int = REPORT_LINES) -> list[str]:
+def page_text(text: str) -> list[str]:
     """Return the text of an HTML page, one line for each element, and the hash of the page."""
     text_only = re.sub(r'<style.*?</style>|<[^<>]*?(?: aria-label="([^"]*)")?[^<>]*>',
                        lambda tag: f"\n[{tag[1]}]\n" if tag[1] else "\n", text, flags=re.DOTALL)
     lines = [" ".join(html.unescape(line).split()) for line in text_only.splitlines()
              if line.strip()]
-    return [*shorten_lines(lines, head), f"markup: {compute_short_hash(text)}"]
+    return [*shorten_lines(lines, REPORT_LINES), f"markup: {compute_short_hash(text)}"]
 
 
-def format_file_snapshot(name: str, text: str, printed: str, head: int) -> list[str]:
+def format_file_snapshot(name: str, text: str, printed: str) -> list[str]:
     if name.endswith(".json") and text.startswith("{"):
-        return format_json_snapshot(text, printed, head)
+        return format_json_snapshot(text, printed)
     if name.endswith(".html") and text.startswith("<"):
-        return page_text(text, REPORT_LINES if head == HEAD else head)
-    return shorten_lines(text.splitlines(), head)
+        return page_text(text)
+    return shorten_lines(text.splitlines())
 
 
-def format_call_output(output: random_calls.CallOutput, head: int = HEAD) -> list[str]:
+def format_call_output(output: named_calls.CallOutput) -> list[str]:
     printed = "\n".join(output.lines)
     lines = [f"$ qc {' '.join(output.words)}", f"status {output.status}",
              *shorten_lines(output.lines)]
@@ -91,33 +89,26 @@ def format_call_output(output: random_calls.CallOutput, head: int = HEAD) -> lis
     for name, text in output.files.items():
         if text and text not in before:
             before[text] = name
-            lines += [f"--- {name}", *format_file_snapshot(name, text, printed, head)]
+            lines += [f"--- {name}", *format_file_snapshot(name, text, printed)]
         elif text:
             lines.append(f"--- {name} is {before[text]}")
     return lines
-
-
-def format_folder_snapshot(number: int) -> list[str]:
-    return [line for printed in random_folders.run_calls_in_folder(number, BENCH.program)
-            for line in format_call_output(printed, FOLDER_LINES)]
 
 
 def report_text(number: int) -> list[str]:
     """Return the lines stored for a random pair: its verdict and the text of its report."""
     with tempfile.TemporaryDirectory() as folder:
         result, page = reports.make_report_of_pair(number, folder)
-    page = random_calls.replace_volatile_text(page, BENCH.program).replace(folder, "FOLDER")
+    page = named_calls.replace_volatile_text(page, BENCH.program).replace(folder, "FOLDER")
     return [result.verdict.word, *page_text(page)]
 
 
 def run_for_snapshot(name: str) -> list[str]:
-    """Return the lines to store for a run of qc such as `call 17`, `named a list`, `report 3`."""
+    """Return the lines to store for a run of qc such as `named a list` or `report 3`."""
     kind, _, rest = name.partition(" ")
-    if kind == "call":
-        return format_call_output(random_calls.run_random_call(int(rest), BENCH.program))
     if kind == "named":
-        return format_call_output(random_calls.run_named_call(rest, BENCH.program))
-    return format_folder_snapshot(int(rest)) if kind == "many" else report_text(int(rest))
+        return format_call_output(named_calls.run_named_call(rest, BENCH.program))
+    return report_text(int(rest))
 
 
 def get_snapshot_path(group: str) -> str:

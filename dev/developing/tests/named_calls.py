@@ -1,7 +1,6 @@
-"""Run qc with random or named arguments, and return its complete output.
+"""Run qc with the arguments in `NAMED`, and return its complete output.
 
-Part of this output is stored in dev/snapshots/ (see `snapshots`). From dev/, `python3 -m
-developing.tests.random_calls ../dist/subttx SEED` prints the output for one seed.
+Part of this output is stored in dev/snapshots/named.txt (see `snapshots`).
 """
 from __future__ import annotations
 
@@ -14,7 +13,7 @@ import re
 import shutil
 import sys
 import tempfile
-from typing import Any, Callable, Iterator, NamedTuple, Sequence
+from typing import Any, Iterator, NamedTuple
 from unittest import mock
 
 from subtitles.cli.main import main
@@ -24,11 +23,8 @@ from subtitles.judging import faults, subtitles
 from subtitles.report import page as report
 from .bench import get_example_path
 from .parts import MEANINGS
-from .results import schema, list_all_violations, list_choice_errors, list_violations
-from .scenario import Scenario
-from .wide_scenario import WiderScenario
+from .results import list_all_violations, list_choice_errors
 
-WIDER = 240  # first seed that makes a `WiderScenario` pair
 VOLATILE_PATTERNS = [(re.compile(r"\d{4}-\d\d-\d\d[T ]\d\d:\d\d:\d\d(\.\d+)?"), "DATE"),
                      (re.compile('<dl class="made">.*?</dl>|PROGRAM</td><td.*?</tr>'), "MADE"),
                      (re.compile(r"subttx-qc-\w+"), "FOLDER"),
@@ -39,13 +35,12 @@ FILES = ("one.json", "one.csv", "one.xml", "out/one.html", "out/one.txt", "out/o
 
 
 class CallOutput(NamedTuple):
-    """The output of a run of qc: arguments, status, printed lines, files and JSON result."""
+    """The output of a run of qc: arguments, status, printed lines and files."""
 
     words: list[str]
     status: int
     lines: list[str]
     files: dict[str, str]
-    result: str
 
 
 def call_in_same_process(entry: Any, words: list[str]) -> tuple[int, str, str]:
@@ -75,25 +70,7 @@ def replace_volatile_text(text: str, program: str) -> str:
     return text
 
 
-def run_random_call(number: int, program: str) -> CallOutput:
-    with use_temporary_folder():
-        scenario = (Scenario if number < WIDER else WiderScenario)(number, program)
-        words = scenario.call()
-        printed = run_call(words, program, wrong=list_schema_violations)
-        # A second run needs a recording that is not a pipe.
-        if number >= WIDER and number % 3 == 0 and not scenario.is_feed:
-            printed.files["measured"] = replace_volatile_text(measure_pair(words[1], program),
-                                                              program)
-        return printed
-
-
-def measure_pair(recording: str, program: str) -> str:
-    words = ["tools/qc", "--measure", "one.stl", recording, "-p", program]
-    status, out, reported = call_in_same_process(lambda line: main("", "tools/qc", line), words)
-    return f"measured {status}\n{out}{reported}"
-
-
-# The random pairs in the folder `in`: name, subtitle file and recording.
+# The pairs in the folder `in`: name, subtitle file and recording.
 PAIRS = [("a", "hello", "hello.pes"), ("b", "story", "five-faults.pes"),
          ("c", "accent", "hello.pes"), ("d", "hello", "recording.ts")]
 TEXTS = {"house": "--every 25\n--within 1 # frame\n", "wrong": "--every 25\n--every 50\n",
@@ -147,12 +124,7 @@ def use_temporary_folder() -> Iterator[None]:
             os.chdir(back)
 
 
-def list_schema_violations(known: Any) -> list[str]:
-    return [*list_violations(known, schema())]
-
-
-def run_call(words: list[str], program: str, more: Sequence[str] = ("-p", "PROGRAM"),
-             wrong: Callable[[Any], list[str]] = list_all_violations) -> CallOutput:
+def run_call(words: list[str], program: str) -> CallOutput:
     """Run qc. Return its output, with fixed texts instead of dates and fault explanations."""
     others: list[tuple[Any, str, object]] = [
         *((module, "read_meanings", lambda: MEANINGS) for module in (subtitles, faults, report))]
@@ -160,13 +132,13 @@ def run_call(words: list[str], program: str, more: Sequence[str] = ("-p", "PROGR
         for module, name, other in others:
             stack.enter_context(mock.patch.object(module, name, other))
         status, out, reported = call_in_same_process(lambda line: main("", "tools/qc", line), [
-            "tools/qc", *words, *(program if item == "PROGRAM" else item for item in more)])
+            "tools/qc", *words, "-p", program])
     files = {}
     for name in filter(os.path.exists, FILES):
         with open(name, encoding="utf-8") as file:
             files[name] = file.read()
     for text in {text for name, text in files.items() if name.endswith(".json")}:
-        misfits = wrong(json.loads(text))
+        misfits = list_all_violations(json.loads(text))
         assert not misfits, (words, misfits)
     known = json.loads(files.get("one.json", "{}"))
     unsaid = [*list_choice_errors(known, (out + reported).splitlines())] if "choices" in known \
@@ -175,11 +147,4 @@ def run_call(words: list[str], program: str, more: Sequence[str] = ("-p", "PROGR
     return CallOutput(words, status,
                       [replace_volatile_text(line, program)
                        for line in (out + reported).splitlines()],
-                      {name: replace_volatile_text(text, program) for name, text in files.items()},
-                      files.get("one.json", ""))
-
-
-if __name__ == "__main__":
-    PROGRAM, NUMBER = sys.argv[1:]
-    CALL_OUTPUT = run_random_call(int(NUMBER), os.path.realpath(PROGRAM))
-    print("\n".join([*CALL_OUTPUT.words, *CALL_OUTPUT.lines, *CALL_OUTPUT.files.values()]))
+                      {name: replace_volatile_text(text, program) for name, text in files.items()})
