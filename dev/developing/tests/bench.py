@@ -155,7 +155,8 @@ class Case(unittest.TestCase):
 
     def check_no_internal_error(self, told: Sequence[str]) -> None:
         """Check that no bug ended a tool. Its status would be that of a wrong argument."""
-        self.check("internal errors", [line for line in told if INTERNAL_ERROR in line], [])
+        if wrong := [line for line in told if INTERNAL_ERROR in line]:
+            self.check("internal errors", wrong, [])
 
     def tool(self, name: str, *args: str, data: bytes | None = None) -> CompletedCall:
         return self.call([get_tool_path(name), *args], data)

@@ -10,7 +10,8 @@ import sys
 from types import FrameType
 from typing import Iterator
 
-HELPERS = ("bench.py", "failures.py", "snapshots.py")  # files skipped in the search for the caller
+# Files that are skipped in the search for the caller.
+HELPERS = ("bench.py", "failures.py", "snapshots.py", "stories.py")
 MAX_LINES_PRINTED = 60  # maximum number of printed lines
 MAX_TEXT_PRINTED = 600  # maximum number of printed characters of a value in a comparison
 WIDTH = 96

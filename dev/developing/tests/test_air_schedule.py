@@ -98,7 +98,8 @@ class Lines(AirCase):
         self.check("judged", [(programme.name, programme.request.within)
                               for programme in schedule.programmes], [("20261201T080000Z-a", 1)])
         self.check("reported", [*schedule.faults], [
-            "line 2 is not judged: its result would be named 20261201T080000Z-a, as that of line 1"])
+            "line 2 is not judged: its result would be named 20261201T080000Z-a, as that of line 1"
+        ])
 
     def test_finds_files_in_the_folder_of_the_schedule(self) -> None:
         self.write_schedule("2026-12-01T08:00:00Z a.stl")

@@ -125,7 +125,8 @@ class Testcases(unittest.TestCase):
                 "2026T10:00Z"))[0]
             words = {"message": "a\\ufffe\nline", "type": verdict} if status else {}
             with self.subTest(verdict=verdict, status=status):
-                self.assertEqual((suite.get("timestamp"), suite.get("skipped")), ("2026T10:00", "0"))
+                self.assertEqual((suite.get("timestamp"), suite.get("skipped")),
+                                 ("2026T10:00", "0"))
                 self.assertEqual(suite[0].attrib, {"classname": "subttx", "name": "a\\x1bb",
                                                    "time": "1.250"})
                 self.assertEqual([(item.tag, item.text, item.attrib) for item in suite[0]], [

@@ -93,22 +93,6 @@ FIVE_WORDS = ("--origin", "0", "--every", "25")
 
 
 class PipedRecordings(Case):
-    def test_judges_a_pipe_as_a_file(self) -> None:
-        for name, data in (("one.pes", read_example_file("five-faults.pes")),
-                           ("one.ts", stream(self, "five", read_example_file("five-faults.pes"))),
-                           ("cut.ts",
-                            stream(self, "five", read_example_file("five-faults.pes"))[:-99]),
-                           ("empty.pes", b"")):
-            of_file = qc(self, STORY, self.write(name, data), *FIVE_WORDS, "--json", "file.json")
-            piped_in = qc(self, STORY, "-", *FIVE_WORDS, "--json", "pipe.json", data=data)
-            self.must(name, of_file.status == piped_in.status and len(of_file.told) ==
-                      len(piped_in.told), (of_file, piped_in))
-            item, other = (json.loads(self.read(f"{kind}.json")) for kind in ("file", "pipe"))
-            for member in ("verdict", "line", "faults", "causes", "trusted_frames", "losses",
-                           "notes"):
-                self.must(f"{name}: {member}", item[member] == other[member],
-                          (item[member], other[member]))
-
     def test_refuses_devices_and_limits_pipes(self) -> None:
         process = self.tool("qc", STORY, "/dev/zero", "-p", self.bench.program)
         self.must("a device", process.status == 2 and process.told[-1] ==

@@ -11,6 +11,7 @@ from typing import Iterator
 
 from subtitles.air.main import make_judge_parser, make_record_parser
 from subtitles.air.state import PAGE_SILENCE, SILENCE, Monitor
+from subtitles.cli.main import make_parser
 from subtitles.common.command_line import Stop
 from subtitles.common.program import TOP, read
 from subtitles.common.times import FRAMES_OF_A_DAY, TICKS
@@ -320,18 +321,21 @@ STATED: list[tuple[str, str, object]] = [
     ("manual/air.md", "up to {} seconds (`--margin`)", JUDGE.get_default("margin")),
     ("manual/air.md", "more than {} seconds (`--pause`)", JUDGE.get_default("pause")),
     ("manual/air.md", "`OUT/state.json` every {} seconds", JUDGE.get_default("every_seconds")),
-    ("manual/air.md", "`silence` after {:.0f} seconds", SILENCE),
-    ("manual/air.md", "`page 888` after {:.0f} minutes", PAGE_SILENCE / 60)]
+    ("manual/air.md", "`silence`: no byte for {:.0f} seconds", SILENCE),
+    ("manual/air.md", "`page 888`: no header of a page in the schedule for {:.0f} minutes",
+     PAGE_SILENCE / 60)]
 OPTION_NAME = re.compile(r"(?<![\w-])--[a-z][a-z-]*")
 # Options of other programs that the documents mention.
-OTHER_OPTIONS = {*"--forked --now --sshloginfile --workdir --joblog --resume-failed --array".split()}
+OTHER_OPTIONS = {"--forked", "--now", "--sshloginfile", "--workdir", "--joblog", "--resume-failed",
+                 "--array", "--system"}
 
 
 class StatedFacts(Case):
     def test_documents_state_the_values_of_the_tools(self) -> None:
         for name, words, value in STATED:
             text = " ".join(read_document(f"docs/{name}").split())
-            self.check(f"docs/{name} states: {words.format(value)}", words.format(value) in text, True)
+            stated = words.format(value)
+            self.check(f"docs/{name} states: {stated}", stated in text, True)
 
     def test_the_verdict_table_has_each_status(self) -> None:
         rows = re.findall(r"^\| `([a-z ]+)` \|.*\| (\d)[^|]*\|$",
@@ -341,9 +345,10 @@ class StatedFacts(Case):
     def test_the_chapter_names_each_alarm(self) -> None:
         monitor = Monitor()
         monitor.now, monitor.free, monitor.headers = 1e9, [0], {(0, 0x88): 0.0}
-        monitor.late, monitor.schedule_faults = ["one"], ["line 1"]
-        listed = read_document("docs/manual/air.md").partition("- `alarms`: ")[2].partition("\n- ")[0]
-        self.check("alarms", sorted(re.findall("`([a-z][a-z 8]*)`", listed)),
+        monitor.late, monitor.schedule_faults, monitor.is_clock_wrong = ["one"], ["line 1"], True
+        chapter = read_document("docs/manual/air.md")
+        item = chapter.partition("- `alarms`, ")[2].partition("\n- ")[0]
+        self.check("alarms", sorted(re.findall("^  - `([a-z][a-z 8]*)`:", item, re.M)),
                    sorted(monitor.alarms()))
 
     def test_each_mentioned_option_exists(self) -> None:
@@ -351,11 +356,13 @@ class StatedFacts(Case):
         known = {*OTHER_OPTIONS}
         for path in (path for form in forms for path in glob.glob(os.path.join(TOP, form))):
             known |= {*OPTION_NAME.findall(read(path) or "")} if os.path.isfile(path) else set()
-        known |= {f"--no-{name[2:]}" for name in known}
+        known |= {name for parser in (make_parser(""), RECORDER, JUDGE)
+                  for action in parser._actions for name in action.option_strings}
         for path, text in list_document_texts():
             if not path.endswith("CHANGELOG.md"):
                 quoted = "\n".join(CODE.findall(BLOCK.sub("", text)))
-                self.check(os.path.relpath(path, TOP), {*OPTION_NAME.findall(quoted)} - known, set())
+                unknown = {*OPTION_NAME.findall(quoted)} - known
+                self.check(os.path.relpath(path, TOP), unknown, set())
 
 
 class Examples(Case):

@@ -16,11 +16,14 @@ from subtitles.clock.origin import OriginEstimate
 from subtitles.clock.start import Clock, RECORDING, START, TimedPart
 from subtitles.common.times import FrameRange, Span, TICKS
 from subtitles.formats.stl import Subtitle, SubtitleFile
+from subtitles.judging import pair
+from subtitles.judging.pair import PairJudge
 from subtitles.judging.part import choose_parts, refuse_missing_subtitles
 from subtitles.judging.timing import add_delay, make_unclear_origin
 from subtitles.judging.verdict import measure_delay
 from subtitles.recording.notices import (
     find_character_set_notices, find_count_notices, find_page_notices)
+from subtitles.request.commands import OutputNames
 from subtitles.request.lines import find_folder_pairs, make_line_request
 from subtitles.request.request import Unclear
 from subtitles.results.files import find_hint
@@ -409,3 +412,13 @@ class SubtitlesInParts(Case):
         for item in (self.FOUND, self.FOUND._replace(begin=5, end=7)):
             self.must("a single one", choose_parts([item], whole) == [
                 whole._replace(clock=item.clock, packets=(3, 5))])
+
+    def test_parts_that_lack_a_subtitle_are_refused_before_they_are_judged(self) -> None:
+        item = PairJudge(mock.Mock(request=make_example_request("one.stl", "one.pes")), mock.Mock(),
+                         OutputNames("one", self.folder, None), mock.Mock(), False)
+        parts = [self.FOUND._replace(begin=at, end=at + 9) for at in (10, 20, 30)]
+        for count in (1, 2, 3):
+            with mock.patch.object(pair, "choose_parts", return_value=parts[:count]), \
+                    mock.patch.object(pair, "refuse_missing_subtitles") as refuse:
+                item.make_parts(mock.Mock(), parts, mock.Mock(), [])
+            self.check(f"{count} parts", refuse.called, count > 1)

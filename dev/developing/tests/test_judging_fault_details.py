@@ -53,39 +53,50 @@ class FaultDetails(Case):
         result.names.program_stl = stl
         return result
 
-    def test_lists_the_faults_of_each_part_in_order(self) -> None:
+    def list_results(self, kinds: str) -> list[dict[str, Any]]:
+        """Return the faults of a recording with a part for each letter in `kinds`."""
         stl = write_programme(self, [(25 * at, 25 * at + 20) for at in range(1, 7)])
         severity = Severity(self.write("severity", b"others warning\nnot shown error\n63 error\n"))
-        for kinds in itertools.chain(*(itertools.product("ars", repeat=count) for count in range(
-                1, 4))):
-            verdict = make_part_verdict([self.part(kind, number, stl)
-                                         for number, kind in enumerate(kinds, 1)], severity)
-            verdict.request = make_example_request("one.stl", "one.pes", "--option", "german")
-            last = len(kinds)
-            verdict.named_faults = [NamedFault("never sent", "a", f"00:00:0{last}:07",
-                                               "00:00:09:00",
-                                               part=last), NamedFault("not shown", "b", block=2)]
-            expected: list[tuple[Any, ...]] = [
-                (last, None, "warning", last, "00:00:09:00", None, None),
-                (1, None, "error", 2, None, None, None)]
-            for number, kind in enumerate(kinds, 1):
-                some: dict[str, list[tuple[Any, ...]]] = {"a": [], "s": [
-                    (number, 50, "warning", number, None, None, None)], "r": [
-                    (number, 63, "error", number, None, None, number + 1),
-                    (number, 33, "warning", None, None, 3, None),
-                    (number, 72, "warning", number, f"00:00:0{number}:03", None, number),
-                    (number, 72, "warning", number, None, None, number),
-                    (number, 74, "warning", number, None, None, number + 2)]}
-                expected += some[kind]
-            result = [(fault["part"], fault["number"], fault["severity"],
-                       fault["subtitle"] and fault["subtitle"]["position"], fault["last_time"],
-                       fault["last_pes"], fault["cause"] and fault["cause"]["subtitle"]["position"])
-                      for fault in make_faults(verdict)]
-            self.assertEqual(result, expected, kinds)
-            self.assertLessEqual({fault["cause"]["expected_text"] for fault in make_faults(verdict)
-                                  if fault["cause"]}, {"\u00c4"}, kinds)
-        self.assertEqual([fault["line"] for fault in make_faults(verdict)][:2], [
+        verdict = make_part_verdict([self.part(kind, number, stl)
+                                     for number, kind in enumerate(kinds, 1)], severity)
+        verdict.request = make_example_request("one.stl", "one.pes", "--option", "german")
+        verdict.named_faults = [NamedFault("never sent", "a", "00:00:03:07", "00:00:09:00", part=3),
+                                NamedFault("not shown", "b", block=2)]
+        return [*make_faults(verdict)]
+
+    def list_faults(self, kinds: str) -> list[str]:
+        """Return a line with the members of each fault that `NAMED` and the others below list."""
+        def shown(value: Any) -> str:
+            return "-" if value is None else f"{value}"
+
+        return [" ".join(map(shown, (
+            fault["part"], fault["number"], fault["severity"],
+            fault["subtitle"] and fault["subtitle"]["position"], fault["last_time"],
+            fault["last_pes"], fault["cause"] and fault["cause"]["subtitle"]["position"])))
+                for fault in self.list_results(kinds)]
+
+    # Part, number, severity, subtitle, last frame, last PES packet, and subtitle of the cause.
+    NAMED = ["3 - warning 3 00:00:09:00 - -", "1 - error 2 - - -"]
+    FIRST = ["1 63 error 1 - - 2", "1 33 warning - - 3 -", "1 72 warning 1 00:00:01:03 - 1",
+             "1 72 warning 1 - - 1", "1 74 warning 1 - - 3"]
+    THIRD = ["3 63 error 3 - - 4", "3 33 warning - - 3 -", "3 72 warning 3 00:00:03:03 - 3",
+             "3 72 warning 3 - - 3", "3 74 warning 3 - - 5"]
+
+    def test_lists_faults_without_a_number_first_then_those_of_each_part(self) -> None:
+        self.check("three refused", self.list_faults("rsr"), [
+            *self.NAMED, *self.FIRST, "2 50 warning 2 - - -", *self.THIRD])
+
+    def test_lists_no_fault_of_an_accepted_part(self) -> None:
+        self.check("the second", self.list_faults("rar"), [*self.NAMED, *self.FIRST, *self.THIRD])
+        self.check("all", self.list_faults("aaa"), self.NAMED)
+
+    def test_gives_the_line_of_a_fault_without_a_number(self) -> None:
+        self.check("lines", [fault["line"] for fault in self.list_results("aaa")], [
             "refused never sent frame 00:00:03:07", "refused not shown block 2"])
+
+    def test_gives_the_expected_text_of_a_cause_in_the_national_option(self) -> None:
+        self.check("texts", {fault["cause"]["expected_text"] for fault in self.list_results("rsr")
+                             if fault["cause"]}, {"\u00c4"})
 
     def test_describes_the_case_instead_of_the_number(self) -> None:
         night = 2_159_990

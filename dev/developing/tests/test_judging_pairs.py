@@ -1,27 +1,17 @@
 """Test verdicts on pairs with unreadable packets or losses, and the sentences about them."""
 from __future__ import annotations
 
-from typing import Any, Sequence
-from unittest import mock
-
 from developing.pes import (
     DATA, GAP_MARKER, UNIT, decode_pts, encode_pts, make_pes_packet, reverse_bits)
-from subtitles.clock.start import Clock, GIVEN, TimedPart
-from subtitles.common.times import ALL_DAY, CLOCK, FrameRange, TICKS, format_frame
-from subtitles.formats.listing import NamedFault, NEVER_SENT, NOT_SHOWN
-from subtitles.judging import pair
-from subtitles.judging.pair import PairJudge
-from subtitles.recording.notices import NeverSent
-from subtitles.request.commands import CommandPaths, OutputNames
-from .bench import Case, get_example_path, read_example_file
+from subtitles.common.times import CLOCK, TICKS, format_frame
+from .bench import get_example_path, read_example_file
 from .judged import FEW, ProgrammeCase, judge_files
-from .parts import make_example_request, make_part
 from .results import check_schema
+from .stories import StoryCase
 from .transmissions import (
-    ORIGIN, SentPes, join_pes_packets, delay_subtitle, packets, write_programme, make_random_stl,
+    ORIGIN, join_pes_packets, delay_subtitle, packets, write_programme, make_random_stl,
     write_subtitle_file,
     subtitle_times)
-from .test_judging_verdicts import make_part_verdict
 
 STORY, HELLO = get_example_path("story.stl"), get_example_path("hello.stl")
 ACCENT = get_example_path("accent.stl")
@@ -120,93 +110,45 @@ class UnreadablePackets(ProgrammeCase):
                       (UNREAD if is_unread else None), judged_pair.result)
 
 
-class PtsSteps(Case):
-    def pair(self, *args: str, count: int = 0) -> PairJudge:
-        verdict, nothing = make_part_verdict([make_part(0, 9, 0, number=number)
-                                              for number in range(1, count + 1)]), mock.Mock()
-        verdict.request = make_example_request("one.stl", "one.pes", *args)
-        return PairJudge(verdict, CommandPaths("tools/qc", self.bench.program), OutputNames(
-            "one", self.folder, None), nothing, False)
+# What was sent, with options of qc, and the sentence about it.
+SENTENCES = {
+    "2-20 late by 7": "Refused: 19 of 20 subtitles appeared 7 frames late (the first at "
+    "00:00:08:00, the last at 00:01:20:00).",
+    "4-7 late by 7": "Refused: 4 of 20 subtitles appeared 7 frames late (the first at "
+    "00:00:16:00, the last at 00:00:28:00).",
+    "3 late by 7": 'Refused: subtitle 3 (SN 52) at 00:00:12:00, "Number 52", appeared 7 frames '
+    'late.',
+    "3 late by 2": 'Refused: subtitle 3 (SN 52) at 00:00:12:00, "Number 52", appeared 2 frames '
+    'late.',
+    "as scheduled": "Accepted: all 20 subtitles have the right text from the first frame to the "
+    "last.",
+    "as scheduled --within 2": "Accepted: all 20 subtitles have the right text within 2 frames.",
+    "as scheduled --strict": "Not accepted: --strict treats warnings as faults (repeat); "
+    "everything that was received is right.",
+    "3 not repeated --every 49": "Refused: from 00:00:13:24 on, the page had no header for up to "
+    "50 frames (usually 25).",
+    "3 not repeated --every 49 --severity mild": "Waived, since these faults are declared as "
+    "warnings: from 00:00:13:24 on, the page had no header for up to 50 frames (usually 25).",
+    "as scheduled --every 20": "Refused: from 00:00:04:20 on, the page had no header for up to 25 "
+    "frames; 59 faults in all."}
 
-    def test_gives_each_part_its_subtitles_and_files(self) -> None:
-        result = [TimedPart(at, at + 9, Clock(0, GIVEN), None, FrameRange(at, at + 10))
-                  for at in (10, 20, 30)]
-        for count in (1, 2, 3):
-            item, recording, programme = self.pair("--every", "30"), mock.Mock(), mock.Mock()
-            with mock.patch.object(pair, "choose_parts", return_value=result[:count]), \
-                    mock.patch.object(pair, "refuse_missing_subtitles") as refuse:
-                new_parts = item.make_parts(recording, result, programme, [])
-            self.must(f"{count}: refused", refuse.call_args_list == [
-                mock.call(result[:count], [], "one.stl")] * (count > 1))
-            self.must(f"{count}", [(part.number, part.names.name, part.alignment, part.recording)
-                                   for part in new_parts] == [
-                (number, f"one.{number}" if count > 1 else "one", alignment, recording)
-                for number, alignment in enumerate(result[:count], 1)], new_parts)
-            self.must(f"{count}: subtitles", [(part.request.between, part.request.every)
-                                              for part in new_parts] == (
-                [(alignment.between, 30) for alignment in result[:count]] if count > 1
-                else [(ALL_DAY, 30)]), new_parts)
 
-    def test_requests_expected_pages_with_the_options_of_the_part(self) -> None:
-        of_part = make_example_request("one.stl", "one.pes",
-                                       *"--page 150 --option german --from 00:00:01:00 "
-                            "--to 00:00:02:00 --layout double".split())
-        with mock.patch.object(pair, "schedule_pages") as due:
-            self.pair().make_expected_pages(of_part, [])
-        due.assert_called_once_with(self.bench.program, "", [], (1, 0x50), "german",
-                                    FrameRange(25, 50), of_part.list_schedule_arguments())
+class ProgrammeSentences(StoryCase):
+    due, first = subtitle_times(20), 50
 
-    def test_adds_a_fault_for_a_page_never_sent(self) -> None:
-        hidden, never = NamedFault(NOT_SHOWN, "hidden"), NamedFault(NEVER_SENT, "never")
-        item, recording = self.pair(), mock.Mock()
-        recording.survey.lines.return_value = ["one", "two"]
-        item.verdict.named_faults, item.recording = [hidden], recording
-        with item.catch_missing_page():
-            raise NeverSent("never")
-        self.must("both", item.verdict.named_faults == [hidden, never] and
-                  item.verdict.recording is recording.file, item.verdict.named_faults)
-        listener: Any = item.listener
-        listener.print_line.assert_has_calls([mock.call("one"), mock.call("two")])
+    def test_says_what_is_wrong_with_the_programme(self) -> None:
+        mild = self.write("mild", b"73 warning\n")
+        for story, sentence in SENTENCES.items():
+            sent, *options = story.split(" --")
+            words = [word for option in options for word in f"--{option}".split()]
+            judged = self.tell(sent, "--origin", f"{ORIGIN}", *(
+                mild if word == "mild" else word for word in words))
+            self.check(f"{story}: result", judged.result["sentence"], sentence)
+            self.check(f"{story}: output", judged.said[-2][:len(sentence)], sentence)
 
 
 class Sentences(ProgrammeCase):
     due, first = subtitle_times(20), 50
-
-    def test_counts_late_subtitles(self) -> None:
-        def moved(places: Sequence[int], by: int = 7) -> SentPes:
-            sent = self.sent
-            for place in places:
-                sent = delay_subtitle(place, by)(sent)
-            return sent
-
-        missing = [item for item in self.sent if not 301 * TICKS <= item[0] < 350 * TICKS]
-        rows: list[tuple[SentPes, list[str], str]] = [
-            (moved(range(2, 21)), [], "Refused: 19 of 20 subtitles appeared 7 frames late (the "
-             "first at 00:00:08:00, the last at 00:01:20:00)."),
-            (moved(range(4, 8)), [], "Refused: 4 of 20 subtitles appeared 7 frames late (the "
-             "first at 00:00:16:00, the last at 00:00:28:00)."),
-            (moved([3]), [], 'Refused: subtitle 3 (SN 52) at 00:00:12:00, "Number 52", appeared 7 '
-             'frames late.'),
-            (moved([3], 2), [], 'Refused: subtitle 3 (SN 52) at 00:00:12:00, "Number 52", appeared '
-             '2 frames late.'),
-            (self.sent, [], "Accepted: all 20 subtitles have the right text from the first "
-             "frame to the last."),
-            (self.sent, ["--within", "2"], "Accepted: all 20 subtitles have the right text "
-             "within 2 frames."),
-            (self.sent, ["--strict"], "Not accepted: --strict treats warnings as faults "
-             "(repeat); everything that was received is right."),
-            (missing, ["--every", "49"],
-             "Refused: from 00:00:13:24 on, the page had no header for up "
-             "to 50 frames (usually 25)."),
-            (missing, ["--every", "49", "--severity", self.write("mild", b"73 warning\n")],
-             "Waived, since these faults are declared as warnings: from 00:00:13:24 on, the page "
-             "had no header for up to 50 frames (usually 25)."),
-            (self.sent, ["--every", "20"], "Refused: from 00:00:04:20 on, the page had no header "
-             "for up to 25 frames; 59 faults in all.")]
-        for sent, words, expected in rows:
-            judged_pair = self.judge(sent, *words)
-            self.must(expected, judged_pair.said[-2].startswith(expected) and
-                      judged_pair.result["sentence"] == expected, judged_pair.said)
 
     def test_names_a_subtitle_by_its_place_and_number(self) -> None:
         judged_pair = self.judge(delay_subtitle(3, 7)(self.sent))

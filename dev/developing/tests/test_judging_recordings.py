@@ -88,6 +88,10 @@ class Recordings(Case):
             self.must(f"{descriptor!r} {ahead}", [item["kind"] for item in warned] == kinds and
                       judged_pair.word == "accepted" and judged_pair.lines("! warning: ") ==
                       [item["line"] for item in warned], judged_pair.said)
+            self.check(f"{descriptor!r} {ahead}: lines", [item["line"] for item in warned
+                                                          if item["kind"] == "type"], [
+                'the PMT announces page 888 as "initial page", not as subtitles'] * (
+                    kinds == ["type"]))
             strict = judge_files(self, stl, path, "--origin", "0", "--strict")
             self.must(f"{descriptor!r} {ahead}: strict", strict.word == (
                 "warned" if kinds else "accepted") and (not kinds or strict.said[-1].startswith(
@@ -181,6 +185,8 @@ class Recordings(Case):
             ([other, self.path("own.pes")], "probably another programme's subtitle file", []),
             ([STORY, item, "--origin", "900000000"],
              "so the recording contains no subtitle at its expected time", []),
+            ([STORY, self.path("own.pes"), "--start", "tcp"], "--start cannot be used with",
+             ["--origin T"]),
             ([STORY, STORY], "is a subtitle file", []), ([STORY, "none.ts"], "No such file", []),
             (["none.stl", item], "none.stl does not exist or is not a file", []),
             (["--", "-none.stl", item], "-none.stl does not exist or is not a file", []),

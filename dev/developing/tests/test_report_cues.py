@@ -10,7 +10,7 @@ from subtitles.formats.stl import NamedSubtitle, Subtitle, SubtitleFile
 from subtitles.judging.causes import Cause, LATE, NEVER, NOT_RECEIVED, UNKNOWN_CAUSE, WRONG_TEXT
 from subtitles.judging.cues import Cue, CueJudge, CueVerdict, add_decoded_page
 from subtitles.judging.status import (
-    ACCEPTED, LOST, NOT_JUDGED, REFUSED, RELATIVE, WAIVED, WARNED)
+    ACCEPTED, LOST, NOT_JUDGED, REFUSED, RELATIVE, VALID, WAIVED, WARNED)
 from subtitles.judging.transmissions import ExpectedPages
 from subtitles.report.blocks import mark_field, mark_text, mark_times, show_byte
 from subtitles.report.cue_list import CueList, CueRow, mark_difference, format_signed
@@ -95,7 +95,7 @@ class CueVerdicts(Case):
             part: Any = SimpleNamespace(
                 causes=SimpleNamespace(expected=programme) if cause else None, unmarked_losses=[],
                 request=SimpleNamespace(option="english"), trusted_frames=Spans([(first, 199)]),
-                check_output=SimpleNamespace(fault_spans=marks, verdict=REFUSED,
+                check_output=SimpleNamespace(is_file=False, fault_spans=marks, verdict=REFUSED,
                                              fault_numbers={*numbers, *[72] * bool(cause)}))
             cue = Cue(subtitle, page(b"one"), cause or None)
             result = [CueJudge(part, severity).judge(cue).word for severity in waived]
@@ -107,8 +107,27 @@ class CueVerdicts(Case):
                            ((200, 300), "right")):
             part: Any = SimpleNamespace(
                 causes=None, unmarked_losses=[Span(*span)],
-                check_output=SimpleNamespace(fault_spans={}, verdict=ACCEPTED))
-            self.check(f"{span}", CueJudge(part, make_severity("")).judge(cue).word, word)
+                check_output=SimpleNamespace(is_file=False, fault_spans={}, verdict=ACCEPTED))
+            verdict = CueJudge(part, make_severity("")).judge(cue)
+            self.check(f"{span}", (verdict.word, verdict.doubt), (
+                word, "not received completely" if word == "not known" else ""))
+
+    def test_explains_why_a_subtitle_is_not_known(self) -> None:
+        # Trusted frames, first frame and end of the decoded page, and the reason.
+        rows: dict[str, tuple[list[tuple[int, int]], int | None, int | None, str]] = {
+            "all frames are trusted": ([(100, 199)], 100, 200, ""),
+            "all but the first": ([(101, 199)], 100, 200, "check does not trust 1 of its frames"),
+            "two holes": ([(100, 119), (130, 189)], 100, 200,
+                          "check does not trust 20 of its frames"),
+            "a late end": ([(100, 189)], 100, 203,
+                           "check does not trust 10 of its frames: the out-cue is moved"),
+            "nothing": ([], None, None, "not received")}
+        for name, (spans, begin, end, reason) in rows.items():
+            part: Any = SimpleNamespace(
+                causes=None, trusted_frames=Spans(spans),
+                check_output=SimpleNamespace(is_file=False, fault_spans={}, verdict=REFUSED))
+            cue = Cue(Subtitle(1, 1, 100, 200, 20, 2, b""), page(b"one"), None, None, begin, end)
+            self.check(name, CueJudge(part, make_severity("")).judge(cue).doubt, reason)
 
 
 class TextMarkup(Case):
@@ -125,7 +144,7 @@ class TextMarkup(Case):
     def test_prints_the_first_200_wrong_rows(self) -> None:
         result: Any = SimpleNamespace(
             rows=[CueRow(at, look, [], [at]) for look in ("ok", "bad") for at in range(203)],
-            part=SimpleNamespace(number=1), kinds=[], make_caption=lambda: "")
+            part=SimpleNamespace(number=1, recording="one.pes"), kinds=[], make_caption=lambda: "")
         text = markup_text(CueList.make_list(result))
         self.check("rows", (text.count('class="bad"'), text.count('class="bad more"')), (200, 3))
         self.must("texts", "203 right subtitles" in text and "and 3 more rows" in text, text[:900])
@@ -136,9 +155,9 @@ class TextMarkup(Case):
             (LATE, 1), (LATE, 1), (LATE, 2), (NEVER, None), (NEVER, None))]
         result: Any = SimpleNamespace(
             cues=[Cue(subtitle, BLANK_PAGE, cause) for cause in (*causes, None, None)],
-            judge=SimpleNamespace(judge=lambda _: CueVerdict("wrong")), cells=lambda *_: [],
+            judge=SimpleNamespace(judge=lambda _: CueVerdict("wrong")), cells=lambda *_: [], causes=None,
             part=SimpleNamespace(recording="one.pes"))
-        self.check("repeated", [row[-1] for row in CueList.make_judged_rows(result)],
+        self.check("repeated", [row.is_repeated for row in CueList.make_judged_rows(result)],
                    [False, True, False, False, True, False, False])
 
     def test_writes_numbers_with_their_signs(self) -> None:
@@ -154,7 +173,7 @@ class TextMarkup(Case):
                       markup_text(keep_options_together(text)))
 
     def test_gives_each_verdict_a_class_and_a_shape(self) -> None:
-        words = (ACCEPTED, WAIVED, RELATIVE, REFUSED, LOST, WARNED, NOT_JUDGED)
+        words = (ACCEPTED, VALID, WAIVED, RELATIVE, REFUSED, LOST, WARNED, NOT_JUDGED)
         self.must("all", set(SHAPES) == set(words))
         self.must("classes", len({kind for kind, _ in SHAPES.values()}) == len(words))
         self.must("shapes", len({markup_text(drawn) for _, drawn in SHAPES.values()}) == len(words))

@@ -257,7 +257,10 @@ def call_in_process(name: str, words: Sequence[str]) -> CompletedCall:
     module, out, errors = load_tool_module(name), io.StringIO(), io.StringIO()
     with mock.patch.object(sys, "argv", [get_tool_path(name), *words]), \
             contextlib.redirect_stdout(out), contextlib.redirect_stderr(errors):
-        status = run_main(module.call_main if name == "qc" else module.main, words)
+        # The `main` that tools/air imports takes the text of its help first.
+        does = functools.partial(module.main, "text") if name == "air" else \
+            module.call_main if name in ("qc", "read") else module.main
+        status = run_main(does, words)
     return CompletedCall(status, out.getvalue().encode(), errors.getvalue().splitlines())
 
 

@@ -365,8 +365,12 @@ class Overrides(Case):
                 self.request(words, None)
 
     def test_requires_a_tolerance_for_delay_counts(self) -> None:
-        for words in ("--late 0:1,1:1/0:1", "--late 0:1/0:1,3:1 --within 2"):
-            self.assertRaises(Stop, make_example_request, "a.stl", "a.ts", *words.split())
+        for words, delay, within in (("--late 0:1,1:1/0:1", "1 frame", 0),
+                                     ("--late 0:1/0:1,3:1 --within 2", "3 frames", 2)):
+            with self.assertRaises(Stop) as refused:
+                make_example_request("a.stl", "a.ts", *words.split())
+            self.check(words, str(refused.exception), f"--late contains a delay of {delay}, but "
+                       f"--within allows only {within}: increase --within")
 
     def test_finds_a_profile_in_the_folder_of_the_list(self) -> None:
         os.mkdir(self.path("in"))

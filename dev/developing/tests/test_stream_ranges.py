@@ -88,6 +88,9 @@ class DayFiles(Case):
                 result = judge_files(self, day, *recording, *words)
                 self.must(f"{words} {recording}", result.word == "not judged" and
                           f"{day} has no subtitle with a TCI" in result.told[-1], result.said)
+        result = judge_files(self, day, "--from", "00:05:00:00", "--to", "00:06:00:00")
+        self.check("reason", result.verdict.unjudged_reason, f"{day} has no subtitle with a TCI at "
+                   "00:05:00:00 or later and before 00:06:00:00")
         none = self.write("none.stl", make_gsi_block(b"", 0, 0))
         result = judge_files(self, none, second)
         self.must("nor has the file one", result.word == "not judged" and
@@ -211,6 +214,9 @@ class AdjoiningSubtitles(ProgrammeCase):
                 word.rpartition(" ")[2] for word in judged.verdict.suggestions] ==
                       [*map(format_frame, near)],
                       (judged.said, judged.verdict.suggestions))
+            self.check(f"{frame}: reason", judged.verdict.unjudged_reason, "--to ends the range at "
+                       f"{format_frame(frame)}, where the next subtitle follows directly: the page "
+                       "is not erased there")
             for end in near:
                 judged = self.judge(self.sent, "--to", format_frame(end))
                 self.must(f"{frame}, {end}", judged.word == "accepted", judged.said)

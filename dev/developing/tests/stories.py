@@ -1,0 +1,138 @@
+"""Text tables of end-to-end tests: what was sent, the options of qc, and what qc has to answer.
+
+    sent          | options    | verdict  | causes
+    as scheduled  |            | accepted |
+    3 late by 7   | --within 2 | refused  | 3 late by 7 frames
+
+The programme has a subtitle every 4 seconds, which is shown for 60 frames. The first line of a
+table names its columns. `CHANGES` has the words of `sent`, separated by commas, and `ANSWERS` the
+columns that are compared. A table may have any other column, which a test reads itself.
+"""
+from __future__ import annotations
+
+import re
+from typing import Callable, Iterator, Mapping, Match
+
+from developing.pes import GAP_MARKER, make_pes_packet
+from subtitles.common.times import CLOCK, TICKS
+from .judged import JudgedPair, ProgrammeCase, judge_files
+from .transmissions import Change, EACH, LASTS, ORIGIN, SentPes, make_delay
+
+PAUSE = 20  # frames between a break and the subtitle after it
+Story = dict[str, str]  # maps the name of each column to its cell
+
+
+def read_table(text: str) -> Iterator[Story]:
+    names, *rows = ([cell.strip() for cell in line.split("|")]
+                    for line in text.strip().splitlines())
+    for row in rows:
+        assert len(row) == len(names), row
+        yield dict(zip(names, row))
+
+
+def first_tick(number: str) -> int:
+    return ORIGIN + EACH * int(number) * TICKS
+
+
+def delay(sent: SentPes, words: Match[str]) -> SentPes:
+    """Delay the PES packets in the frames in which each of the subtitles is shown."""
+    by = int(words[4]) * (-1 if words[3] == "early" else 1)
+    for number in range(int(words[1]), int(words[2] or words[1]) + 1):
+        begin = first_tick(f"{number}")
+        sent = make_delay(by, begin, begin + LASTS * TICKS - 1)(sent)
+    return sent
+
+
+def leave_out(sent: SentPes, words: Match[str]) -> SentPes:
+    begin = first_tick(words[1])
+    return [item for item in sent if not begin <= item[0] < begin + LASTS * TICKS]
+
+
+def leave_out_repeats(sent: SentPes, words: Match[str]) -> SentPes:
+    begin = first_tick(words[1])
+    return [item for item in sent if not begin < item[0] < begin + EACH * TICKS // 2]
+
+
+def add_blank_page(sent: SentPes, words: Match[str]) -> SentPes:
+    return [(sent[0][0] - int(words[1]) * TICKS, sent[-1][1]), *sent]
+
+
+CHANGES: dict[str, Callable[[SentPes, Match[str]], SentPes]] = {
+    r"as scheduled": lambda sent, _: sent,
+    r"(\d+)(?:-(\d+))? (late|early) by (\d+)": delay,
+    r"(\d+) not sent": leave_out,
+    r"(\d+) not repeated": leave_out_repeats,
+    r"from the second packet on": lambda sent, _: sent[1:],
+    r"a blank page (\d+) frames before": add_blank_page}
+# Changes made last: breaks, which move all later PTS, and gap markers in place of lost packets.
+BREAK = re.compile(r"break ([+-]\d+) before (\d+)")
+MARKER = re.compile(r"marker before (\d+)")
+
+def describe_part(judged: JudgedPair, index: int) -> str:
+    """Return the shift of a part's clock in frames, and its PES packets."""
+    return "".join(f"{(origin - ORIGIN) / TICKS:+g} {pes}"
+                   for origin, pes in judged.parts("origin", "pes")[index:index + 1])
+
+
+ANSWERS: dict[str, Callable[[JudgedPair], str]] = {
+    "verdict": lambda judged: judged.word,
+    "last line": lambda judged: judged.said[-1],
+    "sentence": lambda judged: judged.verdict.sentence,
+    "causes": lambda judged: "; ".join(re.sub(r'subtitle (\d+) at [\d:]+, ".*?": ', r"\1 ", line)
+                                       for line in judged.lines("cause: ")),
+    "ranges": lambda judged: " ".join(f"{begin}-{end}"
+                                      for begin, end in judged.parts("from", "to")),
+    "part verdicts": lambda judged: " ".join(word for word, in judged.parts("verdict")),
+    "part 1": lambda judged: describe_part(judged, 0),
+    "part 2": lambda judged: describe_part(judged, 1),
+    "part 3": lambda judged: describe_part(judged, 2),
+    "losses": lambda judged: "; ".join(f"{loss['gap_marker']} {loss['from']}"
+                                       for loss in judged.result["losses"]),
+    "complete after": lambda judged: " ".join(
+        "-" if row["complete_after"] is None else str(row["complete_after"])
+        for row in judged.result["subtitles"]),
+    "of all": lambda judged: " ".join(f"{judged.result['complete_after'][name]}" for name in (
+        "minimum", "median", "maximum", "never_complete"))}
+
+
+class StoryCase(ProgrammeCase):
+    """A test case with a programme whose frame 0 has the PTS `ORIGIN`."""
+
+    origin = ORIGIN
+    ways: Mapping[str, Change] = {}  # more words of `sent`
+
+    def change(self, words: str) -> SentPes:
+        """Return the transmission with the changes that `words` names."""
+        sent = self.sent
+        for item in words.split(", "):
+            if BREAK.fullmatch(item) or MARKER.fullmatch(item):
+                continue
+            if item in self.ways:
+                sent = self.ways[item](sent)
+                continue
+            (does, match), = ((does, match) for form, does in CHANGES.items()
+                              if (match := re.fullmatch(form, item)))
+            sent = does(sent, match)
+        breaks = [(int(number), int(by)) for by, number in BREAK.findall(words)]
+        return [(pts + TICKS * sum(by for number, by in breaks
+                                   if pts >= first_tick(f"{number}") - PAUSE * TICKS), some)
+                for pts, some in sent]
+
+    def tell(self, words: str, *args: str) -> JudgedPair:
+        """Judge a recording with the changes that `words` names."""
+        places = {*map(int, MARKER.findall(words))}
+        pes = [make_pes_packet(pts % CLOCK, some) for pts, some in self.change(words)]
+        data = b"".join(GAP_MARKER * (at in places) + item for at, item in enumerate(pes))
+        return judge_files(self, self.stl, self.write("one.pes", data), *args)
+
+    def check_stories(self, table: str, *args: str, **same: str) -> None:
+        """Check all rows of a table with more options; `same` has answers that all rows share."""
+        for row in read_table(table):
+            story = {**row, **same}
+            words = [word.replace("T", f"{ORIGIN}") for word in story.get("options", "").split()]
+            judged = self.tell(story["sent"], *words, *args)
+            self.check_answers(" ".join([story["sent"], *words, *args]), judged, story)
+
+    def check_answers(self, name: str, judged: JudgedPair, story: Story) -> None:
+        for column in story.keys() & ANSWERS.keys():
+            self.check(f"{name}: {column}", ANSWERS[column](judged), story[column])
