@@ -155,7 +155,8 @@ class TextMarkup(Case):
             (LATE, 1), (LATE, 1), (LATE, 2), (NEVER, None), (NEVER, None))]
         result: Any = SimpleNamespace(
             cues=[Cue(subtitle, BLANK_PAGE, cause) for cause in (*causes, None, None)],
-            judge=SimpleNamespace(judge=lambda _: CueVerdict("wrong")), cells=lambda *_: [], causes=None,
+            judge=SimpleNamespace(judge=lambda _: CueVerdict("wrong")), causes=None,
+            cells=lambda *_: [],
             part=SimpleNamespace(recording="one.pes"))
         self.check("repeated", [row.is_repeated for row in CueList.make_judged_rows(result)],
                    [False, True, False, False, True, False, False])

@@ -129,7 +129,8 @@ class NewOptions(Case):
                   "A new one. What is new." and output["schema"]["newer"] == {
                       "description": "It is newer.", "type": "boolean"}, output["schema"])
         alone, pair, collect = output["not with"]
-        self.must("modes", pair is None and "no recording was given, but --newer needs one" == alone and
+        self.must("modes", pair is None and
+                  alone == "no recording was given, but --newer needs one" and
                   "--new-one may be given with" in collect, output["not with"])
 
 
