@@ -9,7 +9,7 @@ from typing import Any
 from unittest import mock
 
 from developing.pes import make_packet, make_pes_packet
-from subtitles.common.program import find_proved_line
+from subtitles.common.program import find_proof
 from subtitles.common.times import CLOCK, Span, TICKS
 from subtitles.formats.listing import parse_fault_line
 from subtitles.judging.causes import (
@@ -291,18 +291,24 @@ class ProgramCalls(Case):
 
 
 class Versions(Case):
-    def test_finds_the_prover_line_of_this_program(self) -> None:
+    def test_finds_the_proof_of_this_program(self) -> None:
         os.makedirs(self.path("top/bin"))
-        good = "program 5\ncrate other 1 logic=proved 1\ncrate subttx 2 logic=proved 3 of 3\n"
-        for name, text, expected in (
-                ("top/bin/PROVED", good, "logic=proved 3 of 3"),
-                ("top/PROVED", good, "logic=proved 3 of 3"), ("PROVED", good, None),
-                ("top/bin/PROVED", good.replace("program 5", "program 55"), None),
-                ("top/bin/PROVED", good.replace("proved 3", "open 3"), None),
-                ("top/bin/PROVED", "program 5\n", None)):
-            path = self.write(name, text.encode())
-            self.must(f"{name} {text}", find_proved_line(self.path("top/bin/subttx"), "5") ==
-                      expected)
+        good = ("program 5\ncrate other 1 logic=proved functions=30 sum=a\n"
+                "crate subttx 2 logic=proved functions=4 axioms=9\n")
+        both = "logic=proved crates=2 functions=34 axioms=9"
+        for name, file, text, expected in (
+                ("beside the program", "top/bin/PROVED", good, both),
+                ("in the folder above", "top/PROVED", good, both),
+                ("two folders above", "PROVED", good, None),
+                ("another program's", "top/bin/PROVED", good.replace("program 5", "program 6"),
+                 None),
+                ("the program is not proved", "top/bin/PROVED",
+                 good.replace("proved functions=4", "open functions=4"), None),
+                ("another crate is not proved", "top/bin/PROVED",
+                 good.replace("proved functions=30", "open functions=30"), None),
+                ("no crates", "top/bin/PROVED", "program 5\n", None)):
+            path = self.write(file, text.encode())
+            self.check(name, find_proof(self.path("top/bin/subttx"), "5"), expected)
             os.unlink(path)
 
     def test_updates_the_progress_line_five_times_a_second(self) -> None:

@@ -64,11 +64,11 @@ def read(path: str) -> str | None:
 
 
 PROVED = "PROVED"  # file next to the program, or in the folder above if the program is installed
-PROVED_LINE = re.compile(r"crate subttx \S+ (logic=proved .*)")
+CRATE_LINE = re.compile(r"crate (\S+) \S+ logic=proved functions=(\d+)(.*)")
 
 
 class ProgramInfo(NamedTuple):
-    """The version of the tools, the SHA-256 of the program, and the prover's line about it."""
+    """The version of the tools, the SHA-256 of the program, and a line about its proof."""
 
     version: str
     sha256: str
@@ -81,7 +81,7 @@ def describe_program(path: str) -> ProgramInfo:
     with add_name_to_errors(path):
         info = os.stat(real_path)
     sha256 = compute_sum(real_path, make_stamp(info))
-    return ProgramInfo(version(), sha256, find_proved_line(real_path, sha256))
+    return ProgramInfo(version(), sha256, find_proof(real_path, sha256))
 
 
 @functools.lru_cache(maxsize=None)
@@ -91,16 +91,27 @@ def compute_sum(path: str, expected_stamp: Stamp) -> str:
     return sum_file(path, path).sha256
 
 
-def find_proved_line(program: str, sha256: str) -> str | None:
-    """Return the prover's line about a program from the file PROVED that contains the program's
-    SHA-256. Return `None` if there is no such file."""
+def find_proof(program: str, sha256: str) -> str | None:
+    """Return a line about the proof of a program, from the file PROVED that contains the program's
+    SHA-256. Return `None` if there is no such file, or if a crate in it is not proved."""
     program_folder = os.path.dirname(program)
     for folder in (program_folder, os.path.dirname(program_folder), os.path.join(TOP, "dist")):
         lines = (read(os.path.join(folder, PROVED)) or "").splitlines()
-        versions = [line for line in map(PROVED_LINE.fullmatch, lines) if line]
-        if f"program {sha256}" in lines and versions:
-            return versions[0][1]
+        if f"program {sha256}" in lines:
+            return sum_crates([line for line in lines if line.startswith("crate ")])
     return None
+
+
+def sum_crates(lines: list[str]) -> str | None:
+    """Return the number of proved functions and crates, and what the prover printed about the
+    crate of the program itself. Return `None` if the program or a crate is not proved."""
+    crates = [CRATE_LINE.fullmatch(line) for line in lines]
+    proved = [crate for crate in crates if crate]
+    details = [crate[3] for crate in proved if crate[1] == "subttx"]
+    if not details or len(proved) < len(crates):
+        return None
+    count = sum(int(crate[2]) for crate in proved)
+    return f"logic=proved crates={len(proved)} functions={count}{details[0]}"
 
 
 TOOLS = ["qc", "air", "read"]

@@ -245,7 +245,8 @@ PROGRAM = Record(
     "program", "",
     Member("version", Text()),
     Member("sha256", CHECKSUM),
-    Member("proof", Maybe(Text()), "The line that the prover printed.",
+    Member("proof", Maybe(Text()), "The prover's result: the number of crates and proved "
+           "functions, and the details of the last crate.",
            lambda program: program.proved))
 
 DELAY_SPREAD = Record(
