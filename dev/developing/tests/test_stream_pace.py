@@ -3,14 +3,15 @@ from __future__ import annotations
 
 import collections
 import itertools
+import random
 from typing import NamedTuple, Sequence
 
 from developing.pes import make_pes_packet
 from subtitles.common.times import CLOCK, TICKS
 from subtitles.stream.pace import (
     BY_EVERY, IRREGULAR, MAX_EXCEPTIONS, PAUSED, Pauses, REGULAR, Silence, TOO_FEW, compute_pace,
-    estimate_packets_per_pes, find_hidden_loss, find_pauses, find_silences, find_usual_distance,
-    list_frame_rows)
+    count_distances, estimate_packets_per_pes, find_hidden_loss, find_pauses, find_silences,
+    find_usual_distance, list_frame_rows)
 from subtitles.stream.repeats import list_cue_frames
 from subtitles.stream.packets import PacketRun, Packets
 from .bench import Case
@@ -58,6 +59,12 @@ def repeat_steps(steps: Sequence[int], times: int) -> list[int]:
     for step in [*steps] * times:
         result.append(result[-1] + step)
     return result
+
+
+def draw_steps(seed: int, weights: Sequence[float], count: int = 400) -> list[int]:
+    """Return frames at random intervals. `weights` has the weight of each interval from one on."""
+    drawn = random.Random(seed).choices(range(1, len(weights) + 1), weights, k=count)
+    return [0, *itertools.accumulate(drawn)]
 
 
 def make_regular_pace_row(name: str, *rows: Sequence[int], frames: int = 2, each: int = 1,
@@ -214,6 +221,18 @@ TABLE = [
     make_pes_pace_row("a file, all in one frame", [5] * 400, frames=2, closer=398),
     Row("a file with a pause", [remove_frames(LONG, (999, 100))], PAUSED, pauses=[(999, 1100)],
         is_stream=False),
+    make_pes_pace_row("a file, a timer, one missing",
+                      remove_frames(repeat_steps([25, 25, 12, 25, 7], 60), (94 * 20, 30)),
+                      frames=25),
+    make_pes_pace_row("a file, two of three frames, three missing",
+                      remove_frames(repeat_steps([1, 2], 200), (59, 3), (149, 3), (239, 3)),
+                      frames=2, closer=0),
+    make_pes_pace_row("a file, twelve missing, two together",
+                      remove_frames(FOUR_HUNDRED_FRAMES, (9, 2), *((30 * at, 1)
+                                    for at in range(1, 11))), frames=2, closer=364),
+    Row("a file, thirteen missing, two together",
+        [remove_frames(FOUR_HUNDRED_FRAMES, (9, 2), *((30 * at, 1) for at in range(1, 13)))],
+        IRREGULAR, is_stream=False),
     Row("a file, too few", [range(100)], TOO_FEW, is_stream=False),
     Row("a file, few, up to the bound", [range(0, 990, 10)], TOO_FEW, every=20, is_stream=False),
     Row("a file, few, over the bound", [range(0, 990, 10)], BY_EVERY, every=19, is_stream=False),
@@ -237,6 +256,18 @@ class PaceDecisions(Case):
             ([[0, 9, 17, 24, 30, 31]], 6)]
         for rows, apart in closest:
             self.must(f"{rows}", compute_pace(rows, 1, 250).interval == apart)
+
+    def test_finds_no_loss_in_random_intervals(self) -> None:
+        for name, weights in (("halving", [.5 ** at for at in range(20)]),
+                              ("seldom a frame without", [.1 ** at for at in range(9)]),
+                              ("seldom long", [.8 ** at for at in range(40)]),
+                              ("of even frames", [.7 ** at * (at % 2) for at in range(40)])):
+            for seed, is_stream in itertools.product(range(10), (True, False)):
+                frames = draw_steps(seed, weights)
+                pace = compute_pace([frames], 1, 250, (), is_stream)
+                longest = max(count_distances([frames], 1))
+                self.must(f"{name} {seed} {is_stream}",
+                          pace.frames is None or longest <= pace.frames, (pace, longest))
 
     def test_finds_the_usual_interval(self) -> None:
         rows: list[tuple[dict[int, int], int | None]] = [

@@ -27,6 +27,10 @@ MIN_PES_PACKETS = 100  # minimum number of PES packets for a measurement
 MAX_EXCEPTIONS, PART = 3, 1000  # maximum number of exceptions: three, or one in 1000
 # An interval is usual if at least 1/20 of all have its length and at most 1/100 are longer.
 USUAL_SHARE, RARE_SHARE = 20, 100
+# Longer intervals show losses only if the others are regular: up to 12 are longer, or 1/100, and
+# either the longest usual interval is four times as frequent as each one that is at least half as
+# long (a timer limits it), or nearly all sums of eight intervals are equal, or differ by a frame.
+MAX_LONGER, TIMER_SHARE, SUMMED, MAX_UNEVEN_SHARE = 12, 4, 8, 100
 LOSS_DISTANCE = 17  # distance of the TS packets before and after a loss of 16 packets
 # After a loss of two PES packets the next is the third; after a loss of one, the second.
 DISTANCE_IF_TWO_LOST, DISTANCE_IF_ONE_LOST = 3, 2
@@ -103,10 +107,41 @@ def compute_pace(rows: Sequence[Sequence[int]], packets_per_pes: int, every: int
     if 2 * len(idle_silences) > len(silences):
         return Pace(PAUSED,
                     max(silence.last - silence.first for silence in idle_silences), loss_interval)
+    if silences and not is_regular(rows, distances):
+        return Pace(IRREGULAR, interval, loss_interval)
     hidden_places = sum(frequency for frames, frequency in loss_distances.items()
                         if frames < loss_interval)
     return Pace(REGULAR, interval, loss_interval, hidden_places, sum(loss_distances.values()),
                 is_dense)
+
+
+def is_regular(rows: Sequence[Sequence[int]], distances: collections.Counter[int]) -> bool:
+    """Return whether the usual intervals are regular, so that longer ones show losses. Random
+    intervals have longer ones, too."""
+    count = sum(distances.values())
+    usual = max((frames for frames, frequency in distances.items()
+                 if frequency * USUAL_SHARE >= count), default=None)
+    if usual is None:
+        return False
+    longer_count = sum(frequency for frames, frequency in distances.items() if frames > usual)
+    if longer_count > max(MAX_LONGER, count // RARE_SHARE):
+        return False
+    next_count = max((frequency for frames, frequency in distances.items()
+                      if usual <= 2 * frames < 2 * usual), default=0)
+    return distances[usual] >= TIMER_SHARE * next_count or is_even(rows, usual)
+
+
+def is_even(rows: Sequence[Sequence[int]], usual: int) -> bool:
+    """Return whether nearly all sums of `SUMMED` intervals in a row, each at most `usual` frames
+    long, have one of two adjacent values."""
+    sums: collections.Counter[int] = collections.Counter()
+    for row in rows:
+        ends = [at for at in range(1, len(row)) if row[at] - row[at - 1] > usual]
+        for begin, end in zip([0, *ends], [*ends, len(row)]):
+            sums.update(row[at + SUMMED] - row[at] for at in range(begin, end - SUMMED))
+    even_count = max((sums[value] + sums[value + 1] for value in sums), default=0)
+    return even_count > 0 and \
+        (sum(sums.values()) - even_count) * MAX_UNEVEN_SHARE <= sum(sums.values())
 
 
 def find_loss_distance(loss_distances: collections.Counter[int], usual_distance: int,
