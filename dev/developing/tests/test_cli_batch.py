@@ -7,6 +7,7 @@ import io
 import itertools
 import json
 import os
+import shutil
 import signal
 import sys
 import time
@@ -24,12 +25,12 @@ from subtitles.common.program import describe_program
 from subtitles.judging.status import RELATIVE, STATUSES, VALID, WAIVED
 from subtitles.request.commands import CommandPaths
 from subtitles.request.lines import (
-    BatchItem, collect_inputs, find_path_problem, read_line_pair, read_pairs)
+    BatchItem, collect_inputs, find_path_problem, find_subtitle_files, read_line_pair, read_pairs)
 from subtitles.request.request import Request
 from subtitles.results.files import (
     Row, describe_inputs, make_unjudged, read_result, write_result_file)
 from subtitles.results.schema import PROGRAM, REQUEST
-from .bench import Case, SECONDS
+from .bench import Case, SECONDS, get_example_path
 from .programmes import wait_until
 from .parts import make_example_request, list_call_arguments, make_default_options, run_qc
 from .results import make_result, row
@@ -110,6 +111,35 @@ class Lists(Case):
             inputs.refuse(self.path("list"), True)
             self.must("something is", looked.call_count == 2 + len(words), looked.call_count)
 
+    def test_finds_the_subtitle_files_of_a_folder(self) -> None:
+        for name in ("a.STL", "a.stl", "b.stl", "b.ts", "c.pes", "d.txt"):
+            self.write(f"folder/{name}", b"")
+        at = self.path("folder")
+        items = find_subtitle_files(at, make_default_options())
+        self.check("items", [(item.name, item.reason) for item in items], [
+            ("a", f"{at}/a.STL, {at}/a.stl: more than one subtitle file has this name"),
+            ("b", None)])
+        self.check("pairs", [(item.request.stl, item.request.recording) for item in items
+                             if item.request], [(f"{at}/b.stl", None)])
+        os.mkdir(self.path("empty"))
+        for path in (f"{at}/b.stl", self.path("empty"), self.path("none")):
+            self.assertRaises(Stop, find_subtitle_files, path, make_default_options())
+
+    def test_judges_each_subtitle_file_of_a_folder(self) -> None:
+        os.mkdir(self.path("in"))
+        for name in ("accent.stl", "story.stl"):
+            shutil.copy(get_example_path(name), self.path("in"))
+        self.write("in/story.ts", b"not read")
+        process = self.tool("qc", "--batch", self.path("in"), "--file-only", "-p",
+                            self.bench.program, "-o", self.path("out"), "--junit", self.path("x"))
+        self.check("last line", (process.status, process.out.decode().splitlines()[-1]),
+                   (1, "2 pairs: 1 refused, 1 valid"))
+        result = json.loads(self.read("out/story.json"))
+        self.check("result", (result["verdict"], result["status"], result["request"]["recording"]),
+                   ("valid", 0, None))
+        self.must("test case", b"No recording was judged." in self.read("x").partition(
+            b"<system-out>")[2])
+
     def test_pairs_the_files_of_a_folder_by_name(self) -> None:
         for name in ("B.STL", "b.TS", "c.stl", "c.ts", "c.pes", "d.m2t", "e.stl", "e.txt", "F.pes",
                      "f.stl", "f.trp", "G.stl", "g.MTS", "g.stl", "h\x1b.m2ts", "h\x1b.stl"):
@@ -141,8 +171,8 @@ class CompleteBatches(Case):
                                       "batch": self.write("list", "".join(
             f"{self.path(name)}.stl {self.path('one.ts')}\n" for name in ("one", "two", "three")
         ).encode()), "out": None, "program": self.path("program"), "is_kept": False, "jobs": None,
-            "limit": 7, "is_resumed": False, "line": None, "json": None, "csv": None,
-            "junit": None, **more})
+            "limit": 7, "is_resumed": False, "is_file_only": False, "line": None,
+            "json": None, "csv": None, "junit": None, **more})
 
         def judge_items(calls: PairRunner, items: list[BatchItem], kept: dict[str, Row],
                         jobs: int) \

@@ -119,7 +119,7 @@ class Programs(CallCase):
             alone = self.fake_program(alone=lines, then_alone=end, then="exit 9")
             status = 2 if end != of_file else 0 if lines == EMPTY else 1
             self.check_judged(f"{name}, {end}, alone", status, self.qc(
-                HELLO[0], "-p", alone, "--json", "one.json"))
+                HELLO[0], "--file-only", "-p", alone, "--json", "one.json"))
             if end != of_file:
                 self.check_judged(f"{name}, {end}, with a recording", 2,
                                   self.judge(alone, "--json", "one.json"))

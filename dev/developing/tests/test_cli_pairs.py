@@ -195,7 +195,8 @@ class SubtitlePipes(Case):
         rows: list[tuple[bytes, list[str]]] = [
             (read_example_file("story.stl"), [PES, "--origin", "0"]),
             (read_example_file("story.stl"), [PES, "--start", "tcp"]),
-            (read_example_file("story.stl"), []), (read_example_file("accent.stl"), [PES]),
+            (read_example_file("story.stl"), ["--file-only"]),
+            (read_example_file("accent.stl"), [PES]),
             (french, [PES, "--origin", "0", "--option", "auto"]),
             (b"", [PES]), (read_example_file("story.pes"), [PES]), (b"x" * 2000, [PES])]
         for data, words in rows:

@@ -122,7 +122,7 @@ class MissingResources(Case):
         wrong = [pair[0], get_example_path("five-faults.pes")]
         rows = {"a pair": ([*pair, "--origin", "0"], 0), "one without a clock": (pair, 3),
                 "one with results": ([*pair, "--origin", "0", "-o", "out"], 0),
-                "a subtitle file": (pair[:1], 0), "one that is refused": (wrong, 1),
+                "a subtitle file": ([pair[0], "--file-only"], 0), "one that is refused": (wrong, 1),
                 "no file": (["none.stl"], 2), "a pair that is not": ([*pair, "--page", "150"], 2)}
         for (name, (words, status)), ending in itertools.product(
                 rows.items(), ["2>&-", *["2>/dev/full"] * os.path.exists("/dev/full")]):

@@ -329,10 +329,12 @@ class NamesOfFiles(Case):
                                (("--pes", "1-2"), whole.replace(" --pes 2-9", "") + " --pes 1-2")):
             self.must(f"{more}", make_qc_command(request, typed, *more) == expected,
                       make_qc_command(request, typed, *more))
-        start = make_example_request("one.stl", None, "--start", "tcp")
-        self.must("start", make_qc_command(start, typed) == "tools/qc one.stl --start tcp")
+        start = make_example_request("one.stl", "one.ts", "--start", "tcp")
+        self.must("start", make_qc_command(start, typed) == "tools/qc one.stl one.ts --start tcp")
         self.must("an origin instead", make_qc_command(start, typed, "--origin", "T") ==
-                  "tools/qc one.stl --origin T")
+                  "tools/qc one.stl one.ts --origin T")
+        self.check("a file alone", make_qc_command(make_example_request("one.stl", None), typed),
+                   "tools/qc one.stl --file-only")
         self.must("words", quote_command("cat", "a b", ">", "c", "|", "d'e") ==
                   "cat 'a b' >c | 'd'\"'\"'e'")
         for called, tool, program in (("tools/qc", "tools/air", "subttx"),

@@ -37,7 +37,8 @@ from .parts import make_default_options
 # Test that each mode of tools/qc accepts its options and refuses all other options.
 
 CALLS: dict[Mode, list[str]] = {
-    PAIR: ["a.stl", "a.ts"], ALONE: ["a.stl"], BATCH: ["--batch", "in"], WATCH: ["--watch", "in"],
+    PAIR: ["a.stl", "a.ts"], ALONE: ["a.stl", "--file-only"], BATCH: ["--batch", "in"],
+    WATCH: ["--watch", "in"],
     COLLECT: ["--collect", "in"], MEASURE: ["--measure", "a.stl", "a.ts"]}
 # A valid value for each option that takes a value.
 VALUES = {"--page": "801", "--every": "25", "--within": "1", "--option": "german", "--origin": "7",
@@ -47,7 +48,7 @@ VALUES = {"--page": "801", "--every": "25", "--within": "1", "--option": "german
           "--from": "00:00:01:00",
           "--to": "00:00:02:00", "--layout": "fit", "--pace": "9", "--late": "0:9/0:9"}
 MANUAL = os.path.join(TOP, "docs", "manual", "qc.md")
-NO_RECORDING = "no recording was given"
+NO_RECORDING = "no recording was given; to check the subtitle file alone, add --file-only"
 MODE_OPTIONS = {"--batch", "--watch", "--collect", "--measure", "--help", "-h", "--version"}
 
 
@@ -90,17 +91,20 @@ class Modes(Case):
             self.must(words, result[name] == value, result)
         for words, mode, printed in (
                 ("--every 25 --every 50", COLLECT, "--every may be given with"),
-                ("--complete --no-complete", ALONE, f"{NO_RECORDING}, but --complete"),
+                ("--complete --no-complete", ALONE, "--complete needs a recording"),
                 ("--no-complete --complete", COLLECT, "--complete may be given with"),
                 ("--jobs 2 --settled 3", BATCH,
                  "--settled may be given with --watch, not with --batch"),
                 ("--every 25 --breaks 1", COLLECT, "--every may be given with"),
                 # An option is refused even if its value is the default.
-                ("--pes=1-2", ALONE, f"{NO_RECORDING}, but --pes needs one"),
-                ("--breaks 0", ALONE, f"{NO_RECORDING}, but --breaks needs one"),
-                ("--breaks=0", ALONE, f"{NO_RECORDING}, but --breaks needs one"),
-                ("--start tcp", ALONE, f"{NO_RECORDING}, but --start needs one"),
-                ("--profile house", ALONE, f"{NO_RECORDING}, but --profile needs one")):
+                ("--pes=1-2", ALONE, "--pes needs a recording"),
+                ("--breaks 0", ALONE, "--breaks needs a recording"),
+                ("--breaks=0", ALONE, "--breaks needs a recording"),
+                ("--start tcp", ALONE, "--start needs a recording"),
+                ("--profile house", ALONE, "--profile needs a recording"),
+                ("--file-only --every 25", BATCH, "--every needs a recording"),
+                ("--file-only --keep", BATCH, "--keep needs a recording"),
+                ("--file-only", PAIR, "--file-only may be given with a subtitle file alone")):
             with self.assertRaises(Stop) as refused:
                 refuse_options(make_parser(""), [*CALLS[mode], *words.split()], mode)
             self.must(words, str(refused.exception).startswith(printed), refused.exception)
@@ -143,15 +147,20 @@ class Modes(Case):
             with self.assertRaises(Stop):
                 find_mode(make_parser("").parse_args(line))
 
+    def test_a_missing_recording_is_a_usage_error(self) -> None:
+        """So a script with an unset variable does not pass."""
+        for options in ("", "--strict", "--origin 0", "--profile house", "-o out"):
+            with self.assertRaises(Stop) as refused:
+                main.dispatch("", "tools/qc", ["a.stl", *options.split()])
+            self.check(options, str(refused.exception), NO_RECORDING)
+
     def test_ends_a_wrong_call_with_status_2(self) -> None:
         self.write("list", b"one.stl\n")
-        for words in (["a.stl", "--jobs", "5"], ["--collect", ".", "-o", "out"],
+        for words in (["--file-only", "a.stl", "--jobs", "5"], ["--collect", ".", "-o", "out"],
                       ["--batch", "list", "--settled", "5"]):
             process = self.tool("qc", *words)
             self.must(" ".join(words), process.status == 2 and len(process.told) == 1
-                      and words[2] in process.told[0] + words[2] and " may be given "
-                                                                  "with " in process.told[0],
-                      process)
+                      and f"{words[2]} may be given with " in process.told[0], process)
 
     def test_prints_the_names_of_tools_as_typed(self) -> None:
         self.write("subttx-qc", b"#!/bin/sh\n")
@@ -221,11 +230,12 @@ WRONG: dict[str, list[list[str]]] = {
     "poke": [[], ["none.stl"], [STL, "x"], [STL, "1=0"], [STL, "1=@3"], [STL, "1152=00"],
              [STL, "0=@1150+3"], [STL, "-c", "-1"], [STL, "-c", "x"], [STL, "1=00", "--colour"],
              [STL, "9" * 5000 + "=00"], [TOP]],
-    "qc": [[], ["none.stl"], [STL, "none.pes"], [STL, PES, PES], [STL, "--page", "8FF"],
-           [STL, "--every", "0"], [STL, "--every", "1501"], [STL, "--option", "latin"],
-           [STL, "--layout", "fit,fit"],
-           [STL, "--origin", "x"], [STL, PES, "--pid", "8191"], [STL, "--severity", "none"],
-           [STL, "-p", "none"], ["--batch"], ["--batch", "none"], [STL, "--jobs", "2"],
+    "qc": [[], ["none.stl"], [STL, "none.pes"], [STL, PES, PES], [STL, PES, "--page", "8FF"],
+           [STL, PES, "--every", "0"], [STL], ["--file-only"],
+           [STL, PES, "--option", "latin"], [STL, PES, "--layout", "fit,fit"],
+           [STL, PES, "--origin", "x"], [STL, PES, "--pid", "8191"],
+           [STL, PES, "--severity", "none"], [STL, PES, "-p", "none"],
+           ["--file-only", "--batch", STL], ["--batch"], ["--batch", "none"], [STL, "--jobs", "2"],
            [STL, PES, "--json", "no/folder.json"], [STL, PES, "--csv", TOP],
            [STL, PES, "--every", "9" * 5000], ["--batch", TOP, "--junit", "no/folder.xml"],
            ["--batch", TOP, "--jobs", "9" * 5000]],
@@ -269,7 +279,7 @@ VALID: dict[str, list[list[str]]] = {
     "air": [["judge", "--help"]], "dist": [["to"]], "edits": [["--applies"]],
     "graph": [["Good"], ["--clauses", "sub_check"]], "install": [["to"]],
     "make-examples": [["."]], "pes2ts": [[PES, "0x101"]], "poke": [[STL], [STL, "-c", "4"]],
-    "program": [[]], "qc": [[STL], [STL, PES, "--origin", "0"]], "read": [[PES]],
+    "program": [[]], "qc": [["--file-only", STL], [STL, PES, "--origin", "0"]], "read": [[PES]],
     "reading-list": [["Good"], ["--lowest-first", "Good"], ["check_all.reported"]],
     "sizes": [[]], "sources": [[]],
     "check-every-place": [["--count", "1", "--recordings", "1"]],
@@ -380,7 +390,7 @@ class WrongArguments(Case):
                 self.bench.over.append(f"a device that does not end, since there is no {device}")
                 continue
             for words in (["poke", device], ["poke", device, "-c", "4"],
-                          ["qc", STL, "--severity", device], ["qc", "--batch", device]):
+                          ["qc", STL, PES, "--severity", device], ["qc", "--batch", device]):
                 process = self.tool(*words)
                 expected = "a file" if "--severity" in words else "a file or a pipe"
                 self.must(" ".join(words), process ==
@@ -414,8 +424,9 @@ class WrongArguments(Case):
 
     def test_names_files_as_they_were_given(self) -> None:
         for words, named in ((["qc", STL, "no/folder.pes"], "no/folder.pes"),
-                             (["qc", "-"], "qc: - does not exist"), (["qc", ""], "an empty name"),
-                             (["qc", "--", "-x.stl"], "qc: -x.stl"),
+                             (["qc", "--file-only", "-"], "qc: - does not exist"),
+                             (["qc", "--file-only", ""], "an empty name"),
+                             (["qc", "--file-only", "--", "-x.stl"], "qc: -x.stl"),
                              (["qc", STL, self.write("cut.pes", b"\0\0\1"), "-p",
                                self.bench.program], self.path("cut.pes"))):
             process = self.tool(*words)

@@ -78,7 +78,7 @@ print(json.dumps({
     "file": asked.list_check_arguments(True), "pages": asked.list_schedule_arguments(),
     "schema": schema()["definitions"]["request"]["properties"],
     "same": make_request(make_parser("").parse_args(list_call_arguments(asked))) == asked,
-    "not with": [taken("a.stl", *given), taken(*pair, *given),
+    "not with": [taken("a.stl", "--file-only", *given), taken(*pair, *given),
                  taken("--collect", "x", "--new-one", "5")],
     "line": REQUEST.to_json(make_line_request([*pair, *given], make_default_options()))}))
 """
@@ -130,7 +130,7 @@ class NewOptions(Case):
                       "description": "It is newer.", "type": "boolean"}, output["schema"])
         alone, pair, collect = output["not with"]
         self.must("modes", pair is None and
-                  alone == "no recording was given, but --newer needs one" and
+                  alone == "--newer needs a recording: remove --newer or --file-only" and
                   "--new-one may be given with" in collect, output["not with"])
 
 

@@ -21,7 +21,8 @@ from ..judging.status import NOT_JUDGED
 from ..report import page
 from ..request.commands import CommandPaths, PartFiles, Progress
 from ..request.lines import (
-    BatchItem, collect_inputs, find_folder_pairs, find_path_problem, read_line_pair, read_pairs)
+    BatchItem, collect_inputs, find_file_problem, find_folder_pairs, find_subtitle_files,
+    read_line_pair, read_pairs)
 from ..request.request import Request
 from ..results.files import (
     ENDING, Row, describe_inputs, is_current, read_call_result, read_result, write_result_file,
@@ -45,8 +46,7 @@ def judge_forked_pair(request: Request, call: PairOptions) -> int:
     to the JSON result. A pipe is refused, since reading it might never end."""
     def judge(_: Sequence[str]) -> int:
         try:
-            if reason := find_path_problem(request.stl) or \
-                    find_path_problem(request.recording or ""):
+            if reason := find_file_problem(request):
                 raise Stop(reason)
             return judge_and_report(request, call, os.path.join(TOP, "tools", "qc")).status
         except (Exception, KeyboardInterrupt) as reason:
@@ -310,7 +310,8 @@ def judge_batch(args: argparse.Namespace, program_name: str) -> int:
     if args.is_resumed and args.out is None:
         raise Stop("--resume needs -o, the folder with the results of an earlier call")
     if args.line is None:
-        items, more, common_folder = read_pairs(args.batch, args), list[str](), args.out
+        find_items = find_subtitle_files if args.is_file_only else read_pairs
+        items, more, common_folder = find_items(args.batch, args), list[str](), args.out
     # Other runs of qc judge the other lines, so no page listing all pairs is written.
     else:
         item, more = read_line_pair(args.batch, args.line, args)

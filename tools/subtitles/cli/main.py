@@ -10,7 +10,7 @@ from typing import Any, Callable, Iterable, Sequence
 from ..cli import single
 from ..common.command_line import Stop, ToolParser, format_error
 from ..common.files import OutputIsInput, make_safe_name
-from ..request.lines import describe_mode_conflict, read_options
+from ..request.lines import describe_mode_conflict, needs_recording, read_options
 from ..request.request import (
     ALONE, BATCH, COLLECT, MEASURE, Mode, OPTIONS, Option, PAIR, WATCH, add_options)
 from ..results import files
@@ -49,6 +49,8 @@ MODE_OPTIONS = (
            "recordings, given as pairs or as a list of pairs", (MEASURE,), field="measure",
            nargs="+"))
 CALL_OPTIONS = (
+    Option("--file-only", None, "judge the subtitle file alone, or each subtitle file in FOLDER",
+           (ALONE, BATCH), field="is_file_only", default=False),
     Option("-o", "DIR", "write the report, the list of faults and the JSON result to DIR", CALLS,
            field="out"),
     Option("--keep", None, "keep the recording's PES packets in DIR (NAME.recording.pes), or "
@@ -74,6 +76,7 @@ CALL_OPTIONS = (
     Option("--quiet", None, "print only the last two lines", (ALONE, PAIR),
            field="is_quiet", default=False))
 OPTION_MODES = {one.name: one.modes for one in (*OPTIONS, *CALL_OPTIONS)}
+NO_RECORDING = "no recording was given; to check the subtitle file alone, add --file-only"
 
 
 def find_mode(args: argparse.Namespace) -> Mode:
@@ -87,7 +90,11 @@ def find_mode(args: argparse.Namespace) -> Mode:
         source = "from its arguments" if given_modes[0] is MEASURE \
             else f"from {values[given_modes[0]]}"
         raise Stop(f"{given_modes[0].text} takes its pairs {source}: remove {args.stl}")
-    return given_modes[0] if given_modes else ALONE if args.recording is None else PAIR
+    if given_modes or args.recording is not None:
+        return given_modes[0] if given_modes else PAIR
+    if args.stl is not None and not args.is_file_only:
+        raise Stop(NO_RECORDING)
+    return ALONE
 
 
 def list_given_options(parser: ToolParser, line: Sequence[str]) -> list[str]:
@@ -103,10 +110,15 @@ def list_given_options(parser: ToolParser, line: Sequence[str]) -> list[str]:
 
 
 def refuse_options(parser: ToolParser, line: Sequence[str], mode: Mode) -> None:
-    """Raise `Stop` for the first option that the mode does not accept."""
-    for name in list_given_options(parser, line):
-        if mode not in OPTION_MODES[name]:
-            raise Stop(describe_mode_conflict(name, OPTION_MODES[name], mode))
+    """Raise `Stop` for the first option that the mode does not accept. With --file-only, a batch
+    does not accept options that need a recording."""
+    given_options = list_given_options(parser, line)
+    for name in given_options:
+        modes = OPTION_MODES[name]
+        if mode not in modes:
+            raise Stop(describe_mode_conflict(name, modes, mode))
+        if "--file-only" in given_options and needs_recording(modes):
+            raise Stop(describe_mode_conflict(name, modes, ALONE))
 
 
 def make_parser(text: str) -> ToolParser:

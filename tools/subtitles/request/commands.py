@@ -213,7 +213,7 @@ def make_qc_command(request: Request, command_paths: CommandPaths, *more: str) -
     """Return the command line that repeats a request with additional arguments. An additional
     option replaces the same option of the request."""
     arguments = [command_paths.get_tool_command("qc"), request.stl,
-                 *([request.recording] if request.recording else [])]
+                 request.recording or "--file-only"]
     options = list_arguments(request)
     replaced_options = {"--origin": ["--origin", "--start"]}.get(more[0], [more[0]]) if more else []
     arguments += [word for option in options if option and option[0] not in replaced_options

@@ -194,10 +194,15 @@ def remove_replaced_clock(options: Mapping[str, Any], names: Collection[str]) ->
     return {**options, **dict.fromkeys(replaced_options)}
 
 
+def needs_recording(modes: Sequence[Mode]) -> bool:
+    """Return whether an option of these modes has a meaning only for a pair with a recording."""
+    return PAIR in modes and ALONE not in modes
+
+
 def describe_mode_conflict(name: str, modes: Sequence[Mode], mode: Mode) -> str:
     """Return the message which reports that an option can't be used in a mode."""
-    if mode is ALONE and PAIR in modes:
-        return f"no recording was given, but {name} needs one"
+    if mode is ALONE and needs_recording(modes):
+        return f"{name} needs a recording: remove {name} or --file-only"
     *others, last = (mode_.text for mode_ in modes)
     accepted_modes = f"{', '.join(others)} or {last}" if others else last
     return f"{name} may be given with {accepted_modes}, not with {mode.text}"
@@ -251,6 +256,21 @@ def read_pairs(path: str, defaults: argparse.Namespace) -> list[BatchItem]:
     return items
 
 
+def find_subtitle_files(folder: str, defaults: argparse.Namespace) -> list[BatchItem]:
+    """Return the subtitle files in a folder, which are judged without recordings."""
+    if not os.path.isdir(folder):
+        raise Stop(f"--file-only needs a folder, but {folder} is not a folder")
+    paths_by_name: dict[str, list[str]] = collections.defaultdict(list)
+    for file in sorted(os.listdir(folder)):
+        if os.path.splitext(file)[1].lower() == SUBTITLE_ENDING:
+            paths_by_name[make_pair_name(file)].append(os.path.join(folder, file))
+    if not paths_by_name:
+        raise Stop(f"{folder} has no subtitle file")
+    return [make_item(name, paths[0], None, defaults) if len(paths) == 1 else BatchItem(
+        name, None, f"{', '.join(paths)}: more than one subtitle file has this name", paths)
+            for name, paths in paths_by_name.items()]
+
+
 def find_folder_pairs(folder: str, defaults: argparse.Namespace) -> list[BatchItem]:
     """Return the pairs in a folder: files with the same base name, ignoring case."""
     files_by_stem: dict[str, list[str]] = collections.defaultdict(list)
@@ -278,8 +298,15 @@ def find_path_problem(path: str) -> str | None:
     return kind and f"{path} is {kind}"
 
 
-def make_item(name: str, stl: str, recording: str, defaults: argparse.Namespace) -> BatchItem:
-    """Return the pair of a subtitle file and a recording."""
+def find_file_problem(request: Request) -> str | None:
+    """Return the reason why a file of a pair can't be judged, or `None` if there is none."""
+    return find_path_problem(request.stl) or \
+        (None if request.recording is None else find_path_problem(request.recording))
+
+
+def make_item(name: str, stl: str, recording: str | None,
+              defaults: argparse.Namespace) -> BatchItem:
+    """Return the pair of a subtitle file and a recording, or the subtitle file alone."""
     try:
         request = make_file_request(stl, recording, defaults)
     except Stop as reason:
@@ -293,8 +320,7 @@ def check_files(item: BatchItem) -> BatchItem:
     request = item.request
     if request is None:
         return item
-    assert request.recording
-    reason = find_path_problem(request.stl) or find_path_problem(request.recording)
+    reason = find_file_problem(request)
     return item._replace(request=None if reason else request, reason=reason,
                          files=(request.stl, request.recording, *request.other_files))
 
