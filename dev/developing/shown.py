@@ -35,7 +35,10 @@ def find_commands(path: str) -> list[Line]:
 
 
 def has_expected_status(status: int | None, command: str, output: str) -> bool:
-    """Return whether the exit status agrees with the last line of the output."""
+    """Return whether the exit status (`None` after a timeout) agrees with the last line of the
+    output."""
+    if status is None:
+        return False
     if "|" in command.rsplit(";", 1)[-1]:
         return True
     last = output.rstrip("\n").split("\n")[-1]

@@ -1,0 +1,157 @@
+"""Test the scripts of the gate: what they count, and what they must not count as passed."""
+from __future__ import annotations
+
+import os
+import shutil
+import unittest
+import unittest.mock
+
+from developing.proved import (
+    ProvedProgram, find_crates_without_line, format_proved, list_crate_sums)
+from developing.shown import has_expected_status
+from subtitles.common.command_line import Stop
+from subtitles.common.program import TOP
+from .bench import Case, get_tool_path, import_script
+
+GATE = os.path.join(TOP, ".ci", "run")
+# The stages of the gate in their order: the script, and the counts in its last line.
+STAGES = {"dev/edits": "1 passed, 0 failed", "dev/graph": "20 passed, 0 failed",
+          "rt": "300 passed, 0 failed", "tools/check-program": "4000 passed, 0 failed",
+          "dev/release": "50000 passed, 0 failed"}
+ALL_PASSED = "54321 passed, 0 failed"
+
+# What a stage prints as its last line and its status, the last line of the gate, and the stages
+# that run. The first three stages stop the gate if they fail.
+GATE_CASES = {
+    "all stages pass": ({}, ALL_PASSED, 0, list(STAGES)),
+    "the edits fail": ({"dev/edits": ("1 passed, 2 failed", 1)}, "321 passed, 2 failed", 1,
+                       ["dev/edits", "dev/graph", "rt"]),
+    "the proof fails": ({"rt": ("299 passed, 1 failed", 1)}, "320 passed, 1 failed", 1,
+                        ["dev/edits", "dev/graph", "rt"]),
+    "the tests fail": ({"tools/check-program": ("3999 passed, 1 failed", 1)},
+                       "54320 passed, 1 failed", 1, list(STAGES)),
+    "dist/ holds another program": ({"dev/release": ("0 passed, 1 failed", 1)},
+                                    "4321 passed, 1 failed", 1, list(STAGES)),
+    "status 1 with no failure": ({"tools/check-program": ("4000 passed, 0 failed", 1)},
+                                 "54321 passed, 1 failed", 1, list(STAGES)),
+    "status 0 with a failure": ({"tools/check-program": ("3999 passed, 1 failed", 0)},
+                                "54320 passed, 1 failed", 1, list(STAGES)),
+    "no counts": ({"tools/check-program": ("killed", 0)}, "50321 passed, 1 failed", 1,
+                  list(STAGES)),
+    "counts within a line": ({"rt": ("of 300 passed, 0 failed", 0)}, "21 passed, 1 failed", 1,
+                             ["dev/edits", "dev/graph", "rt"]),
+}
+
+
+def make_stage(name: str, line: str, status: int) -> str:
+    """Return a shell script that notes its name, prints two lines and ends with a status."""
+    # dev/release is also called to store lines and to keep the program, which is no stage.
+    condition = '[ "$1" = --compare ] || exit 0\n' if name == "dev/release" else ""
+    return (f'#!/bin/sh\n{condition}echo {name} >>"$STAGES"\necho "first line of {name}"\n'
+            f'echo "{line}"\nexit {status}\n')
+
+
+class Gate(Case):
+    def test_counts_what_each_stage_prints(self) -> None:
+        for name, (changes, last, status, expected_stages) in GATE_CASES.items():
+            folder = name.replace(" ", "-").replace("/", "")
+            for part in (".ci", "bin", "dev", "tools"):
+                os.makedirs(self.path(f"{folder}/{part}"))
+            shutil.copy(GATE, self.path(f"{folder}/.ci/run"))
+            for stage, line in STAGES.items():
+                text = make_stage(stage, *changes.get(stage, (line, 0)))
+                self.write_program(f"{folder}/{stage if '/' in stage else f'bin/{stage}'}", text)
+            self.write_program(f"{folder}/tools/sources", "#!/bin/sh\necho sum\n")
+            env = {**os.environ, "PATH": f"{self.path(folder)}/bin:{os.environ['PATH']}",
+                   "STAGES": self.path(f"{folder}/stages")}
+            env.pop("CI", None)
+            process = self.call(["bash", self.path(f"{folder}/.ci/run")], env=env)
+            with self.subTest(name):
+                self.check("last line", process.out.decode().splitlines()[-1], last)
+                self.check("status", process.status, status)
+                self.check("stages", self.read(f"{folder}/stages").decode().split(),
+                           expected_stages)
+
+
+EDIT = "sub_packets/must-fail/check_accepts_another_packet_of_a_row"
+REFUSED = ("note: src/packet_rules.rt:5:1: it is not proved that a (`returns`)\n"
+           "fn sub_packets::packet_rules::row: not proved\nlogic=not-proved\n")
+
+# What the prover prints, its status, and what dev/edits says about the edit.
+EDIT_CASES = {
+    "not proved": (REFUSED, 1, "1 refused, 0 not refused", 0),
+    "proved": ("logic=proved functions=3\n", 0, "0 refused, 1 not refused", 1),
+    "a syntax error in the sources": ("src/packet_rules.rt:5:1: error: a `;` is missing\n", 1,
+                                      "0 refused, 1 not refused", 1),
+    "a syntax error beside a goal": (f"src/packet_rules.rt:5:1: error: no\n{REFUSED}", 1,
+                                     "0 refused, 1 not refused", 1),
+    "the prover was killed": ("", 137, "0 refused, 1 not refused", 1),
+}
+
+
+class Edits(Case):
+    def test_counts_only_edits_that_the_prover_refused(self) -> None:
+        for name, (output, status, last, expected_status) in EDIT_CASES.items():
+            self.write("output", output.encode())
+            rt = self.write_program("rt", f"#!/bin/sh\ncat '{self.path('output')}'\n"
+                                          f"exit {status}\n")
+            process = self.call([get_tool_path("edits"), EDIT], env={**os.environ, "RT": rt})
+            with self.subTest(name):
+                self.check("last line", process.out.decode().splitlines()[-1], last)
+                self.check("status", process.status, expected_status)
+
+
+# The command, its output, and each status (`None` after a time limit) that agrees with it.
+STATUS_CASES: dict[str, tuple[str, str, list[int | None]]] = {
+    "an answer": ("./subttx show a", "3 subtitles\n", [0]),
+    "a refusal": ("./subttx check a b", "refused 45 Lost pes 1\n", [1]),
+    "counted faults": ("./subttx check a b --all", "2 faults\n", [1]),
+    "a usage fault": ("./subttx check a", "usage 0 Words\n", [2]),
+    "no clock": ("tools/qc a b", "relative 3 frames 1 transmissions\n", [3]),
+    "a pipe at the end": ("./subttx check a b | tail", "refused 45 Lost pes 1\n", [0, 1, 2, 3]),
+    "a pipe before the end": ("cat a | tail; ./subttx check a b", "refused 45 Lost pes 1\n", [1]),
+}
+
+
+class DocumentStatuses(unittest.TestCase):
+    def test_compares_the_status_unless_a_pipe_hides_it(self) -> None:
+        for name, (command, output, statuses) in STATUS_CASES.items():
+            possible: list[int | None] = [None, 0, 1, 2, 3]
+            with self.subTest(name):
+                self.assertEqual([status for status in possible
+                                  if has_expected_status(status, command, output)], statuses)
+
+
+class ReleasedLines(unittest.TestCase):
+    def test_finds_each_crate_without_the_prover_line_of_its_sources(self) -> None:
+        sums = list_crate_sums()
+        names = list(sums)
+        lines = {name: (digest, "logic=proved functions=1") for name, digest in sums.items()}
+        first, last = names[0], names[-1]
+        for case, crates, expected in (
+                ("all crates", lines, []),
+                ("no crates", {}, names),
+                ("the first is missing", {n: v for n, v in lines.items() if n != first}, [first]),
+                ("the last is missing", {n: v for n, v in lines.items() if n != last}, [last]),
+                ("other sources", {**lines, last: ("0", "logic=proved functions=1")}, [last])):
+            with self.subTest(case):
+                proved = ProvedProgram(None, None, None, crates)
+                self.assertEqual(find_crates_without_line(proved), expected)
+
+
+class ReleasedArchives(Case):
+    def test_needs_the_prover_line_of_each_crate(self) -> None:
+        dist = import_script("dist")
+        program = self.write_program("subttx", "")
+        crates = {name: (digest, "logic=proved functions=1")
+                  for name, digest in list_crate_sums().items()}
+        for name in ("", *list(crates)[:1], *list(crates)[-1:]):
+            lines = {crate: line for crate, line in crates.items() if crate != name}
+            self.write("PROVED", format_proved(ProvedProgram(None, None, None, lines)).encode())
+            with unittest.mock.patch.object(dist, "find_built_program", lambda: program), \
+                    self.subTest(f"without {name or 'nothing'}"):
+                if name:
+                    self.assertRaisesRegex(Stop, "has no line of each crate",
+                                           dist.find_proved_program)
+                else:
+                    self.assertEqual(dist.find_proved_program()[0], program)
