@@ -51,7 +51,7 @@ def make_result(verdict: str = "refused", **more: Any) -> dict[str, Any]:
         "line": f"{verdict} 72 Content" if is_judged else None,
         "worst_fault": None if verdict in (ACCEPTED, VALID, NOT_JUDGED)
         else f"{verdict} 72 Content", "sentence": "Refused.",
-        "reason": None if is_judged else "why", "scope": "transmission", "frames": None,
+        "reason": None if is_judged else "why", "scope": "pair", "frames": None,
         "transmissions": None, "fault_count": 0, "subtitle_counts": None, "request": REQUEST,
         "files_at_start": {"stl": None, "recording": None, "severity": None},
         "inputs": {"stl": None, "recording": None},
@@ -131,7 +131,7 @@ def list_choice_errors(known: dict[str, Any], lines: Sequence[str]) -> Iterator[
     own = {(item["option"], item["value"], item["part"]) for item in known["choices"]}
     yield from (item["line"] for item in known["choices"] if item["line"] not in printed)
     request = known["request"]
-    for part in known["parts"] if known["scope"] == "transmission" else ():
+    for part in known["parts"] if known["scope"] == "pair" else ():
         clock, number = part["clock"], part["part"]
         if part["pid"] is not None and request["pid"] is None:
             yield from {("pid", f"0x{part['pid']:X}")} - chosen

@@ -487,13 +487,13 @@ class ForkedPairs(Case):
 
     def test_resumes_only_from_current_results(self) -> None:
         items = [self.item("accepted", name, "--origin", "0") for name in (
-            "one", "two", "three", "four", "six", "seven", "eight")]
+            "one", "two", "three", "four", "seven", "eight")]
         items.append(BatchItem("five", None, "no pair"))
         program = describe_program(self.command_paths.program_path)
         mores: list[dict[str, Any]] = [
             {}, {}, {"program": {**PROGRAM.to_json(program), "sha256": "1" * 64}}, {},
-            {"format": 2}, {"files_at_start": None}, {"request": None}]
-        verdicts = ("refused", "not judged", "accepted", "waived", *["accepted"] * 3)
+            {"files_at_start": None}, {"request": None}]
+        verdicts = ("refused", "not judged", "accepted", "waived", *["accepted"] * 2)
         for item, verdict, more in zip(items, verdicts, mores):
             assert item.request
             have = {**make_result(verdict), "request": REQUEST.to_json(item.request),
@@ -506,6 +506,9 @@ class ForkedPairs(Case):
             rows = read_resumed_rows(self.calls, items)
             self.must("kept", {name: element.verdict for name, element in rows.items()} ==
                       {"one": "refused", "four": "waived"}, rows)
+        self.write("out/eight.json", json.dumps({**make_result(), "format": 7}).encode())
+        with self.assertRaisesRegex(Stop, "eight.json is in JSON format 7, .* another folder$"):
+            read_resumed_rows(self.calls, items)
 
     def test_prints_verdict_counts_and_the_remaining_time(self) -> None:
         rows = {word: row(word, word) for word in STATUSES if word not in (VALID, WAIVED, RELATIVE)}

@@ -183,6 +183,17 @@ class StoredResults(Case):
             self.must(f"{text!r}", (read_result(path) is not None) == is_one)
         self.must("not there", (read_result(self.path("none.json")) or {}).get("name") == "none")
 
+    def test_collect_refuses_another_format(self) -> None:
+        for name, change in (("a", {}), ("b", {"format": 7}), ("c", {"format": 7})):
+            self.write(f"{name}.json", json.dumps({**make_result(), **change}).encode())
+        process = self.tool("qc", "--collect", ".", "--json", "all.json")
+        reason = "./b.json is in JSON format 7, but this version reads format 8: judge these " \
+            "pairs again into another folder"
+        self.check("told", (process.status, process.out, process.told),
+                   (2, b"", [f"qc: {reason}"]))
+        self.check("pairs", [item["reason"] for item in json.loads(self.read("all.json"))["pairs"]],
+                   [reason])
+
     def test_refuses_an_inconsistent_result_without_a_pair(self) -> None:
         none = make_unjudged("one", "why")
         others: list[dict[str, Any]] = [{}, {"line": "accepted"}]
@@ -347,9 +358,9 @@ class WatchedFolders(Case):
             self.write(f"out/{name}.json", json.dumps(have).encode())
         reads = []
 
-        def read(path: str) -> dict[str, Any] | None:
+        def read(path: str, is_refused: bool = False) -> dict[str, Any] | None:
             reads.append(os.path.basename(path))
-            return read_result(path)
+            return read_result(path, is_refused)
 
         with mock.patch("subtitles.results.files.read_result", read), \
                 mock.patch("subtitles.cli.batch.read_result", read):

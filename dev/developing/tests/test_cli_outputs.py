@@ -19,13 +19,14 @@ from xml.etree import ElementTree
 from subtitles.cli import collection
 from subtitles.cli.single import now
 from subtitles.clock.start import GIVEN
+from subtitles.common.checks import LOSSES, NO_VIDEO, ROW_0, UNREAD
 from subtitles.common.command_line import escape_hidden
 from subtitles.common.files import SummedFile
 from subtitles.judging.status import STATUSES
 from subtitles.judging.verdict import Gap
 from subtitles.results.files import (
     Row, TestCase, format_cell, make_column_rows, make_junit_file as junit_of, format_change_time,
-    make_part_columns, escape_table_value, make_table_lines as csv_of, make_unjudged)
+    make_part_columns, make_row, escape_table_value, make_table_lines as csv_of, make_unjudged)
 from subtitles.results.schema import JUDGED_PART, LOSS, PartResult
 from subtitles.stream.gaps import LossPlace
 from .bench import Case
@@ -68,6 +69,9 @@ class Tables(unittest.TestCase):
             ("one.stl", "one.ts", "refused", "38", "5", "", "refused 38"),
             ("two", "", "not judged", "", "", "no file\nat all", ""),
             ("three.stl", "", "accepted", "", "", "", "accepted")])
+        unchecked = {"kind": NO_VIDEO, "part": 1, "from": None, "to": None, "text": "x"}
+        self.assertEqual([row["not_checked"] for row in self.rows([
+            make_result("accepted", not_checked=[unchecked])])], [NO_VIDEO])
 
     def test_has_subtitle_counts_in_each_row(self) -> None:
         for counts, expected in (({"judged": 9, "refused": 2}, ("9", "2")), (None, ("", ""))):
@@ -131,6 +135,19 @@ class Testcases(unittest.TestCase):
                                                    "time": "1.250"})
                 self.assertEqual([(item.tag, item.text, item.attrib) for item in suite[0]], [
                     (tag, "a\\ufffe\nline\none\ntwo", words)] * (tag is not None))
+
+    def test_names_unmade_checks_of_an_accepted_pair(self) -> None:
+        accepted = make_row(make_result("accepted", sentence="Accepted. Not checked: x.",
+                                        not_checked=[{"kind": kind, "part": 1, "from": None,
+                                                      "to": None, "text": "x"}
+                                                     for kind in (ROW_0, LOSSES, UNREAD)]), "a")
+        case = TestCase("a", "accepted", 0, "line", [], 0.5, sentence=accepted.sentence,
+                        not_checked=accepted.not_checked)
+        suite = ElementTree.fromstring(junit_of([case], "2026T10:00Z"))[0]
+        self.assertEqual([(item.tag, item.text) for item in suite[0]],
+                         [("system-out", "Accepted. Not checked: x.\nline")])
+        self.assertEqual([line.split() for line in collection.format_summary([accepted])][1],
+                         ["a", "accepted", "0", "not", "checked:", "video_unread,", "losses"])
 
 
 class Statuses(Case):

@@ -273,8 +273,9 @@ class OutputsAndSignals(CallCase):
                 reported = "\n".join(process.told)
                 self.must(f"{option} {name}", process.status == 0 and "accepted" in reported and
                           process.printed[0].startswith(begins[option]) and not any(
-                              line.startswith(("accepted", "pair ", "+ ", "1 pair"))
-                              for line in process.printed), process)
+                              line.startswith(("pair ", "+ ", "1 pair"))
+                              for line in process.printed)
+                          and not process.printed[-1].startswith("accepted"), process)
 
     def test_reports_an_output_that_fails_at_the_end(self) -> None:
         class Full(io.StringIO):
@@ -293,8 +294,8 @@ class OutputsAndSignals(CallCase):
                 statuses += [run_main(lambda _: 0, []), run_qc(["--json", self.path("two.json")])]
         self.must("told", statuses == [2] * 3 and errors.getvalue().count(
             ": the output: No space left on device\n") == 3, errors.getvalue())
-        self.must("its file", [self.object(name)["verdict"] for name in (
-            "one.json", "two.json")] == ["not judged"] * 2)
+        self.must("its file", [result["verdict"] for result in (
+            *self.object("one.json")["pairs"], self.object("two.json"))] == ["not judged"] * 2)
         for count in (1, 2) if os.path.exists("/dev/full") else ():
             os.symlink("/dev/full", self.path(f"full{count}"))
             several = [f"full{at}" for at in range(1, count + 1)]
@@ -376,5 +377,6 @@ class OutputsAndSignals(CallCase):
 
         with mock.patch.object(Printer, "write_line", staticmethod(put)):
             self.judge(self.fake_program(ACCEPTED))
-        self.must("the last line alone", seen[-1] == (ACCEPTED, True) and len(seen) > 2 and
+        last = f"{ACCEPTED}; not checked: no_video, losses"
+        self.must("the last line alone", seen[-1] == (last, True) and len(seen) > 2 and
                   not any(is_ignored for _, is_ignored in seen[:-1]), seen)

@@ -56,9 +56,10 @@ class Reasons(ProgrammeCase):
     def test_reports_headers_that_never_erase(self) -> None:
         judged_pair = self.judge(change_all_packets(self.sent, 3, 8, 0), *WORDS)
         words = "C4 (erase page) is clear in 49 of 49 headers"
-        self.must("said", judged_pair.word == "refused" and judged_pair.verdict.sentence ==
-                  'Refused: at 00:00:04:00, subtitle 1, "Number 1", may appear over old text on '
-                  f'some receivers: {words}; 49 faults in all.' and
+        sentence = 'Refused: at 00:00:04:00, subtitle 1, "Number 1", may appear over old text on ' \
+            f"some receivers: {words}; 49 faults in all. "
+        self.must("said", judged_pair.word == "refused" and
+                  judged_pair.verdict.sentence.startswith(sentence) and
                   judged_pair.result["hints"] == [f"67: {words}"] and
                   not any(COMPLETED_LATER in line for line in judged_pair.said), judged_pair.said)
 

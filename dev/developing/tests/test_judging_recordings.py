@@ -36,7 +36,7 @@ class Recordings(Case):
             pts == 1_822_675 * TICKS))
         for name, data, often, count, causes, last in (
                 ("right", read_example_file("story.pes"), "250", 0, 0,
-                 "accepted 226 frames 5 transmissions"),
+                 "accepted 226 frames 5 transmissions; not checked: no_video, losses"),
                 ("five faults", b"".join(five), "25", 8, 2,
                  "refused 67 Control frame 20:15:01:00 packet 0"),
                 ("late", slow, "25", 1, 1,

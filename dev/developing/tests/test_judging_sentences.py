@@ -180,7 +180,7 @@ class LeadingFaults(ProgrammeCase):
         self.must("lead", reported.result["line"].startswith("refused 67 ") and
                   lead.startswith("refused 72 ")
                   and "has the wrong text" in reported.result["sentence"]
-                  and reported.result["sentence"].endswith("; also 67 Control."), reported.result)
+                  and "; also 67 Control. " in reported.result["sentence"], reported.result)
         page = self.read("out/one.html").decode()
         self.must("report", f'id="verdict">{lead}<' in page and "<title>" in page)
 

@@ -4,11 +4,11 @@ from __future__ import annotations
 from typing import Sequence
 
 from subtitles.clock.start import Clock, GIVEN, TimedPart
+from subtitles.common.checks import HOLE, JUMP, NO_VIDEO, STEADY, UNREAD
 from subtitles.common.times import TICKS
 from subtitles.judging.status import (
     ACCEPTED, CheckSummary, Grounds, NOT_JUDGED, REFUSED, Severity, WARNED, decide)
 from subtitles.judging.timing import find_desync
-from subtitles.judging.unchecked import HOLE, JUMP, NO_VIDEO, STEADY, UNREAD
 from subtitles.stream.survey import Survey
 from .bench import Case
 

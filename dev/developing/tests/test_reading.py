@@ -5,12 +5,13 @@ import json
 from typing import Any
 
 from developing.pes import decode_pts, encode_triplet, make_packet, make_pes_packet
+from subtitles.common.checks import JUMP
 from subtitles.common.times import CLOCK, TICKS
 from subtitles.formats.layout import PLAIN, draw_text, make_page_rows
 from subtitles.formats.stl_writer import StoredPage, store_page
 from subtitles.formats.teletext import ENGLISH, FRENCH, GERMAN, OPTIONS, NationalOption
 from subtitles.judging.status import ACCEPTED, LOST, NOT_JUDGED, REFUSED, Severity
-from subtitles.judging.unchecked import JUMP, Unchecked
+from subtitles.judging.unchecked import Unchecked
 from subtitles.judging.verdict import Verdict
 from subtitles.reading.received import (
     ShownPage, choose_language, find_likely_errors, join_late_pages, mark_cuts)
@@ -151,7 +152,7 @@ class Decisions(Case):
     def test_a_large_jump_of_pictures_is_a_problem(self) -> None:
         for change, names in ((0, []), (25 * TICKS, ["pictures"])):
             verdict = Verdict(make_example_request("one.stl", "one.ts"), Severity(None), "now",
-                              unchecked_pictures=[Unchecked(JUMP, "unclear", change=change)])
+                              unchecked=[Unchecked(JUMP, "unclear", change=change)])
             self.check(f"{change}", [problem.name for problem in PageResult(
                 "888", None, (), verdict).problems], names)
 

@@ -7,13 +7,15 @@ from typing import Any
 
 from developing.pes import make_pes_packet
 from subtitles.clock.start import ESTIMATED_NOTE, GIVEN, RECORDING
+from subtitles.common.checks import CLOCK as CLOCK_CHECK
 from subtitles.common.markup import escape
 from subtitles.common.times import TICKS
 from subtitles.formats.listing import NamedFault
 from subtitles.formats.stl import Subtitle
-from subtitles.judging.coverage import UNCHECKED_DELAY, UNCHECKED_GAP
+from subtitles.judging.coverage import UNCHECKED_GAP
 from subtitles.judging.status import REFUSED
 from subtitles.judging.transmissions import ExpectedPages
+from subtitles.judging.unchecked import MISSING_TEXTS
 from subtitles.judging.verdict import Gap, Unjudged, Verdict
 from subtitles.recording.notices import Notice
 from subtitles.report import page as report_page
@@ -89,7 +91,7 @@ class CompletePage(Case):
                 *(f"{item.line}: {item.text}" for item in verdict.named_faults),
                 *[gap.format_line() for gap in verdict.gaps] * bool(kinds)]
             reported += [ESTIMATED_NOTE[1:]] * (is_estimated and len(kinds) == 1 and not why)
-            each = [] if why else [UNCHECKED_DELAY] * is_estimated
+            each = [] if why else [MISSING_TEXTS[CLOCK_CHECK]] * is_estimated
             each += [UNCHECKED_GAP] * (len(kinds) > 1 and not why)
             for number, kind in enumerate("" if why else kinds, 1):
                 each += [f"drawn {number}", *(line.partition(" ")[2] for line in self.KINDS[kind]

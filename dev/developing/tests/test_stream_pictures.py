@@ -8,10 +8,11 @@ from typing import Any, Mapping, Sequence
 
 from developing.pes import decode_pts
 from subtitles.clock.start import Clock, GIVEN, RECORDING, START, TimedPart
+from subtitles.common.checks import DRIFT
 from subtitles.common.times import CLOCK, TICKS, format_frame, pts_of
 from subtitles.formats.listing import PICTURES_LEFT
 from subtitles.judging.timing import find_departures, find_desync, find_late_jumps
-from subtitles.judging.unchecked import NOT_CHECKED, summarize_pictures
+from subtitles.judging.unchecked import summarize_pictures
 from subtitles.stream.pace import Pace, REGULAR
 from subtitles.stream.packets import PacketRun, Packets, find_announced_jumps
 from subtitles.stream.pictures import Departure, VideoLead, locate_departures
@@ -157,7 +158,7 @@ class DepartureFaults(Case):
                               source: str = GIVEN,
               origin: int = 0) -> tuple[list[tuple[str | None, str | None, str]], list[str]]:
         """Return the start, end and direction of each fault, and all notes."""
-        faults, notes, unchecked = find_desync(
+        faults, notes, unchecked, _ = find_desync(
             survey_extra_lines(make_lead_survey_lines(steps, origin), origin), PID,
             TimedPart(1000, 2000, Clock(origin, source)), within, 1)
         self.check("kinds",
@@ -167,7 +168,7 @@ class DepartureFaults(Case):
 
     def test_reports_departures_as_early_or_late(self) -> None:
         middle, end = "00:01:00:00", "00:01:19:24"
-        unclear = f"{NOT_CHECKED} at 1 place where the video's decoding times jump: the " \
+        unclear = f"{DRIFT} at 1 place where the video's decoding times jump: the " \
             "multiplexer's delay varies, pictures are lost too, or the place is within a second " \
             "of the programme's beginning or end"
         allowed = f"from {middle} on, subtitles are 2 frames late for viewers: the video's " \
@@ -214,7 +215,7 @@ class DepartureFaults(Case):
         lines = [line for line in make_lead_survey_lines([(by + 0.5, at) for by, at in steps])]
         for name, survey, expected in (
                 ("at random", survey_extra_lines(lines),
-                 [f"{NOT_CHECKED}: the video's decoding times have no usual step"]),
+                 [f"{DRIFT}: the video's decoding times have no usual step"]),
                 ("no line", Survey(), [])):
             desync = find_desync(survey, PID, TimedPart(1000, 2000, Clock(0, GIVEN)), 0, 1)
             self.check(name, (desync.faults, desync.notes, [*summarize_pictures(desync.unchecked)]),

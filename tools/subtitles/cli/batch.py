@@ -341,7 +341,8 @@ def read_resumed_rows(calls: PairRunner, items: list[BatchItem]) -> dict[str, Ro
     program, rows = describe_program(calls.command_paths.program_path), {}
     for item in items:
         path = calls.get_result_path(item)
-        result = read_result(path) if item.request and os.path.exists(path) else None
+        result = read_result(path, is_refused=True) if item.request and os.path.exists(path) \
+            else None
         if result and is_reusable(result, item, program):
             rows[item.name] = make_row(result, item.name)
     return rows

@@ -149,7 +149,7 @@ def collect(args: argparse.Namespace) -> int:
     if not os.path.isdir(folder):
         raise Stop(f"{folder} is not a folder")
     rows, paths = [], []
-    for path, result in read_results(folder):
+    for path, result in read_results(folder, is_refused=True):
         if result is None:
             print_stderr(f"{path} is not the JSON result of a pair and is skipped")
             continue
@@ -293,10 +293,11 @@ def worst_fault(row: Row) -> str:
     """Return the worst fault of a pair and its hint, or the reason why the pair was not judged."""
     if row.verdict == VALID:
         return "no recording was judged"
-    if row.verdict == ACCEPTED or not row.line:
+    if row.verdict in (ACCEPTED, RELATIVE) and not row.faults:
+        notes = [NO_CLOCK] if row.verdict == RELATIVE else []
+        return "; ".join(notes + [f"not checked: {row.not_checked}"] * bool(row.not_checked))
+    if not row.line:
         return ""
-    if row.verdict == RELATIVE and not row.faults:
-        return NO_CLOCK
     line = row.line.splitlines()[0].removeprefix("refused ").partition("; ")[0]
     more = f"; {row.counts}" if row.counts else ""
     return (f"{line}: {row.hint}" if row.hint else line) + more
@@ -335,4 +336,4 @@ def make_junit_chunks(rows: Sequence[Row], date: str) -> Iterator[bytes]:
     """Yield the JUnit file with a test case for each pair."""
     yield make_junit_file([
         TestCase(row.title, row.verdict, row.status, row.line, row.lines, row.seconds,
-                 row.counts, row.sentence) for row in rows], date)
+                 row.counts, row.sentence, row.not_checked) for row in rows], date)

@@ -142,17 +142,27 @@ def main(text: str, program_name: str, line: list[str]) -> int:
     except (Exception, KeyboardInterrupt) as reason:
         if not isinstance(reason, OutputIsInput):
             paths = {option: find_output_path(line, option) for option in MAKE_CONTENTS}
-            write_unjudged(find_pair_name(line), paths, format_error(reason))
+            has_pairs = any(word.partition("=")[0] in (BATCH.text, COLLECT.text) for word in line)
+            write_unjudged(find_pair_name(line), paths, format_error(reason), has_pairs)
         raise
 
 
-def write_unjudged(name: str, paths: dict[str, str | None], reason: str) -> None:
-    """Write each requested output file with the verdict `not judged`."""
+def write_unjudged(name: str, paths: dict[str, str | None], reason: str,
+                   has_pairs: bool = False) -> None:
+    """Write each requested output file with the verdict `not judged`. If `has_pairs` is true, the
+    JSON file is that of a batch."""
     result = files.make_unjudged(name, reason)
     for option, path in paths.items():
         with contextlib.suppress(Stop, OSError):
             if path is not None and files.can_replace(path, FIRST_BYTES[option]):
-                files.write_file(path, lambda: MAKE_CONTENTS[option](result))
+                files.write_file(path, lambda: make_batch_file(result) if has_pairs
+                                 and option == "--json" else MAKE_CONTENTS[option](result))
+
+
+def make_batch_file(result: dict[str, Any]) -> Iterable[bytes]:
+    """Return the JSON file of a batch with a single result."""
+    from . import collection  # only loaded if needed
+    return collection.make_json_chunks([result], result["status"], single.now())
 
 
 def make_unjudged_junit_file(result: dict[str, Any]) -> list[bytes]:

@@ -241,8 +241,8 @@ def make_verdict(request: Request, listener: Listener) -> Verdict:
     """Return an empty verdict that shares the notes, commands and choices of `listener`."""
     return Verdict(request, Severity(
         request.severity, request.is_loss_allowed, request.pace is not None), now(),
-                   notes=listener.notes, unchecked_losses=listener.unchecked_losses,
-                   commands=listener.commands, selections=listener.selections)
+                   notes=listener.notes, commands=listener.commands,
+                   selections=listener.selections)
 
 
 def refuse_outputs(call: PairOptions, request: Request, out: str | None, name: str) -> None:
@@ -475,7 +475,8 @@ class OutputFiles:
                                 verdict.worst_line or verdict.unjudged_reason or "",
                                 self.list_lines(), verdict.seconds,
                                 verdict.subtitle_counts.describe() if verdict.subtitle_counts
-                                else "", verdict.sentence)
+                                else "", verdict.sentence,
+                                ", ".join(verdict.unchecked_kinds))
         yield results.make_junit_file([case], verdict.date)
 
     def list_lines(self) -> list[str]:

@@ -5,5 +5,6 @@ files          reading files with a limit, writing them completely or not at all
 times          times of day, frames, PTS; spans of frames or of PES packets
 shapes         types of JSON values, and their schema
 markup         markup for HTML pages, with escaped text
+checks         the checks that a result depends on, and the kinds of what was not checked
 program        the built program, its line in PROVED, and its installation
 """

@@ -3,35 +3,29 @@ from __future__ import annotations
 
 from typing import Iterator
 
+from ..common.checks import NO_RECORDING, NOT_READ, OUTSIDE, REFUSED_SUBTITLES, ROW_0
 from ..common.command_line import counted
 from ..common.times import ALL_DAY
 from ..formats.stl import SubtitleFile
-from .unchecked import (
-    COMMON_DELAY, LOSSES, NO_RECORDING, NO_VIDEO, NOT_READ, OUTSIDE, REFUSED_SUBTITLES, ROW_0,
-    Unchecked, summarize_pictures)
+from .unchecked import Unchecked, summarize_pictures
 from .verdict import Verdict
 
 UNCHECKED_ROW_0 = "row 0, the header line of the page"
-UNCHECKED_DELAY = "a delay of all subtitles, since the clock was estimated"
 UNCHECKED_GAP = "the transmission between the parts"
 
 
 def list_unchecked(verdict: Verdict) -> Iterator[Unchecked]:
     """Yield everything that was not checked."""
-    for kind, text in list_outside(verdict):
-        yield Unchecked(kind, text, part=None)
-    for text in verdict.unchecked_losses:
-        yield Unchecked(LOSSES, text, part=None)
-    yield from verdict.unchecked_pictures
+    yield from verdict.list_unchecked()
+    yield from (Unchecked(kind, text) for kind, text in list_outside(verdict))
 
 
 def describe_unchecked(verdict: Verdict) -> Iterator[str]:
     """Yield descriptions of everything that was not checked."""
+    entries = verdict.list_unchecked()
+    yield from dict.fromkeys(item.text for item in entries if not item.has_video)
+    yield from summarize_pictures(entries)
     yield from (text for _, text in list_outside(verdict))
-    yield from verdict.unchecked_losses
-    yield from dict.fromkeys(item.line for item in verdict.unchecked_pictures
-                             if item.kind == NO_VIDEO)
-    yield from summarize_pictures(verdict.unchecked_pictures)
 
 
 def list_outside(verdict: Verdict) -> Iterator[tuple[str, str]]:
@@ -39,8 +33,6 @@ def list_outside(verdict: Verdict) -> Iterator[tuple[str, str]]:
     request = verdict.request
     if request.recording is None:
         yield NO_RECORDING, "the transmission: no recording was given"
-    if verdict.estimated_clock_note:
-        yield COMMON_DELAY, UNCHECKED_DELAY
     if len(verdict.parts) > 1:
         yield OUTSIDE, UNCHECKED_GAP
     if any(part.pes for part in verdict.parts):

@@ -7,6 +7,7 @@ import functools
 from typing import Iterator, NamedTuple, Sequence
 
 from ..clock.start import TimedPart
+from ..common.checks import LOSSES, PICTURES
 from ..common.command_line import Stop, counted
 from ..common.files import sum_file
 from ..common.times import ALL_DAY, FRAMES_OF_A_DAY, FrameRange, format_frame, pts_of
@@ -391,8 +392,10 @@ class PairJudge:
             sum_file(recording.path, recording.display_name)
             if self.is_result_written and recording.is_piped else None)
         self.current_part = part
-        part = measure_part_pace(part, [(subtitle.begin, subtitle.end) for subtitle in own],
-                                 listener)
+        part, unchecked = measure_part_pace(
+            part, [(subtitle.begin, subtitle.end) for subtitle in own], listener)
+        self.verdict.unchecked += unchecked
+        self.verdict.made_checks.add((LOSSES, part.number))
         self.current_part = part
         check_part(part, self.command_paths, listener)
         self.refuse_adjoining_cut(part)
@@ -441,11 +444,12 @@ class PairJudge:
     def check_pictures(self, part: Part) -> None:
         """Add a fault for each interval in which the pictures drift from the subtitles."""
         recording, alignment = part.judged_recording
-        faults, notes, unchecked = find_desync(
+        faults, notes, unchecked, is_made = find_desync(
             recording.survey, recording.packets.pid, alignment, part.request.within, part.number,
             part.list_pts())
         self.verdict.named_faults += faults
-        self.verdict.unchecked_pictures += unchecked
+        self.verdict.unchecked += unchecked
+        self.verdict.made_checks |= {(PICTURES, part.number)} if is_made else set()
         self.listener.add_notes(*notes)
 
     def make_expected_pages(self, request: Request, subtitles: list[Subtitle]) -> ExpectedPages:

@@ -6,6 +6,7 @@ import enum
 from typing import Collection, Iterable, NamedTuple, Sequence
 
 from ..clock.start import advise_on_clock
+from ..common.checks import CLOCK, describe_kinds
 from ..common.command_line import counted, format_frame_range, was
 from ..common.times import format_frame
 from ..formats.listing import (
@@ -241,22 +242,29 @@ class Facts(NamedTuple):
     parts: int = 1  # number of parts, each with its own clock
     delay: int = 0  # delay of all subtitles in frames, if the operator gave the clock
     has_picture: bool = False  # whether the operator may use --start
-    has_unchecked: bool = False  # whether pictures were not compared with the subtitles
+    unchecked: Sequence[str] = ()  # kinds of the checks that were not made everywhere
 
 
 def write_sentence(facts: Facts) -> str:
-    """Return the sentence about a verdict."""
+    """Return the sentence about a verdict, and one about the checks that were not made."""
     if facts.word == NOT_JUDGED:
         return f"Not judged: {(facts.reason or NOT_ANSWERED).splitlines()[0]}."
+    # The sentence of a relative verdict already says that a delay was not checked.
+    unchecked = describe_kinds([kind for kind in facts.unchecked
+                                if kind != CLOCK or facts.word != RELATIVE])
+    return f"{write_verdict(facts)} {unchecked}".rstrip()
+
+
+def write_verdict(facts: Facts) -> str:
+    """Return the sentence about a verdict on a pair that was judged."""
     if facts.word == REFUSED:
         waived = f"; waived: {describe_counts(facts.waived)}" if facts.waived else ""
         return f"Refused: {describe_faults(facts)}{waived}."
     if facts.word == RELATIVE:
         return f"{describe_relative_match(facts)} was not checked: " \
-            f"{advise_on_clock(facts.has_picture)}.{describe_unchecked(facts)}"
+            f"{advise_on_clock(facts.has_picture)}."
     if facts.word == WAIVED:
-        return f"{describe_waived_faults(facts)}.{f' {FILE_ONLY}.' * facts.is_file}" \
-            f"{describe_unchecked(facts)}"
+        return f"{describe_waived_faults(facts)}.{f' {FILE_ONLY}.' * facts.is_file}"
     acceptance = "all faults that were found are declared as warnings" if facts.faults \
         or facts.refused else FILE_ONLY.lower() if facts.is_file \
         else "everything that was received is right"
@@ -271,13 +279,7 @@ def write_sentence(facts: Facts) -> str:
     if facts.word == VALID:
         return f"The subtitle file is valid: {counted(facts.subtitles, 'subtitle')}. {FILE_ONLY}."
     assert facts.word == ACCEPTED
-    return f"Accepted: {describe_success(facts)}.{describe_unchecked(facts)}"
-
-
-def describe_unchecked(facts: Facts) -> str:
-    """Return the sentence about pictures that were not compared with the subtitles."""
-    return " Not checked everywhere: whether the video and the subtitles drift apart." \
-        if facts.has_unchecked else ""
+    return f"Accepted: {describe_success(facts)}."
 
 
 def describe_waived_faults(facts: Facts) -> str:

@@ -9,6 +9,7 @@ from ..clock.origin import OriginEstimate, OriginSearch, PartOrigin, estimate_or
 from ..clock.start import (
     Clock, GIVEN, NoFirstPicture, RECORDING, START, TCP, TimedPart, compute_start_clock,
     read_start_frame, refuse_outside_recording)
+from ..common.checks import LOSSES
 from ..common.command_line import Stop, counted, format_error, format_pid
 from ..common.times import (
     FRAMES_A_SECOND, FRAMES_OF_A_DAY, TICKS, describe_duration, format_frame, pts_of,
@@ -230,10 +231,11 @@ def find_part_packets(search: PartSearch, part: Part, listener: Listener) -> Ran
 NEXT_FRAME = 1  # interval between PES packets, in frames, if each frame has one
 
 
-def measure_part_pace(part: Part, times: Sequence[tuple[int, int]], listener: Listener) -> Part:
-    """Return a copy of the part with --pace computed from the usual intervals between PES packets.
-    Do not compute --pace if it is given, or if the intervals are irregular. Store which losses
-    can't be detected. `times` has the TCI and TCO of each subtitle."""
+def measure_part_pace(part: Part, times: Sequence[tuple[int, int]], listener: Listener) \
+        -> tuple[Part, list[Unchecked]]:
+    """Return a copy of the part with --pace computed from the usual intervals between PES packets,
+    and entries about losses that can't be detected. Do not compute --pace if it is given, or if the
+    intervals are irregular. `times` has the TCI and TCO of each subtitle."""
     number, request, (recording, _) = part.number, part.request, part.judged_recording
     pace, unseen_frames = measure_pace(part, times)
     jumps, count = find_late_jumps(part, pace)
@@ -249,8 +251,8 @@ def measure_part_pace(part: Part, times: Sequence[tuple[int, int]], listener: Li
             listener.add_selection(Selection(PACE_CHOICE, None, f"not checked: {note}",
                                              part=number),
                                    is_printed=False)
-    listener.add_unchecked_losses(*notes)
-    return dataclasses.replace(part, request=request, jumps=jumps)
+    return dataclasses.replace(part, request=request, jumps=jumps), [
+        Unchecked(LOSSES, text, number) for text in dict.fromkeys(notes) if text]
 
 
 def measure_pace(part: Part, times: Sequence[tuple[int, int]]) -> tuple[Pace, int | None]:
@@ -333,11 +335,12 @@ def describe_missing_pcr(recording: Recording) -> str:
 
 class DesyncFindings(NamedTuple):
     """The faults of pictures that drift from the subtitles, notes about drifts that --within
-    allows, and what could not be checked."""
+    allows, entries about what was not checked, and whether any picture was compared."""
 
     faults: list[NamedFault]
     notes: list[str]
     unchecked: list[Unchecked]
+    is_made: bool
 
 
 def find_desync(survey: Survey, pid: int, alignment: TimedPart, within: int, number: int,
@@ -361,7 +364,7 @@ def find_desync(survey: Survey, pid: int, alignment: TimedPart, within: int, num
             unchecked.append(make_irregular_video(number))
     unclear += find_departures(locate_changes_of_video(several), alignment)
     unchecked += make_unclear_places(unclear, alignment.origin, number)
-    return DesyncFindings(faults, notes, unchecked)
+    return DesyncFindings(faults, notes, unchecked, any(by_video.values()))
 
 
 def find_departures(several: Sequence[Departure], alignment: TimedPart) -> list[Departure]:

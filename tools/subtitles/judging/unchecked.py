@@ -1,35 +1,18 @@
-"""What was not checked, and where it was not checked whether pictures drift from the subtitles."""
+"""Where it was not checked whether the pictures drift from the subtitles."""
 from __future__ import annotations
 
 import statistics
 from typing import Collection, Iterator, Mapping, NamedTuple, Sequence
 
 from ..clock.start import NAMES, OTHER_STREAM_TYPES, TimedPart
+from ..common.checks import (
+    CHECKS, CLOCK, CheckState, DRIFT, HOLE, IRREGULAR, JUMP, LISTED, NO_VIDEO, PHRASES,
+    PICTURE_KINDS, STEADY, UNREAD, decide_check)
 from ..common.command_line import counted, format_pid
 from ..common.times import TICKS, compute_time, subtract_pts
 from ..stream.pictures import Departure, VideoLead, find_steady_change
 from ..stream.survey import Survey
 
-
-NOT_CHECKED = "whether the video and the subtitles drift apart"
-# Kinds, which are words for result files. First those about pictures: all except `NO_VIDEO` mean
-# that the programme has video.
-NO_VIDEO = "no_video"  # a programme without video, or a file of PES packets
-UNREAD = "video_unread"  # no picture of a video PID was compared with the subtitles
-HOLE = "video_gap"  # for some time, no picture was compared
-JUMP = "video_jump"  # it is unclear whether the pictures drift
-IRREGULAR = "video_irregular"  # most decoding times are irregular
-STEADY = "video_steady"  # the delay changes steadily
-PICTURE_KINDS = (NO_VIDEO, UNREAD, HOLE, JUMP, IRREGULAR, STEADY)
-NO_RECORDING = "no_recording"  # only the subtitle file was judged
-NOT_READ = "not_read"  # the recording was not read, since the subtitle file was refused
-COMMON_DELAY = "common_delay"  # a delay that all subtitles share
-ROW_0 = "row_0"  # the header line
-OUTSIDE = "outside"  # PES packets, subtitles or losses outside of what was judged
-REFUSED_SUBTITLES = "refused_subtitles"  # subtitles that are refused in the file
-LOSSES = "losses"  # losses that can't be detected
-KINDS = (*PICTURE_KINDS, NO_RECORDING, NOT_READ, COMMON_DELAY, ROW_0, OUTSIDE, REFUSED_SUBTITLES,
-         LOSSES)
 
 ENHANCEMENTS = {0x1E, 0x1F, 0x20, 0x25}  # stream_types that add to another video PID
 MAX_HOLE = 5 * 90_000  # longest time without a comparison that needs no mention, in ticks
@@ -38,18 +21,22 @@ SECOND = 90_000
 # From this change of the mean lead on, pictures that were lost do not explain it: the pair is not
 # judged. A multiplexer changes its delay by less.
 MIN_UNJUDGED_CHANGE = 25 * TICKS
+# The text of the entry about a check that was not made, if no other entry says why
+MISSING_TEXTS = {CLOCK: "a delay of all subtitles, since the clock was estimated",
+                 **{name: f"{PHRASES[kinds[0]]}: the check was not made"
+                    for name, kinds in CHECKS.items() if name != CLOCK}}
 
 
 class Unchecked(NamedTuple):
-    """Something that was not checked: a kind, a text, the time codes between which it was not
-    checked, the number of the part (`None` for all parts), and the least number of ticks by which
-    the lead changes."""
+    """An entry about a check that was not made: its kind, a text, the number of the part (`None`
+    for the whole pair), the time codes between which the check was not made (`None` for
+    everywhere), and the least number of ticks by which the lead changes."""
 
     kind: str
-    line: str
+    text: str
+    part: int | None = None
     begin: str | None = None
     end: str | None = None
-    part: int | None = 1
     change: int = 0
 
     @property
@@ -65,8 +52,7 @@ class Unchecked(NamedTuple):
 def find_unread_video(survey: Survey, pid: int, number: int) -> Unchecked:
     """Explain why no picture was compared with the subtitles on the Teletext PID `pid`."""
     if not survey.size:
-        return Unchecked(NO_VIDEO, f"{NOT_CHECKED}: a file of PES packets has no pictures",
-                         part=number)
+        return Unchecked(NO_VIDEO, f"{DRIFT}: a file of PES packets has no pictures", number)
     programmes = survey.find_programmes(pid)
     kinds = {item: kind for programme in programmes for item, kind in programme.kinds.items()}
     known = {**NAMES, **OTHER_STREAM_TYPES}
@@ -74,7 +60,7 @@ def find_unread_video(survey: Survey, pid: int, number: int) -> Unchecked:
     others = {item for programme in survey.programmes for item in programme.kinds}
     unnamed = sorted(item for item in survey.videos if item not in others)
     if not named and not unnamed:
-        return Unchecked(NO_VIDEO, f"{NOT_CHECKED}: the programme has no video", part=number)
+        return Unchecked(NO_VIDEO, f"{DRIFT}: the programme has no video", number)
     if not named:
         reason = f"no PMT names {format_pid(unnamed[0])}, which has pictures"
     elif readable := [item for item in named if item in survey.videos]:
@@ -86,7 +72,7 @@ def find_unread_video(survey: Survey, pid: int, number: int) -> Unchecked:
         reason = f"{format_pid(named[0])}, which the PMT names as " \
             f"{known.get(kinds[named[0]], 'video')}, has no PES packets of video that can be " \
             "read: it is scrambled or damaged"
-    return Unchecked(UNREAD, f"{NOT_CHECKED}: {reason}", part=number)
+    return Unchecked(UNREAD, f"{DRIFT}: {reason}", number)
 
 
 def find_other_videos(survey: Survey, pid: int, compared: Collection[int], number: int) \
@@ -98,9 +84,9 @@ def find_other_videos(survey: Survey, pid: int, compared: Collection[int], numbe
         is_named = kind in NAMES or kind in OTHER_STREAM_TYPES and kind not in ENHANCEMENTS
         has_pictures = item in survey.videos and kind not in ENHANCEMENTS
         if item not in compared and (is_named or has_pictures):
-            yield Unchecked(UNREAD, f"{NOT_CHECKED} on {format_pid(item)}: only the pictures of "
+            yield Unchecked(UNREAD, f"{DRIFT} on {format_pid(item)}: only the pictures of "
                             f"{' and '.join(map(format_pid, sorted(compared)))} were compared",
-                            part=number)
+                            number)
 
 
 def find_holes(several: Sequence[Sequence[VideoLead]], pts: Sequence[int], origin: int,
@@ -124,8 +110,8 @@ def find_holes(several: Sequence[Sequence[VideoLead]], pts: Sequence[int], origi
         if last - start > limit or begin is end is None:
             begin_time, end_time = (compute_time((first + item) % (1 << 33), origin)
                                     for item in (start, last))
-            yield Unchecked(HOLE, f"{NOT_CHECKED} from {begin_time} to {end_time}: no picture with "
-                            "a time stamp was read there", begin_time, end_time, number)
+            yield Unchecked(HOLE, f"{DRIFT} from {begin_time} to {end_time}: no picture with "
+                            "a time stamp was read there", number, begin_time, end_time)
 
 
 def find_unchecked(survey: Survey, pid: int, by_video: Mapping[int, Sequence[VideoLead]],
@@ -139,8 +125,8 @@ def find_unchecked(survey: Survey, pid: int, by_video: Mapping[int, Sequence[Vid
     yield from find_holes([*by_video.values()], pts, alignment.origin, number)
     for leads in by_video.values():
         if ticks := find_steady_change(leads):
-            yield Unchecked(STEADY, f"{NOT_CHECKED}: the delay between them changes steadily, by "
-                            f"{abs(ticks) / TICKS:.1f} frames", part=number)
+            yield Unchecked(STEADY, f"{DRIFT}: the delay between them changes steadily, by "
+                            f"{abs(ticks) / TICKS:.1f} frames", number)
 
 
 def make_unclear_places(departures: Sequence[Departure], origin: int, number: int) \
@@ -151,20 +137,32 @@ def make_unclear_places(departures: Sequence[Departure], origin: int, number: in
                       for item in (departure.earlier_pts, departure.pts))
         more = f", and the subtitles are at least {departure.change / TICKS:.1f} frames earlier " \
             "or later after it" if departure.change >= TICKS else ""
-        yield Unchecked(JUMP, f"{NOT_CHECKED} between {begin} and {end}, where the video's "
-                        f"decoding times jump{more}", begin, end, number, departure.change)
+        yield Unchecked(JUMP, f"{DRIFT} between {begin} and {end}, where the video's "
+                        f"decoding times jump{more}", number, begin, end, departure.change)
 
 
 def make_irregular_video(number: int) -> Unchecked:
-    return Unchecked(IRREGULAR, f"{NOT_CHECKED}: the video's decoding times have no usual step",
-                     part=number)
+    return Unchecked(IRREGULAR, f"{DRIFT}: the video's decoding times have no usual step",
+                     number)
+
+
+def list_check_entries(entries: Sequence[Unchecked], parts: Sequence[tuple[int, Mapping[
+        str, CheckState]]]) -> Iterator[Unchecked]:
+    """Yield an entry for each check of a part that was neither made nor has an entry. `parts` has
+    the number of each part and the state of its checks."""
+    for number, states in parts:
+        for name, kinds in CHECKS.items():
+            is_listed = any(item.kind in kinds and item.part in (None, number) for item in entries)
+            state = states.get(name, CheckState())._replace(is_listed=is_listed)
+            if decide_check(state) == LISTED and not is_listed:
+                yield Unchecked(kinds[0], MISSING_TEXTS[name], number)
 
 
 def summarize_pictures(several: Sequence[Unchecked]) -> Iterator[str]:
     """Yield texts about pictures that were not compared, with one text about all jumps. Leave out
     programmes without video."""
-    yield from dict.fromkeys(item.line for item in several if item.has_video and item.kind != JUMP)
+    yield from dict.fromkeys(item.text for item in several if item.has_video and item.kind != JUMP)
     if count := sum(item.kind == JUMP for item in several):
-        yield f"{NOT_CHECKED} at {counted(count, 'place')} where the video's decoding times " \
+        yield f"{DRIFT} at {counted(count, 'place')} where the video's decoding times " \
             "jump: the multiplexer's delay varies, pictures are lost too, or the place is within " \
             "a second of the programme's beginning or end"

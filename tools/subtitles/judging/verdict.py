@@ -6,10 +6,12 @@ import dataclasses
 from typing import Callable, Collection, Iterable, NamedTuple, Sequence
 
 from ..clock.start import ESTIMATED_LATER_NOTE, ESTIMATED_NOTE, advise_on_clock
+from ..common.checks import CHECK_KINDS, CLOCK, CheckState, LOSSES, PICTURES, SEAM
 from ..common.command_line import format_frame_range, was
 from ..common.files import SummedFile
 from ..common.times import compute_time
-from ..formats.listing import FaultLine, NamedFault, PICTURES_LEFT, STL_FAULTS, UNDECIDED
+from ..formats.listing import (
+    FaultLine, LOST_PACKETS, NamedFault, PICTURES_LEFT, SILENT, STL_FAULTS, UNDECIDED)
 from ..formats.stl import Subtitle
 from ..recording.recording import Recording
 from ..recording.notices import Notice
@@ -22,7 +24,7 @@ from .status import (
     ACCEPTED, Decision, Grounds, LOST, NOT_JUDGED, REFUSED, RELATIVE, Severity, WAIVED, WARNED,
     decide)
 from .subtitles import SubtitleCounts, ValidSubtitles
-from .unchecked import Unchecked, summarize_pictures
+from .unchecked import Unchecked, list_check_entries, summarize_pictures
 
 
 # Faults that may delay a page. Without them, and with --within 0, each page is complete at its TCI.
@@ -146,8 +148,9 @@ class Verdict:
     gaps: list[Gap] = dataclasses.field(default_factory=list)
     warnings: list[Notice] = dataclasses.field(default_factory=list)
     notes: list[str] = dataclasses.field(default_factory=list)  # neither faults nor warnings
-    unchecked_losses: list[str] = dataclasses.field(default_factory=list)
-    unchecked_pictures: list[Unchecked] = dataclasses.field(default_factory=list)
+    # Checks that were not made everywhere, and the name and part of each check that was made
+    unchecked: list[Unchecked] = dataclasses.field(default_factory=list)
+    made_checks: set[tuple[str, int]] = dataclasses.field(default_factory=set)
     hints: list[str] = dataclasses.field(default_factory=list)  # one for each fault number
     commands: list[str] = dataclasses.field(default_factory=list)
     selections: list[Selection] = dataclasses.field(default_factory=list)
@@ -204,25 +207,42 @@ class Verdict:
 
     def collect_grounds(self) -> Grounds:
         is_later = bool(self.estimated_clock_note) and self.has_clock
-        kinds = [*(warning.kind for warning in self.warnings), *[ESTIMATED] * is_later,
-                 *self.unchecked_kinds]
+        kinds = [*(warning.kind for warning in self.warnings), *[ESTIMATED] * is_later]
         return Grounds([part.summarize_check() for part in self.parts], self.severity,
                        [gap.is_judged and gap.place.gap_marker is None for gap in self.gaps], kinds,
                        self.request.is_strict, [self.unjudged.reason] if self.unjudged else [],
                        self.failed_outputs, [fault.name for fault in self.named_faults],
                        self.has_clock, self.request.is_relative_allowed,
-                       [f"not checked {item.line}" for item in self.unchecked_pictures
+                       [f"not checked {item.text}" for item in self.unchecked
                         if item.may_be_wrong] if self.severity.is_error(PICTURES_LEFT) else [])
+
+    def find_check_states(self, part: Part) -> dict[str, CheckState]:
+        """Return the state of each check of a part."""
+        names = {name for name, number in self.made_checks if number == part.number}
+        has_left = any(fault.name == PICTURES_LEFT and fault.part == part.number
+                       for fault in self.named_faults)
+        is_lost = bool(part.check_output.fault_numbers & {LOST_PACKETS, SILENT})
+        return {PICTURES: CheckState(PICTURES in names, has_left),
+                LOSSES: CheckState(LOSSES in names, is_lost),
+                CLOCK: CheckState(part.clock is not None and not part.clock.is_estimated),
+                SEAM: CheckState(True)}
+
+    def list_unchecked(self) -> list[Unchecked]:
+        """Return the checks of the judged parts that were not made everywhere."""
+        parts = [(part.number, self.find_check_states(part)) for part in self.parts if part.pes]
+        return [*self.unchecked, *list_check_entries(self.unchecked, parts)]
 
     @property
     def unchecked_kinds(self) -> list[str]:
-        """Return the kinds of what was not checked although the programme has video."""
-        return [*dict.fromkeys(item.kind for item in self.unchecked_pictures if item.has_video)]
+        """Return the kinds of the checks that were not made everywhere."""
+        found = {item.kind for item in self.list_unchecked()}
+        return [kind for kind in CHECK_KINDS if kind in found]
 
     def list_unchecked_lines(self) -> list[str]:
         """Return the lines about losses and pictures that were not checked."""
+        losses = dict.fromkeys(item.text for item in self.unchecked if item.kind == LOSSES)
         return [f"not checked: {text}" for text in (
-            *self.unchecked_losses, *summarize_pictures(self.unchecked_pictures))]
+            *losses, *summarize_pictures(self.list_unchecked()))]
 
     @property
     def decision(self) -> Decision:
@@ -271,7 +291,7 @@ class Verdict:
             named=self.worst_named_fault.text if self.worst_named_fault else "",
             is_file=self.request.recording is None, within=self.request.within,
             parts=len(self.parts), delay=self.delay_of_all, has_picture=self.has_picture,
-            has_unchecked=bool(self.unchecked_kinds))
+            unchecked=self.unchecked_kinds)
         if refused and self.valid_subtitles:
             facts = self.add_transmission_facts(facts, self.valid_subtitles)
         elif refused and not self.worst_named_fault:

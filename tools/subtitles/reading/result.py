@@ -79,8 +79,8 @@ class PageResult:
         return [*known, *(Problem(fault.name, fault.text) for fault in self.verdict.named_faults),
                 *(Problem("lost", gap.format_line(), gap.after) for gap in self.verdict.gaps
                   if gap.is_judged),
-                *(Problem("pictures", item.line, item.begin)
-                  for item in self.verdict.unchecked_pictures if item.may_be_wrong),
+                *(Problem("pictures", item.text, item.begin)
+                  for item in self.verdict.unchecked if item.may_be_wrong),
                 *(Problem(warning.kind.replace("_", " "), warning.line, warning.time)
                   for warning in self.verdict.warnings if warning.kind in PROBLEM_WARNINGS)]
 

@@ -325,7 +325,6 @@ class Listener:
         self.commands: list[str] = []
         self.selections: list[Selection] = []
         self.notes: list[str] = []
-        self.unchecked_losses: list[str] = []  # losses that can't be detected
 
     def print_line(self, line: str) -> None:
         self.printer.print_line(line)
@@ -344,8 +343,3 @@ class Listener:
     def add_notes(self, *lines: str) -> None:
         """Store notes, which are printed with the verdict."""
         self.notes += [line for line in lines if line and line not in self.notes]
-
-    def add_unchecked_losses(self, *texts: str) -> None:
-        """Store descriptions of losses that can't be detected."""
-        self.unchecked_losses += [text for text in texts
-                                  if text and text not in self.unchecked_losses]

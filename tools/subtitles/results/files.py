@@ -12,6 +12,7 @@ import xml.etree.ElementTree as tree
 from typing import Any, Callable, Iterable, Iterator, NamedTuple, Sequence
 
 from ..clock.start import RECORDING
+from ..common.checks import CHECK_KINDS
 from ..common.command_line import Stop, format_error, escape_hidden_lines
 from ..common.files import (
     is_replaced, open_output, open_result, read_bounded_bytes, read_first_bytes)
@@ -93,6 +94,7 @@ class Row(NamedTuple):
     counts: str = ""  # text such as `7 subtitles judged, 2 refused`; empty if none is refused
     sentence: str = ""
     clock: str = ""  # reason why a delay was not checked
+    not_checked: str = ""  # kinds of the checks that were not made everywhere
 
     @property
     def is_judged(self) -> bool:
@@ -134,9 +136,10 @@ def write_result_file(path: str, result: dict[str, Any]) -> None:
         file.write(encode_result(result))
 
 
-def read_result(path: str) -> dict[str, Any] | None:
+def read_result(path: str, is_refused: bool = False) -> dict[str, Any] | None:
     """Read the result in a file. If the file can't be read, has another format or does not match
-    the schema, return a result `not judged`. Return `None` if the file is not a result."""
+    the schema, return a result `not judged`. With `is_refused`, raise `Stop` for another format.
+    Return `None` if the file is not a result."""
     name = os.path.basename(path).removesuffix(ENDING)
     try:
         result = read_json(path)
@@ -151,6 +154,9 @@ def read_result(path: str) -> dict[str, Any] | None:
         return None
     number = result.get("format")
     if type(number) is int and number != FORMAT:
+        if is_refused:
+            raise Stop(f"{path} is in JSON format {number}, but this version reads format "
+                       f"{FORMAT}: judge these pairs again into another folder")
         return make_unjudged(name, f"its JSON result has format {number}, but this version reads "
                              f"format {FORMAT}: judge it again")
     place = find_misfit(result)
@@ -208,7 +214,13 @@ def make_row(result: dict[str, Any], name: str) -> Row:
                count_row_causes(result),
                [fault["line"] for fault in result["faults"][:MAX_ROW_LINES]], result["seconds"],
                find_hint(result), SubtitleCounts(**counts).describe() if counts else "",
-               result["sentence"], describe_clock(result))
+               result["sentence"], describe_clock(result), list_unchecked_kinds(result))
+
+
+def list_unchecked_kinds(result: dict[str, Any]) -> str:
+    """Return the kinds of the checks that were not made everywhere, separated by commas."""
+    found = {item["kind"] for item in result["not_checked"]}
+    return ", ".join(kind for kind in CHECK_KINDS if kind in found)
 
 
 def describe_clock(result: dict[str, Any]) -> str:
@@ -236,12 +248,14 @@ def count_row_causes(result: dict[str, Any]) -> dict[str, int]:
     return {name: count for name, count in result["cause_counts"].items() if count} | dict(counts)
 
 
-def read_results(folder: str) -> Iterator[tuple[str, dict[str, Any] | None]]:
-    """Yield the path and the contents of each JSON result in a folder, sorted by name."""
+def read_results(folder: str, is_refused: bool = False) \
+        -> Iterator[tuple[str, dict[str, Any] | None]]:
+    """Yield the path and the contents of each JSON result in a folder, sorted by name. With
+    `is_refused`, raise `Stop` for a result in another format."""
     for file in sorted(os.listdir(folder)):
         path, name = os.path.join(folder, file), file.removesuffix(ENDING)
         if name != file and not file.startswith(".") and os.path.isfile(path):
-            yield path, read_result(path)
+            yield path, read_result(path, is_refused)
 
 
 def sort_rows(rows: dict[str, Row]) -> list[Row]:
@@ -294,9 +308,10 @@ PART_COLUMNS = ["part_pid", "part_packet_size", "part_pes"]
 COUNT_COLUMNS = ["subtitle_counts_judged", "subtitle_counts_refused"]
 FORMULA_BEGINNINGS = ("=", "+", "-", "@", "\t", "\r")  # first characters of spreadsheet formulas
 FILE_COLUMNS = ["stl", "recording"]
+UNCHECKED_COLUMN = "not_checked"  # the kinds of the checks that were not made everywhere
 COLUMNS = [*FILE_COLUMNS, *FAULT_COLUMNS, *PAIR_COLUMNS, *CAUSE_COLUMNS, *POSITION_COLUMNS,
-           "sentence", *PART_COLUMNS, *COUNT_COLUMNS]
-CUE_COLUMNS = [*FILE_COLUMNS, *(member.name for member in CUE.members)]
+           "sentence", *PART_COLUMNS, *COUNT_COLUMNS, UNCHECKED_COLUMN]
+CUE_COLUMNS = [*FILE_COLUMNS, *(member.name for member in CUE.members), UNCHECKED_COLUMN]
 
 Columns = dict[str, object]  # values by column name; empty columns may be missing
 
@@ -330,6 +345,7 @@ def make_pair_columns(result: dict[str, Any]) -> Columns:
         return {"stl": result["name"], **pair}
     return {"stl": result["request"]["stl"], "recording": result["request"]["recording"], **pair,
             "line": result["line"], "sentence": result["sentence"],
+            UNCHECKED_COLUMN: list_unchecked_kinds(result),
             **make_object_columns("subtitle_counts", result["subtitle_counts"]),
             **make_part_columns(result["parts"], None)}
 
@@ -348,7 +364,8 @@ def make_subtitle_lines(verdict: Verdict) -> Iterator[bytes]:
     """Yield the lines of a CSV file about one pair: the verdict, then the subtitles."""
     files: Columns = {"stl": verdict.request.stl, "recording": verdict.request.recording}
     pair: Columns = {**files, "verdict": verdict.word,
-                     "reason": verdict.unjudged_reason or verdict.sentence}
+                     "reason": verdict.unjudged_reason or verdict.sentence,
+                     UNCHECKED_COLUMN: ", ".join(verdict.unchecked_kinds)}
     rows = ({**files, **row} for row in list_subtitle_rows(verdict))
     return map(str.encode, make_column_lines(itertools.chain([pair], rows), CUE_COLUMNS))
 
@@ -400,6 +417,7 @@ class TestCase(NamedTuple):
     seconds: float
     counts: str = ""  # text such as `7 subtitles judged, 2 refused`; empty if none is refused
     sentence: str = ""
+    not_checked: str = ""  # kinds of the checks that were not made everywhere
 
 
 def make_element(case: TestCase) -> tree.Element:
@@ -412,7 +430,7 @@ def make_element(case: TestCase) -> tree.Element:
         kind = "error" if case.verdict == NOT_JUDGED else "failure"
         message = escape_hidden_lines(case.sentence or case.line)
         tree.SubElement(element, kind, message=message, type=case.verdict).text = text
-    elif case.verdict != ACCEPTED:
+    elif case.verdict != ACCEPTED or case.not_checked:
         tree.SubElement(element, "system-out").text = text
     return element
 

@@ -8,6 +8,7 @@ from __future__ import annotations
 from typing import Iterator, NamedTuple
 
 from ..clock.start import SOURCES
+from ..common.checks import KINDS as UNCHECKED_KINDS
 from ..common.command_line import MAX_EVERY, PACKET_SIZES
 from ..common.program import ProgramInfo
 from ..common.shapes import (
@@ -21,7 +22,6 @@ from ..judging.faults import make_faults
 from ..judging.part import Part
 from ..judging.status import (
     ACCEPTED, NOT_JUDGED, POSSIBLE_RESULTS, REFUSED, RELATIVE, STATUSES, VALID)
-from ..judging.unchecked import KINDS as UNCHECKED_KINDS
 from ..judging.verdict import Verdict
 from ..request.request import CHOICES, list_request_members
 
@@ -195,12 +195,12 @@ WARNING = Record(
 
 UNCHECKED = Record(
     "unchecked", "",
-    Member("part", Maybe(PART), "Null if it applies to all parts."),
-    Member("kind", OneOf(*UNCHECKED_KINDS), "The kinds that begin with `video` count as warnings "
-           "for --strict."),
-    Member("line", Text()),
-    Member("from", Maybe(TIME), getter=lambda item: item.begin),
-    Member("to", Maybe(TIME), getter=lambda item: item.end))
+    Member("kind", OneOf(*UNCHECKED_KINDS)),
+    Member("part", Maybe(PART), "Null if it applies to the whole pair."),
+    Member("from", Maybe(TIME), "Null, like `to`, if it applies everywhere.",
+           lambda item: item.begin),
+    Member("to", Maybe(TIME), getter=lambda item: item.end),
+    Member("text", Text()))
 
 TRUSTED = Record("trusted_frames", "", Member("part", PART),
                  Member("from", TIME), Member("to", TIME, "The last trusted frame."))
@@ -264,6 +264,7 @@ COUNTS = Record(
            "57."))
 
 FORMAT = 8
+SCOPES = SCOPE_PAIR, SCOPE_FILE, SCOPE_READING = "pair", "file", "reading"
 MAX_LISTED_ITEMS = 20_000
 MAX_SUBTITLES = 100_000  # maximum number of subtitles; a subtitle file has at most 99,999 blocks
 MAX_SECONDS = 10 ** 9
@@ -381,10 +382,9 @@ VERDICT = Record(
     Member("sentence", Text(), getter=lambda known: known.verdict.sentence),
     Member("reason", Maybe(Text()), "The reason why the pair was not judged.",
            lambda known: known.verdict.unjudged_reason),
-    Member("scope", OneOf("transmission", "subtitle file"),
-           "`subtitle file` if no recording was judged, otherwise `transmission`.",
-           lambda known: "subtitle file" if known.verdict.request.recording is None
-           else "transmission"),
+    Member("scope", OneOf(*SCOPES), "What was judged: `pair` (a recording by a subtitle file), "
+           "`file` (a subtitle file alone) or `reading` (a recording alone).",
+           lambda known: SCOPE_FILE if known.verdict.request.recording is None else SCOPE_PAIR),
     Member("frames", Maybe(COUNT), getter=lambda known: sum_parts(known, "frames")),
     Member("transmissions", Maybe(COUNT),
            getter=lambda known: sum_parts(known, "transmissions")),

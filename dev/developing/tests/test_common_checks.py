@@ -1,0 +1,60 @@
+"""Test that each check is made, has failed or is listed, and how results name unmade checks."""
+from __future__ import annotations
+
+import itertools
+from typing import Sequence
+
+from subtitles.common.checks import (
+    CHECK_KINDS, CHECKS, CLOCK, CheckState, FAILED, HOLE, JUMP, KINDS, LISTED, LOSSES, MADE,
+    NO_VIDEO, PHRASES, PICTURES, SEAM, UNREAD, decide_check, describe_kinds)
+from subtitles.judging.sentence import Facts, write_sentence
+from subtitles.judging.status import ACCEPTED, NOT_JUDGED, REFUSED, RELATIVE
+from subtitles.judging.unchecked import MISSING_TEXTS, Unchecked, list_check_entries
+from .bench import Case
+
+# Made, failed, listed: the decision
+DECISIONS = {(False, False, False): LISTED, (False, False, True): LISTED,
+             (False, True, False): FAILED, (False, True, True): LISTED,
+             (True, False, False): MADE, (True, False, True): LISTED,
+             (True, True, False): FAILED, (True, True, True): LISTED}
+
+
+class Checks(Case):
+    def test_a_check_is_made_has_failed_or_is_listed(self) -> None:
+        for values in itertools.product((False, True), repeat=3):
+            self.check(f"{values}", decide_check(CheckState(*values)), DECISIONS[values])
+        self.check("kinds", sorted({kind for kinds in CHECKS.values() for kind in kinds}),
+                   sorted(CHECK_KINDS))
+        self.check("phrases", sorted(PHRASES), sorted(CHECK_KINDS))
+        self.check("first", KINDS[:len(CHECK_KINDS)], CHECK_KINDS)
+
+    def test_each_part_lists_each_check_that_was_not_made(self) -> None:
+        states = [CheckState(is_made, has_failed) for is_made in (False, True)
+                  for has_failed in (False, True)]
+        for name, kinds in CHECKS.items():
+            for state, kind, number in itertools.product(states, (None, *kinds), (None, 1, 2)):
+                entries = [Unchecked(kind, "why", number)] if kind else []
+                others = {other: CheckState(True) for other in CHECKS}
+                listed = [*list_check_entries(entries, [(1, {**others, name: state}),
+                                                        (2, others)])]
+                is_listed = kind is not None and number in (None, 1)
+                is_new = not is_listed and state == CheckState()
+                self.check(f"{name} {state} {kind} {number}", listed, [
+                    Unchecked(kinds[0], MISSING_TEXTS[name], 1)] * is_new)
+        self.check("nothing is known", [item.kind for item in list_check_entries([], [(1, {})])],
+                   [UNREAD, LOSSES, CLOCK, SEAM])
+
+    def test_names_unmade_checks(self) -> None:
+        drift = "whether the video and the subtitles drift apart"
+        rows: dict[str, tuple[Sequence[str], str]] = {
+            "nothing": ((), ""), "unread": ((UNREAD,), f"Not checked: {drift}."),
+            "places": ((HOLE, JUMP), f"Not checked: {drift}, at each place."),
+            "no video": ((NO_VIDEO, LOSSES), "Not checked: the pictures, since there is no video; "
+                         "losses of every length.")}
+        for name, (kinds, sentence) in rows.items():
+            self.check(name, describe_kinds(kinds), sentence)
+        for word in (ACCEPTED, REFUSED, RELATIVE, NOT_JUDGED):
+            facts = Facts(word, 2, unchecked=[UNREAD, CLOCK], reason="why")
+            told = write_sentence(facts)
+            more = ("" if word == RELATIVE else "; a delay that all subtitles share") + "."
+            self.check(word, told.endswith(f" Not checked: {drift}{more}"), word != NOT_JUDGED)
