@@ -7,7 +7,7 @@ import unittest
 import unittest.mock
 
 from developing.proved import (
-    ProvedProgram, find_crates_without_line, format_proved, list_crate_sums)
+    Crates, ProvedProgram, find_crates_without_line, format_proved, list_crate_sums)
 from developing.shown import has_expected_status
 from subtitles.common.command_line import Stop
 from subtitles.common.program import TOP
@@ -22,7 +22,7 @@ ALL_PASSED = "54321 passed, 0 failed"
 
 # What a stage prints as its last line and its status, the last line of the gate, and the stages
 # that run. The first three stages stop the gate if they fail.
-GATE_CASES = {
+GATE_CASES: dict[str, tuple[dict[str, tuple[str, int]], str, int, list[str]]] = {
     "all stages pass": ({}, ALL_PASSED, 0, list(STAGES)),
     "the edits fail": ({"dev/edits": ("1 passed, 2 failed", 1)}, "321 passed, 2 failed", 1,
                        ["dev/edits", "dev/graph", "rt"]),
@@ -128,12 +128,12 @@ class ReleasedLines(unittest.TestCase):
         names = list(sums)
         lines = {name: (digest, "logic=proved functions=1") for name, digest in sums.items()}
         first, last = names[0], names[-1]
-        for case, crates, expected in (
-                ("all crates", lines, []),
-                ("no crates", {}, names),
-                ("the first is missing", {n: v for n, v in lines.items() if n != first}, [first]),
-                ("the last is missing", {n: v for n, v in lines.items() if n != last}, [last]),
-                ("other sources", {**lines, last: ("0", "logic=proved functions=1")}, [last])):
+        cases: dict[str, tuple[Crates, list[str]]] = {
+            "all crates": (lines, []), "no crates": ({}, names),
+            "the first is missing": ({n: v for n, v in lines.items() if n != first}, [first]),
+            "the last is missing": ({n: v for n, v in lines.items() if n != last}, [last]),
+            "other sources": ({**lines, last: ("0", "logic=proved functions=1")}, [last])}
+        for case, (crates, expected) in cases.items():
             with self.subTest(case):
                 proved = ProvedProgram(None, None, None, crates)
                 self.assertEqual(find_crates_without_line(proved), expected)
