@@ -48,6 +48,11 @@ class JudgedPair(NamedTuple):
         """Return the verdict that the pair would have if the user had given a clock."""
         return decide(self.verdict.collect_grounds()._replace(has_clock=True)).word
 
+    @property
+    def sentence(self) -> str:
+        """Return the sentence of the verdict, without the one about checks that were not made."""
+        return self.verdict.sentence.partition(" Not checked: ")[0]
+
     def is_timed(self) -> bool:
         """Return whether a clock is known or the printed results need no clock.
 

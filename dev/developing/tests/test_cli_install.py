@@ -332,7 +332,7 @@ def check_watch(case: Case, process: subprocess.Popen[bytes]) -> None:
         if write_slowly(case, f"in/{name}") < SETTLED_SECONDS:
             break
         too_slow.add(name)
-    whole = [f"{name}  relative: no clock was given"]
+    whole = [f"{name}  relative: no clock was given; not checked: no_video, losses, clock"]
     case.must("not before it is whole", lines() in ([], whole), lines())
     case.must("when it is whole", wait_until(lambda: lines() == whole), lines())
     case.must("a file without a partner, once", wait_until(
@@ -344,7 +344,7 @@ def check_watch(case: Case, process: subprocess.Popen[bytes]) -> None:
                                                 for line in lines())), lines())
     copy_example_atomically(case, "in/now.pes", "hello.pes")
     case.must("again", wait_until(
-        lambda: "now  relative: no clock was given" in lines()), lines())
+        lambda: whole[0].replace(name, "now") in lines()), lines())
     process.send_signal(signal.SIGTERM)
     case.must("it ends", process.wait(SECONDS) == 2)
     case.must("no more than that", len(lines()) == 3 and b"Traceback" not in case.read("log"),

@@ -77,7 +77,7 @@ class Delays(ProgrammeCase):
                           result.told[0].startswith(line + words), result.said)
                 result = self.judge(sent, *given, "--breaks", "1")
                 self.must(f"{by} {origin}: a break", (
-                    result.word == "accepted" and result.said[-1].endswith(" in 2 parts")
+                    result.word == "accepted" and " in 2 parts; " in result.said[-1]
                     if by >= 125 else result.word == "not judged" and result.told[0] ==
                     "no break found, but --breaks is 1"), result.said)
         feed = write_pipe(self, join_pes_packets(make_delay(1, at)(self.sent)))

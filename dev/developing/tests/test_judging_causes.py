@@ -53,11 +53,11 @@ class SenderFaults(ProgrammeCase):
             words = f"another text was sent in a pause, at {time}"
             self.must(f"{frame}", self.causes(reported) == [
                 ("another text in a pause", number, f'{words}; received "Others"')] and
-                reported.verdict.sentence == f'Refused: {words}: "Others".' and
+                reported.sentence == f'Refused: {words}: "Others".' and
                 reported.lines("cause: ") == [f'{words}; received "Others"'], reported.said)
         reported = self.judge_pages((60, wrong), (270, wrong))
         self.must("two",
-                  reported.verdict.sentence == "Refused: another text was sent in 2 pauses, the "
+                  reported.sentence == "Refused: another text was sent in 2 pauses, the "
                   "first at 10:00:02:10.", reported.verdict.sentence)
         reported = self.judge_pages((60, wrong), (130, wrong))
         self.must("a wrong text",

@@ -202,12 +202,13 @@ class ForeignPackets(ProgrammeCase):
         return make_planned_stream(self.pes, [(0, OLD)], list_carried_packets)
 
     def test_reports_where_the_teletext_ends(self) -> None:
+        accepted = "accepted 961 frames 49 transmissions; not checked: no_video, losses"
         for number, word in ((31, "Start"), (32, "Length")):
             for first, line in ((1, "refused 74 Late frame 00:00:04:00"),
                                 (20, "refused 74 Late frame 00:00:19:10"),
                                 (48, "refused 74 Late frame 00:00:42:00"),
-                                (49, "accepted 961 frames 49 transmissions"),
-                                (52, "accepted 961 frames 49 transmissions")):
+                                (49, accepted),
+                                (52, accepted)):
                 data, end = self.make_stream(first, number), min(first, 49) - 1
                 for recording, words in ((self.write("one.ts", data), ()),
                                          (self.path("one.ts"), ("--pid", "0x101")),

@@ -143,7 +143,7 @@ class ProgrammeSentences(StoryCase):
             words = [word for option in options for word in f"--{option}".split()]
             judged = self.tell(sent, "--origin", f"{ORIGIN}", *(
                 mild if word == "mild" else word for word in words))
-            self.check(f"{story}: result", judged.result["sentence"], sentence)
+            self.check(f"{story}: result", judged.sentence, sentence)
             self.check(f"{story}: output", judged.said[-2][:len(sentence)], sentence)
 
 

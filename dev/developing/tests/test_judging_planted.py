@@ -73,7 +73,7 @@ class EarlyFirstSubtitle(ProgrammeCase):
                 sentence = 'Refused: subtitle 1 at 10:00:00:00, "Number 1", appeared 25 frames ' \
                            'early.'
                 self.check(f"rows {ticks} ticks later, {len(before)} blank", (
-                    result.word, result.verdict.sentence == sentence), ("refused", ticks < TICKS))
+                    result.word, result.sentence == sentence), ("refused", ticks < TICKS))
 
 
 class NoClock(ProgrammeCase):

@@ -7,7 +7,7 @@ from subtitles.clock.start import Clock, GIVEN, TimedPart
 from subtitles.common.checks import HOLE, JUMP, NO_VIDEO, STEADY, UNREAD
 from subtitles.common.times import TICKS
 from subtitles.judging.status import (
-    ACCEPTED, CheckSummary, Grounds, NOT_JUDGED, REFUSED, Severity, WARNED, decide)
+    ACCEPTED, CheckSummary, Grounds, NOT_JUDGED, REFUSED, Severity, decide)
 from subtitles.judging.timing import find_desync
 from subtitles.stream.survey import Survey
 from .bench import Case
@@ -81,7 +81,5 @@ class Pictures(Case):
         for name, grounds, word in (
                 ("a doubt", Grounds([good], severity, doubts=["a"], has_clock=True), NOT_JUDGED),
                 ("a fault", Grounds([bad], severity, doubts=["a"], has_clock=True), REFUSED),
-                ("unchecked", Grounds([good], severity, warnings=[HOLE], has_clock=True), ACCEPTED),
-                ("strict", Grounds([good], severity, warnings=[HOLE], is_strict=True,
-                                   has_clock=True), WARNED)):
+                ("no doubt", Grounds([good], severity, is_strict=True, has_clock=True), ACCEPTED)):
             self.check(name, decide(grounds).word, word)

@@ -229,7 +229,7 @@ class AdjoiningSubtitles(ProgrammeCase):
         for name, sent in (("another page", other), ("another fault", one_late)):
             judged = self.judge(sent, "--to", format_frame(250))
             self.must(name, judged.word == "refused", judged.said)
-        self.check("the fault leads, and not the end", judged.verdict.sentence,
+        self.check("the fault leads, and not the end", judged.sentence,
                    'Refused: subtitle 2 at 00:00:08:00, "Number 2", appeared 1 frame late.')
 
     def test_expects_pages_with_the_options_of_the_call(self) -> None:
