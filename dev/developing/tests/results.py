@@ -33,8 +33,9 @@ SOME = 20
 REQUEST = {
     "stl": "one.stl", "recording": "one.ts", "page": "888", "every": 250, "option": "english",
     "origin": 0, "complete": True, "pid": None, "allow_lost": False, "severity": None, "breaks": 0,
-    "pes": None, "start": None, "relative": False, "within": 0, "strict": False, "from": None,
-    "to": None, "layout": None, "open": False, "keeping": False, "pace": None, "late": None,
+    "pes": None, "start": None, "relative": False, "within": 0, "strict": False,
+    "require": [], "from": None, "to": None, "layout": None, "open": False, "keeping": False,
+    "pace": None, "late": None,
     "profile": None}
 FAULT = {**dict.fromkeys((
     "block", "subtitle", "byte", "character", "text_offset", "pes", "pes_pts", "pes_time", "packet",

@@ -35,7 +35,8 @@ PROGRAM = ProgramInfo("1", "ab" * 32, None)
 OTHERS: dict[str, object] = {
     "page": (0, 0x87), "every": 25, "option": "german", "origin": 5, "is_complete": False,
     "pid": 257, "is_loss_allowed": True, "breaks": 1, "pes": (1, 2), "start": "10:00:00:00",
-    "is_relative_allowed": True, "within": 1, "is_strict": True, "late": Lateness({0: 1}, {0: 1}),
+    "is_relative_allowed": True, "within": 1, "is_strict": True, "required": ("clock",),
+    "late": Lateness({0: 1}, {0: 1}),
     "profile": Profile("house", "0" * 64, {})}
 
 

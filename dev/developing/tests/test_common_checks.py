@@ -1,16 +1,18 @@
 """Test that each check is made, has failed or is listed, and how results name unmade checks."""
 from __future__ import annotations
 
+import argparse
 import itertools
 from typing import Sequence
 
 from subtitles.common.checks import (
     CHECK_KINDS, CHECKS, CLOCK, CheckState, FAILED, HOLE, JUMP, KINDS, LISTED, LOSSES, MADE,
-    NO_VIDEO, PHRASES, PICTURES, SEAM, UNREAD, decide_check, describe_kinds)
+    NO_VIDEO, PHRASES, SEAM, UNREAD, decide_check, describe_kinds, parse_required_kinds)
 from subtitles.judging.sentence import Facts, write_sentence
 from subtitles.judging.status import ACCEPTED, NOT_JUDGED, REFUSED, RELATIVE
 from subtitles.judging.unchecked import MISSING_TEXTS, Unchecked, list_check_entries
 from .bench import Case
+from .judged import ProgrammeCase
 
 # Made, failed, listed: the decision
 DECISIONS = {(False, False, False): LISTED, (False, False, True): LISTED,
@@ -58,3 +60,31 @@ class Checks(Case):
             told = write_sentence(facts)
             more = ("" if word == RELATIVE else "; a delay that all subtitles share") + "."
             self.check(word, told.endswith(f" Not checked: {drift}{more}"), word != NOT_JUDGED)
+
+    def test_parses_required_kinds(self) -> None:
+        self.check_rows(parse_required_kinds, {
+            "all": (("all",), CHECK_KINDS), "one": (("clock",), (CLOCK,)),
+            "in order": (("losses, no_video,losses",), (NO_VIDEO, LOSSES)),
+            "all and one": (("seam,all",), CHECK_KINDS)})
+        for text in ("", "row_0", "clock,", "video"):
+            with self.assertRaises(argparse.ArgumentTypeError, msg=text):
+                parse_required_kinds(text)
+
+
+class RequiredChecks(ProgrammeCase):
+    def test_does_not_judge_without_a_required_check(self) -> None:
+        profile = self.write("profile", b"--require no_video,clock\n")
+        reason = "required but not checked: no_video"
+        rows: dict[str, tuple[Sequence[str], str, str | None]] = {
+            "not required": ((), "accepted", None), "required": (("--require", "no_video"),
+                                                                 "not judged", reason),
+            "a profile": (("--profile", profile), "not judged", reason),
+            "made": (("--require", "clock,video_unread,seam"), "accepted", None),
+            "all": (("--require", "all"), "not judged", reason),
+            "strict": (("--strict",), "accepted", None)}
+        for name, (words, verdict, why) in rows.items():
+            judged = self.judge(self.sent, "--every", "25", *words)
+            self.check(name, (judged.verdict.word, judged.verdict.unjudged_reason),
+                       (verdict, why))
+        judged = self.judge(self.sent[:-9], "--every", "25", "--require", "all")
+        self.check("a fault", (judged.verdict.word, judged.verdict.status), ("refused", 1))

@@ -80,6 +80,9 @@ class Pictures(Case):
         severity = Severity(None)
         for name, grounds, word in (
                 ("a doubt", Grounds([good], severity, doubts=["a"], has_clock=True), NOT_JUDGED),
+                ("a missing check", Grounds([good], severity, missing_kinds=["clock"]), NOT_JUDGED),
+                ("a fault, a missing check", Grounds([bad], severity, missing_kinds=["clock"]),
+                 REFUSED),
                 ("a fault", Grounds([bad], severity, doubts=["a"], has_clock=True), REFUSED),
                 ("no doubt", Grounds([good], severity, is_strict=True, has_clock=True), ACCEPTED)):
             self.check(name, decide(grounds).word, word)

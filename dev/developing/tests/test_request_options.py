@@ -91,7 +91,8 @@ ROWS: list[tuple[str, str, Any]] = [
     ("--layout", "fit,up", "fit,up"), ("--pace", "none", "none"), ("--no-complete", "", False),
     ("--allow-lost", "", True), ("--strict", "", True), ("--open", "", True),
     ("--keeping", "", True), ("--relative", "", True),
-    ("--late", "0:31,5:69/0:100", "0:31,5:69/0:100")]
+    ("--late", "0:31,5:69/0:100", "0:31,5:69/0:100"),
+    ("--require", "video_gap,clock", ["video_gap", "clock"])]
 BACK = {"--complete", "--no-allow-lost", "--no-keeping"}  # options that restore a default
 
 
@@ -208,7 +209,8 @@ class OptionRows(Case):
 
 STORY, RECORDING = get_example_path("story.stl"), get_example_path("recording.ts")
 PROFILE_OPTIONS = "--page, --every, --option, --origin, --complete, --no-complete, --pid, " \
-    "--allow-lost, --severity, --start, --relative, --within, --late, --layout, --keeping, --pace"
+    "--allow-lost, --severity, --start, --relative, --within, --late, --require, --layout, " \
+    "--keeping, --pace"
 
 
 class ProfileFiles(Case):
@@ -409,8 +411,9 @@ class ProfileVerdicts(Case):
                 (["--profile", relative], accepted)):
             self.write("levelsx", b"")
             judged_pair = judge_files(self, STORY, RECORDING, "--origin", "5000000000", *words)
-            self.must(f"{words}", judged_pair.said[-1] == last == judged_pair.result["line"],
-                      judged_pair.said[-1])
+            line = judged_pair.said[-1]
+            self.check(f"{words}", line[:line.index("; not checked: ")], last)
+            self.check(f"{words}: result", judged_pair.result["line"], line)
 
     def test_prints_and_stores_profile_options(self) -> None:
         data = b"--every 25  # each second\n--no-complete\n--layout 'fit,up'\n"

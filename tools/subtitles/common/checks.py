@@ -1,6 +1,7 @@
 """The checks that a result depends on, and the kinds of what was not checked."""
 from __future__ import annotations
 
+import argparse
 from typing import Collection, Iterable, NamedTuple
 
 
@@ -31,6 +32,7 @@ PHRASES = {NO_VIDEO: "the pictures, since there is no video", UNREAD: DRIFT,
            LOSSES: "losses of every length", CLOCK: "a delay that all subtitles share",
            SEAM: "the frames around midnight"}
 
+ALL = "all"  # value of --require: all of `CHECK_KINDS`
 PICTURES = "pictures"
 # The kinds of the entries about each check, first the kind if nothing is known about the check
 CHECKS = {PICTURES: (UNREAD, *PICTURE_KINDS), LOSSES: (LOSSES,), CLOCK: (CLOCK,), SEAM: (SEAM,)}
@@ -54,6 +56,16 @@ def decide_check(state: CheckState) -> str:
     if state.has_failed:
         return FAILED
     return MADE if state.is_made else LISTED
+
+
+def parse_required_kinds(text: str) -> tuple[str, ...]:
+    """Parse kinds that are separated by commas, or `all`."""
+    words = [word.strip() for word in text.split(",")]
+    for word in words:
+        if word not in (*CHECK_KINDS, ALL):
+            raise argparse.ArgumentTypeError(
+                f"{word!r} is not a check: give {ALL} or some of {','.join(CHECK_KINDS)}")
+    return tuple(kind for kind in CHECK_KINDS if kind in words or ALL in words)
 
 
 def find_missing_kinds(required: Iterable[str], unchecked: Collection[str]) -> list[str]:

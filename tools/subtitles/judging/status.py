@@ -78,6 +78,7 @@ POSSIBLE_RESULTS = [*STATUSES.items(), (RELATIVE, 0)]  # the last entry is for -
 STATUS_ORDER = (2, 1, 3, 0)
 
 NOT_ANSWERED = "check gave no verdict"
+NOT_CHECKED = "required but not checked"
 NOTHING_READ = "none of the recording was read, and --severity makes all faults warnings"
 
 
@@ -113,6 +114,7 @@ class Grounds(NamedTuple):
     is_relative_allowed: bool = False  # value of --relative
     # What could not be checked, where the recording is probably wrong
     doubts: Sequence[str] = ()
+    missing_kinds: Sequence[str] = ()  # required checks that were not made everywhere
 
 
 class Decision(NamedTuple):
@@ -162,6 +164,8 @@ def decide(grounds: Grounds) -> Decision:
         return Decision(LOST)
     if grounds.doubts:
         return Decision(NOT_JUDGED, "\n".join(grounds.doubts))
+    if grounds.missing_kinds:
+        return Decision(NOT_JUDGED, f"{NOT_CHECKED}: {', '.join(grounds.missing_kinds)}")
     if grounds.warnings and grounds.is_strict:
         return Decision(WARNED)
     if VALID in words:

@@ -6,7 +6,8 @@ import dataclasses
 from typing import Callable, Collection, Iterable, NamedTuple, Sequence
 
 from ..clock.start import ESTIMATED_LATER_NOTE, ESTIMATED_NOTE, advise_on_clock
-from ..common.checks import CHECK_KINDS, CLOCK, CheckState, LOSSES, PICTURES, SEAM
+from ..common.checks import (
+    CHECK_KINDS, CLOCK, CheckState, LOSSES, PICTURES, SEAM, find_missing_kinds)
 from ..common.command_line import format_frame_range, was
 from ..common.files import SummedFile
 from ..common.times import compute_time
@@ -214,7 +215,8 @@ class Verdict:
                        self.failed_outputs, [fault.name for fault in self.named_faults],
                        self.has_clock, self.request.is_relative_allowed,
                        [f"not checked {item.text}" for item in self.unchecked
-                        if item.may_be_wrong] if self.severity.is_error(PICTURES_LEFT) else [])
+                        if item.may_be_wrong] if self.severity.is_error(PICTURES_LEFT) else [],
+                       find_missing_kinds(self.request.required, self.unchecked_kinds))
 
     def find_check_states(self, part: Part) -> dict[str, CheckState]:
         """Return the state of each check of a part."""

@@ -8,6 +8,7 @@ import os
 import stat
 from typing import Any, Callable, Iterable, Mapping, NamedTuple, Sequence
 
+from ..common.checks import CHECK_KINDS, parse_required_kinds
 from ..common.command_line import (
     Lateness, MAX_EVERY, MAX_WITHIN, Stop, ToolParser, counted, escape_hidden, format_lateness,
     parse_break_count, parse_lateness, parse_origin, parse_packet_range, parse_page,
@@ -209,6 +210,11 @@ OPTIONS: tuple[Option, ...] = (
            shape=Maybe(Text()), result_value=lambda late: late and format_lateness(late)),
     Option("--strict", None, "treat [warnings](#warnings) about the recording as faults", JUDGED,
            "they change nothing", field="is_strict", default=False, shape=Flag()),
+    Option("--require", "KINDS", "do not judge a recording if one of these [checks](#not-checked) "
+           "was not made everywhere: kinds separated by commas, or `all`", PAIRS, "none",
+           field="required", default=(), read=parse_required_kinds, write=",".join,
+           is_in_profile=True, shape=ListOf(OneOf(*CHECK_KINDS), len(CHECK_KINDS)),
+           result_value=list),
     Option("--from", "TIME", "judge only subtitles with a TCI at TIME or later", MEASURED, "all",
            field="from_time", read=check_time, check_default=None, shape=Maybe(TIME)),
     Option("--to", "TIME", "judge only subtitles with a TCI before TIME", MEASURED, "all",
@@ -325,6 +331,7 @@ class Request:
     is_relative_allowed: bool = False  # whether the verdict `relative` has exit status 0
     within: int = 0  # maximum number of frames from a cue until its page is complete
     is_strict: bool = False  # whether warnings are treated as faults
+    required: Sequence[str] = ()  # kinds of the checks without which the pair is not judged
     from_time: str | None = None
     to_time: str | None = None
     layout: str | None = None
