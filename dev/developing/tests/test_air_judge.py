@@ -10,6 +10,7 @@ from unittest import mock
 
 from subtitles.air import judge as judging
 from subtitles.air.check import Outcome
+from subtitles.air.decision import Window, is_given_up
 from subtitles.air.segments import Segment, find_segments, make_segment_name
 from subtitles.air.state import Monitor
 from subtitles.common.files import open_result
@@ -94,11 +95,28 @@ MARGINS = {
     "other subtitles": (["0 one", "30 two"], [(60, 60), (60, 60)]),
     "the same subtitles": (["0 one", "100 one", "130 one"], [(60, 50), (50, 15), (15, 60)]),
     "the same file by another path": (["0 one", "30 ./one"], [(60, 15), (15, 60)]),
-    "no file": (["0 one", "30 three"], [(60, 60), (60, 60)]),
+    "no file": (["0 one", "30 three"], [(60, 15), (60, 60)]),
     "other pages": (["0 one", "0 one --page 889", "40 one --page 889"],
                     [(60, 60), (60, 20), (20, 60)]),
     "other parts": (["0 one --to 00:00:01:00", "30 one --from 00:00:01:00"], [(60, 60), (60, 60)]),
     "not sorted": (["30 one", "0 one"], [(60, 15), (15, 60)])}
+
+
+HOUR, LAST = 3600, 720  # an hour; the end of the window of a programme that begins at BEGIN
+# For a programme that waits: later segments as begin and end in seconds after its window, the time
+# before which all segments are deleted, the time that the clock shows for an hour, and whether the
+# programme is given up.
+GIVEN_UP_CASES: dict[str, tuple[list[tuple[int, int]], float, float, bool]] = {
+    "no later feed": ([], 0, 0, False),
+    "the latest begin is not deleted": ([], BEGIN + MARGIN_SECONDS, 0, False),
+    "the latest begin is deleted": ([], BEGIN + MARGIN_SECONDS + 1, 0, True),
+    "feed up to 48 hours later": ([(0, 48 * HOUR)], 0, 0, True),
+    "feed up to 48 hours later, but for a second": ([(0, 48 * HOUR - 1)], 0, 0, False),
+    "feed from 47 hours later": ([(47 * HOUR, 48 * HOUR)], 0, 0, True),
+    "the recorder's clock is ahead for a segment": ([(0, 7200), (72 * HOUR, 72 * HOUR + 10)], 0, 0,
+                                                    False),
+    "the clock shows 48 hours later": ([], 0, LAST + 48 * HOUR, False),
+    "the clock shows more than that": ([], 0, LAST + 48 * HOUR + 1, True)}
 
 
 class JudgedProgrammes(AirCase):
@@ -253,22 +271,76 @@ class JudgedProgrammes(AirCase):
         with mock.patch.object(judging, "MIN_RECORDED_LATER", 3600.0):
             judge = self.run_judge(FakeChecker({}), 9000)
             self.check("without segments", (self.verdicts(), judge.monitor.late), ({}, [NAME]))
-            self.put_segments(730, 4320)
+            self.put_segment(730, 740, is_new=True)
+            self.put_segments(740, 4320)
             self.run_judge(FakeChecker({}), 9000)
             self.check("with almost an hour", self.verdicts(), {})
             self.put_segments(4320, 4340)
             self.run_judge(FakeChecker({}), 9000)
         self.check("with an hour", self.verdicts(), {NAME: "not judged"})
 
-    def test_a_wrong_clock_ends_no_programme(self) -> None:
-        judge = self.make_judge(FakeChecker({NAME: SentProgramme(600, 660)}))
-        judge.monitor.is_clock_wrong = True
-        judge.look(DAY + 86_400)
-        judge.monitor.is_clock_wrong = False
+    def test_nothing_is_final_while_the_clock_is_wrong(self) -> None:
         self.put_segments(0, 900)
-        for now in range(600, 680, 5):
-            judge.look(DAY + now)
-        self.check("once it is right", self.verdicts(), {NAME: "relative"})
+        checker = FakeChecker({NAME: SentProgramme(600, 660)})
+        real = checker.check
+        judge = self.make_judge(checker)
+        judge.monitor.is_clock_wrong = True
+        judge.look(DAY + 680)
+        self.check("wrong before", checker.calls, [])
+
+        def check(*args: Any) -> Outcome:
+            judge.monitor.is_clock_wrong = len(checker.calls) == 0
+            return real(*args)
+
+        checker.check = check  # type: ignore
+        judge.monitor.is_clock_wrong = False
+        judge.look(DAY + 680)
+        self.check("wrong meanwhile", (self.verdicts(), checker.calls), ({}, [NAME]))
+        judge.monitor.is_clock_wrong = False
+        judge.look(DAY + 680)
+        self.check("right", self.verdicts(), {NAME: "relative"})
+
+    def test_gives_up_a_programme_that_waits_for_too_long(self) -> None:
+        window = Window(BEGIN, BEGIN + 60, 60, MARGIN_SECONDS, MARGIN_SECONDS)
+        for name, (spans, deleted, clock, expected) in GIVEN_UP_CASES.items():
+            later = [Segment("", 1, LAST + begin, LAST + end) for begin, end in spans]
+            self.check(name, is_given_up(window, later, deleted, clock), expected)
+
+    def test_a_clock_that_is_three_days_ahead_ends_a_line_only_after_an_hour(self) -> None:
+        os.unlink(self.path("one.stl"))
+        judge, minute = self.make_judge(FakeChecker({})), 0
+        # Minutes of polling, and whether the clock is ahead
+        for minutes, is_ahead, count in ((1, True, 0), (90, False, 0), (1, True, 0), (1, False, 0),
+                                         (60, True, 0), (1, True, 1)):
+            for minute in range(minute, minute + minutes):
+                with mock.patch.object(time, "monotonic", lambda: 60.0 * minute):
+                    judge.look(DAY + 60 * minute + 72 * HOUR * is_ahead)
+            minute += 1
+            self.check(f"minute {minute}", len(self.verdicts()), count)
+        self.check("reason", self.result(NAME)["reason"], f"{self.path('one.stl')} does not exist")
+
+    def test_waits_for_the_subtitle_file_of_a_line_that_may_be_nearer(self) -> None:
+        self.put_segments(0, 900)
+        self.write_schedule("2026-12-01T08:10:00Z one.stl", "2026-12-01T08:10:50Z two.stl")
+        two = self.read("two.stl")
+        for name, data in (("the same subtitles", self.read("one.stl")), ("others", two)):
+            self.delete_all("out")
+            os.unlink(self.path("two.stl"))
+            sent, checker = SentProgramme(640, 700), FakeChecker({})
+            real = checker.check
+            checker.sent = {NAME: sent}
+            checker.check = lambda item, stretch: real(item, stretch) if (  # type: ignore
+                item.begin + item.late >= DAY + sent.begin) else outcome(
+                    item.name, "not judged", "it began later")
+            judge = self.make_judge(checker)
+            for now in range(600, 5000, 50):
+                judge.look(DAY + now)
+            self.check(f"{name}: not yet", self.verdicts(), {})
+            self.write("two.stl", data)
+            for now in range(5000, 6000, 50):
+                judge.look(DAY + now)
+            self.check(name, self.verdicts().get(NAME),
+                       "relative" if data == two else "not judged")
 
     def test_an_airing_counts_for_the_nearest_line(self) -> None:
         for name, (lines, expected) in MARGINS.items():
@@ -277,7 +349,7 @@ class JudgedProgrammes(AirCase):
                 f"{' '.join(options)}" for begin, stl, *options in map(str.split, lines)))
             judge = self.make_judge(FakeChecker({}))
             judge.look(DAY)
-            limited = [judge.limit_margins(item, judge.read_delivery(item, DAY), DAY)
+            limited = [judge.limit_margins(item, judge.read_delivery(item, DAY), DAY)[0]
                        for item in judge.schedule.programmes]
             self.check(name, [(item.early, item.late) for item in limited], expected)
 
@@ -422,13 +494,18 @@ ALARM_CASES: dict[str, tuple[dict[str, Any], list[str]]] = {
     "a clock": ({"is_clock_wrong": True}, ["clock"]),
     "segments were deleted": ({"is_deleted_early": True}, ["disk"]),
     "a full disk": ({"free": [5, 1 << 40]}, ["disk"]),
+    "no room for the recorder": ({"has_note": True}, ["disk"]),
     "no header": ({"headers": {(0, 0x88): DAY - 601}}, ["page 888"]),
     "a header just now": ({"headers": {(0, 0x88): DAY - 599}}, []),
     "it has just begun": ({"headers": {(0, 0x88): 0.0}, "oldest": DAY - 599}, []),
     "a page never seen": ({"headers": {(0, 0x88): 0.0}}, ["page 888"]),
     "two pages": ({"headers": {(0, 0x88): DAY - 601, (0, 0x89): DAY}}, ["page 888"]),
+    "a page of a programme on air": ({"headers": {(0, 0x88): 0.0, (0, 0x89): 0.0},
+                                      "pages_on_air": {(0, 0x88)}}, ["page 888", "page 889"]),
     "a result is late": ({"late": ["one"]}, ["late"]),
     "a fault in the schedule": ({"schedule_faults": ["line 3: what?"]}, ["schedule"])}
+WARNINGS = {"no header": ["page 888"], "a page never seen": ["page 888"], "two pages": ["page 888"],
+            "a page of a programme on air": ["page 889"], "a fault in the schedule": ["schedule"]}
 
 
 # The begin and the end of a segment besides five correct segments; whether the clock is wrong 60
@@ -439,7 +516,7 @@ CLOCK_CASES = {
     "both an hour ahead": (3650, 3660, (True, 50)),
     "copied without its time": (40.5, 3660, (True, 50)),
     "a name of another zone": (-3540, 60, (False, 50)),
-    "a file from the future": (1e8, -1e6, (True, 50))}
+    "a file that no clock could name": (1e8, 60, (False, 50))}
 
 
 class State(AirCase):
@@ -449,7 +526,9 @@ class State(AirCase):
             monitor.now, monitor.oldest, monitor.last_byte = DAY, DAY - 9999, DAY - 9
             monitor.free = [1 << 40] * 2
             vars(monitor).update(values)
-            self.check(name, json.loads(json.dumps(monitor.state()))["alarms"], expected)
+            state = json.loads(json.dumps(monitor.state()))
+            self.check(name, (state["alarms"], state["warnings"]),
+                       (expected, WARNINGS.get(name, [])))
 
     def test_reports_segments_and_disks(self) -> None:
         self.put_segments(0, 50)

@@ -91,15 +91,17 @@ class Lines(AirCase):
         for end in ("\n", "\r\n", "\r"):
             self.check(repr(end), len(self.read_lines(end.join(lines) + end, WRITTEN)), 2)
 
-    def test_reports_a_second_line_with_the_same_name(self) -> None:
-        lines = b"2026-12-01T08:00:00Z a.stl --within 1\n2026-12-01T08:00:00Z a.stl --within 50\n"
-        self.write("schedule", lines)
-        schedule = self.read_schedule()
-        self.check("judged", [(programme.name, programme.request.within)
-                              for programme in schedule.programmes], [("20261201T080000Z-a", 1)])
-        self.check("reported", [*schedule.faults], [
-            "line 2 is not judged: its result would be named 20261201T080000Z-a, as that of line 1"
-        ])
+    def test_judges_the_first_of_several_lines_with_the_same_name(self) -> None:
+        for lines, judged in (("1 50", 1), ("50 1", 50), ("2 1 3", 2)):
+            self.write_schedule("# a comment", *(f"2026-12-01T08:00:00Z a.stl --within {frames}"
+                                                 for frames in lines.split()))
+            schedule = self.read_schedule()
+            self.check(f"{lines}: judged", [(item.name, item.request.within)
+                                            for item in schedule.programmes],
+                       [("20261201T080000Z-a", judged)])
+            self.check(f"{lines}: reported", [*schedule.faults], [
+                f"line {number} is not judged: its result would be named 20261201T080000Z-a, as "
+                "that of line 2" for number in range(3, 2 + len(lines.split()))])
 
     def test_finds_files_in_the_folder_of_the_schedule(self) -> None:
         self.write_schedule("2026-12-01T08:00:00Z a.stl")
@@ -140,11 +142,11 @@ class Lengths(AirCase):
         data = self.read("one.stl")
         for size in range(0, len(data) + 1, 64):
             self.write("one.stl", data[:size])
-            announced = len(data) if size > 243 else 1024  # TNB is in the bytes up to 243
+            what = "ends in its GSI block" if size < 1024 else \
+                f"announces 2 blocks (TNB) and has {(size - 1024) // 128}"
             self.check(f"{size} bytes", self.delivery().fault, "" if size == len(data) else (
-                f"{self.path('one.stl')} has {size:,} of the {announced:,} bytes that its GSI "
-                "block announces (TNB): copy it again, or create "
-                f"{self.path('one.done')} if it is complete"))
+                f"the subtitle file is incomplete: it {what}; copy it again, or create "
+                f"{self.path('one.done')}"))
         changed = f"{self.path('one.stl')} was changed at 2026-12-01T08:00:00Z and may still be " \
             "incomplete"
         os.utime(self.path("one.stl"), (DAY, DAY))

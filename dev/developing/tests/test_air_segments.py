@@ -212,8 +212,8 @@ class Recorded(AirCase):
                 self.now = DAY + at
                 item.take(b"%d" % number)
         self.check("by the clock", self.read_segments(), [
-            (0.0, b"01"), (0.001, b"23"), (20.0, b"6"), (30.0, b"7"), (3600.0, b"45")])
-        self.check("a large step is a loss", self.are_new(), [True, False, True, False, False])
+            (0.0, b"01"), (0.001, b"23"), (20.0, b"6"), (30.0, b"7")])
+        self.check("a large step is a loss", self.are_new(), [True, False, True, False])
 
     def test_deletes_segments_that_are_too_old(self) -> None:
         item = self.recorder(kept=50)
@@ -245,12 +245,17 @@ class Recorded(AirCase):
                    [*range(90, 200, 10)])
 
     def test_marks_a_loss_after_a_full_disk(self) -> None:
+        for error in (errno.ENOSPC, errno.EDQUOT):
+            self.delete_all("segments")
+            self.fill_disk(error)
+
+    def fill_disk(self, error: int) -> None:
         self.put_segments(-30, 0)
-        room, real = [0], os.write
+        self.now, room, real = DAY, [0], os.write
 
         def write(file: int, data: bytes) -> int:
             if sum(len(data) for _, data in self.read_segments()) >= room[0]:
-                raise OSError(errno.ENOSPC, "full")
+                raise OSError(error, "full")
             return real(file, data[:1])
 
         item = self.recorder()
@@ -259,13 +264,41 @@ class Recorded(AirCase):
             room[0] = 12
             item.take(b"abcd")
             self.check("the oldest made room", self.read_segments(), [(0.0, b"abcd")])
+            self.check("no alarm", self.has_note(), False)
             room[0] = 0
             item.take(b"lost")
+            self.check("an alarm", self.has_note(), True)
             room[0] = 99
             item.take(b"more")
+            self.check("still an alarm", self.has_note(), True)
         self.check("what was written stays", self.read_segments()[0], (0.0, b"abcd"))
         self.check("what came later", self.read_segments()[-1][1], b"more")
         self.check("the last one is new", self.are_new()[-1], True)
+
+    def has_note(self) -> bool:
+        return os.path.exists(self.path(f"segments/{segments.NOTE}"))
+
+    def test_reports_a_disk_on_which_deleting_does_not_help(self) -> None:
+        item, room = self.recorder(free=10), [20]
+        with mock.patch.object(os, "statvfs", lambda _: mock.Mock(f_bavail=room[0], f_frsize=1)):
+            # The time, the free bytes, and whether there is a note
+            for at, free, expected in ((0, 20, False), (10, 9, False), (60, 9, False),
+                                       (65, 9, False), (75, 9, True), (76, 10, True),
+                                       (85, 9, False), (136, 9, False), (146, 9, True),
+                                       (156, 10, False)):
+                self.now, room[0] = DAY + at, free
+                item.take(b".")
+                self.check(f"{free} bytes at {at}", self.has_note(), expected)
+
+    def test_deletes_what_it_wrote_before_the_clock_was_set_back(self) -> None:
+        self.put_segments(3800, 3820)  # segments of another run
+        item = self.recorder(kept=10_000)
+        with mock.patch.object(recorder, "print_stderr", lambda _: None):
+            for at in (-20, -10, *range(3600, 3700, 10), *range(0, 80, 10)):
+                self.now = DAY + at
+                item.take(b".")
+        self.check("begins", [int(begin) for begin, _ in self.read_segments()],
+                   [-20, -10, *range(0, 80, 10), 3800, 3810])
 
     def test_raises_any_other_error(self) -> None:
         with mock.patch.object(os, "write", side_effect=OSError(errno.EIO, "disk")):

@@ -7,15 +7,17 @@ from typing import NamedTuple, Sequence
 from ..cli.single import now as date
 from ..results.files import make_unjudged
 from .check import Outcome
-from .segments import UnbrokenRun
+from .segments import Segment, UnbrokenRun
 
 RECORDER_LAG = 10.0  # seconds to wait after the end of a programme, since the recorder may lag
 # seconds by which a recording may seem shorter than the programme that it contains
 LENGTH_TOLERANCE = 1.0
 MAX_GAPS = 3  # maximum number of gaps listed in a result
+HOUR = 3600.0
 # Seconds that must be recorded after a window before a programme is given up as not recorded. Until
 # then, a wrong clock may be the reason why the window seems to have passed.
-MIN_RECORDED_LATER = 3600.0
+MIN_RECORDED_LATER = HOUR
+MAX_WAIT = 48 * HOUR  # seconds after a window after which a programme is given up for any reason
 
 
 class Window(NamedTuple):
@@ -69,6 +71,20 @@ def decide(name: str, outcomes: Sequence[Outcome], gaps: Sequence[str], has_pass
     before = f"; before that: {failure}" if failure else ""
     reason = f"not recorded: {gap_text}{more}{rest}{before}"
     return Outcome(make_unjudged(name, reason), reason, is_recorded=False)
+
+
+def is_given_up(window: Window, later: Sequence[Segment], deleted: float, clock: float) -> bool:
+    """Return whether a programme gets a result although it can't be judged. `record` has deleted
+    all segments before the time `deleted`. `later` are the segments after the window. `clock` is
+    the earliest time that the clock has shown for an hour, so one wrong time ends no programme."""
+    is_deleted = deleted > window.begin + window.late
+    end = window.last + MAX_WAIT
+    return is_deleted or clock > end or count_seconds(later, end - HOUR) >= HOUR
+
+
+def count_seconds(segments: Sequence[Segment], begin: float) -> float:
+    """Return the number of recorded seconds after a time."""
+    return sum(max(segment.end - max(segment.begin, begin), 0.0) for segment in segments)
 
 
 def compute_retry_delay(window: Window, now: float) -> float:

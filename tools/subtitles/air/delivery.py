@@ -56,8 +56,11 @@ def read_delivery(request: Request, now: float, settled: float) -> Delivery:
     if info.st_mtime > now - settled:
         fault = f"{stl} was changed at {date(info.st_mtime)} and may still be incomplete"
     elif info.st_size < content.announced_size:
-        fault = f"{stl} has {info.st_size:,} of the {content.announced_size:,} bytes that its " \
-            f"GSI block announces (TNB): copy it again, or create {marker} if it is complete"
+        blocks = [(size - GSI) // TTI for size in (content.announced_size, info.st_size)]
+        fault = "the subtitle file is incomplete: it " + (
+            "ends in its GSI block" if blocks[1] < 0 else
+            f"announces {blocks[0]} blocks (TNB) and has {blocks[1]}"
+        ) + f"; copy it again, or create {marker}"
     with contextlib.suppress(OSError):
         fault = "" if os.stat(marker).st_mtime_ns >= info.st_mtime_ns else fault
     return Delivery(fault, content, version)

@@ -20,16 +20,17 @@ from ..request.commands import CommandPaths
 from ..results.files import ENDING, encode_result, make_unjudged
 from .check import Checker, Outcome
 from .decision import (
-    MIN_RECORDED_LATER, RECORDER_LAG, Window, compute_retry_delay, decide, describe_gaps)
+    HOUR, MIN_RECORDED_LATER, RECORDER_LAG, Window, compute_retry_delay, count_seconds, decide,
+    describe_gaps, is_given_up)
 from .delivery import Delivery, read_delivery
 from .schedule import Programme, Schedule, read_schedule
-from .segments import find_segments, find_unbroken_runs
+from .segments import find_deleted, find_segments, find_unbroken_runs
 from .state import Monitor, write_state
 
 # minimum and maximum delay in seconds after a system error
 RETRY_SECONDS, MAX_RETRY_SECONDS = 2.0, 60.0
 SHARE = 10  # failing programmes get at most a tenth of the judging time
-CLOCK_SECONDS = 600.0  # seconds between attempts while the clock is wrong
+OTHER_FILE_SECONDS = 600.0  # seconds between attempts while another line's file is missing
 HOOK_SECONDS = 10  # time limit of the command of --on-result
 
 
@@ -53,18 +54,25 @@ class Judge:
         self.attempts: dict[str, Attempts] = {}
         self.schedule = Schedule()
         self.monitor = Monitor()
+        self.polls = list[tuple[float, float]]()  # monotonic time and clock of the last hour
 
     def look(self, now: float) -> bool:
-        """Judge the first programme that is ready, and write the state file. Return whether any
-        programme was ready."""
+        """Write the state file, and judge the first programme that is ready unless the clock is
+        wrong. Return whether any programme was ready."""
         start_time = time.monotonic()
         self.checker.report = lambda: self.report(now + time.monotonic() - start_time)
         self.read_schedule(now)
-        if not self.monitor.now:  # the clock was not compared with the segments yet
-            self.checker.report()
-        is_tried = any(self.try_to_judge(item, now) for item in self.waiting())
         self.checker.report()
-        return is_tried
+        self.polls.append((start_time, now))
+        while len(self.polls) > 1 and self.polls[1][0] <= start_time - HOUR:
+            del self.polls[0]
+        return not self.monitor.is_clock_wrong and any(
+            self.try_to_judge(item, now) for item in self.waiting())
+
+    def find_certain_time(self) -> float:
+        """Return the earliest time that the clock has shown for an hour of monotonic time."""
+        is_known = self.polls[0][0] <= self.polls[-1][0] - HOUR
+        return min(now for _, now in self.polls) if is_known else -math.inf
 
     def report(self, now: float) -> None:
         """Write the state file."""
@@ -72,6 +80,9 @@ class Judge:
         self.monitor.waiting = len(waiting)
         self.monitor.late = [item.name for item in waiting if self.is_late(item, now)]
         begins = [item.begin - item.early for item in waiting if item.begin - item.early < now]
+        self.monitor.pages_on_air = {
+            item.request.page for item in waiting if item.begin + item.late <= now
+            <= self.window(item, self.read_delivery(item, now)).last}
         self.monitor.look(self.segments, self.out, now, self.program,
                           {item.request.page for item in self.schedule.programmes},
                           min([now - 2 * self.args.margin, *begins]))
@@ -109,7 +120,7 @@ class Judge:
             window = self.window(programme, delivery)
             if now < window.end + RECORDER_LAG:
                 return False
-            programme = self.limit_margins(programme, delivery, now)
+            programme, is_limited = self.limit_margins(programme, delivery, now)
             window = self.window(programme, delivery)
             outcome = self.judge(programme, window, delivery, now)
             if outcome and outcome.result and not outcome.is_finished:
@@ -117,12 +128,9 @@ class Judge:
                 outcome = self.judge(programme, window, delivery, now)
             if outcome is None:
                 attempts.next = now + compute_retry_delay(window, now)
-            elif outcome.result is None:
-                self.retry(programme, now, start_time, outcome.reason)
-            elif (seconds := self.count_doubtful_seconds(outcome, window)) > 0:
-                self.retry(programme, now, start_time, outcome.reason, seconds)
             else:
-                self.publish(programme.name, outcome)
+                seconds = self.count_doubtful_seconds(outcome, window, is_limited)
+                self.conclude(programme, window, outcome, seconds, now, start_time)
         except Exception as reason:  # other programmes must still be judged
             self.retry(programme, now, start_time, format_error(reason))
         return True
@@ -139,28 +147,51 @@ class Judge:
         end = max(programme.end or 0.0, programme.begin + length)
         return Window(programme.begin, end, length, programme.early, programme.late)
 
-    def limit_margins(self, programme: Programme, delivery: Delivery, now: float) -> Programme:
+    def limit_margins(self, programme: Programme, delivery: Delivery, now: float
+                      ) -> tuple[Programme, bool]:
         """End the margins of a programme half way to other lines with the same subtitles and page,
-        so that an airing counts only for the line that is nearest to it."""
-        times = [(item.begin - programme.begin) / 2 for item in self.schedule.programmes
-                 if item.request.page == programme.request.page
-                 and 0 < abs(item.begin - programme.begin) < 2 * self.args.margin
-                 and self.read_delivery(item, now).content == delivery.content]
+        so that an airing counts only for the line that is nearest to it. Lines that wait for a
+        subtitle file may have the same subtitles. Return also whether there are such lines."""
+        others = [(item, self.read_delivery(item, now)) for item in self.schedule.programmes
+                  if item.request.page == programme.request.page
+                  and 0 < abs(item.begin - programme.begin) < 2 * self.args.margin]
+        waiting = self.waiting()
+        missing = [item for item, other in others if other.fault and item in waiting]
+        times = [(item.begin - programme.begin) / 2 for item, other in others
+                 if item in missing or other.content == delivery.content]
         return programme._replace(
             early=min([programme.early, *(-time for time in times if time < 0)]),
-            late=min([programme.late, *(time for time in times if time > 0)]))
+            late=min([programme.late, *(time for time in times if time > 0)])), bool(missing)
 
-    def count_doubtful_seconds(self, outcome: Outcome, window: Window) -> float:
-        """Return the seconds until the next attempt if a wrong clock may be the reason why a
-        programme is not judged. Return 0 if the result is certain."""
-        if outcome.verdict == NOT_JUDGED and self.monitor.is_clock_wrong:
-            return CLOCK_SECONDS
+    def count_doubtful_seconds(self, outcome: Outcome, window: Window, is_limited: bool
+                               ) -> float | None:
+        """Return the seconds until the next attempt to judge a programme, or `None` after a system
+        error. Return 0 if the result is certain: neither a wrong clock nor another line's missing
+        subtitle file (`is_limited`) can be the reason why the programme is not judged."""
+        if outcome.result is None:
+            return None
+        if is_limited and outcome.verdict == NOT_JUDGED:
+            return OTHER_FILE_SECONDS
         if outcome.is_recorded:
             return 0.0
-        recorded_seconds = sum(item.end - max(item.begin, window.last) for item in
-                               find_segments(self.segments, window.last, math.inf))
-        doubtful_seconds = MIN_RECORDED_LATER - recorded_seconds
+        doubtful_seconds = MIN_RECORDED_LATER - count_seconds(
+            find_segments(self.segments, window.last, math.inf), window.last)
         return max(doubtful_seconds, RECORDER_LAG) if doubtful_seconds > 0 else 0.0
+
+    def conclude(self, programme: Programme, window: Window, outcome: Outcome,
+                 seconds: float | None, now: float, start_time: float) -> None:
+        """Publish the result of a programme if it is certain or if the programme is given up.
+        Otherwise try again after `seconds`."""
+        if self.monitor.is_clock_wrong:  # it became wrong while the programme was judged
+            self.retry(programme, now, start_time, "the clock differs from the segments", 0.0)
+        elif seconds == 0:
+            self.publish(programme.name, outcome)
+        elif is_given_up(window, find_segments(self.segments, window.last, math.inf),
+                         find_deleted(self.segments), self.find_certain_time()):
+            result = outcome.result or make_unjudged(programme.name, outcome.reason)
+            self.publish(programme.name, outcome._replace(result=result))
+        else:
+            self.retry(programme, now, start_time, outcome.reason, seconds)
 
     def judge(self, programme: Programme, window: Window, delivery: Delivery, now: float
               ) -> Outcome | None:
@@ -169,9 +200,7 @@ class Judge:
         name, has_passed = programme.name, now >= window.last + RECORDER_LAG
         segments = find_segments(self.segments, window.first, window.last)
         if delivery.fault:
-            is_lost = has_passed and not segments  # the programme can't be judged any more
-            return Outcome(make_unjudged(name, delivery.fault) if is_lost else None,
-                           delivery.fault, is_recorded=False)
+            return Outcome(None, delivery.fault)
         recorded_runs, outcomes = [*find_unbroken_runs(segments, self.args.pause)], list[Outcome]()
         for stretch in filter(window.can_contain, recorded_runs):
             outcomes.append(self.checker.check(programme, stretch))

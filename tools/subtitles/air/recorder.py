@@ -2,6 +2,7 @@
 may be killed and restarted at any time."""
 from __future__ import annotations
 
+import bisect
 import contextlib
 import errno
 import fcntl
@@ -13,7 +14,7 @@ from typing import NamedTuple
 
 from ..cli.single import hold_lock
 from ..common.command_line import print_stderr
-from .segments import list_segment_names, make_segment_name
+from .segments import NOTE, list_segment_names, make_segment_name
 
 MAX_READ_BYTES = 1 << 18  # maximum number of bytes per read
 PIPE_SIZE = 1 << 20  # pipe buffer in bytes: 0.2 seconds at 40 Mbit/s
@@ -23,6 +24,9 @@ WRITE_RETRY, WRITE_PATIENCE = 0.1, 5.0
 # files on the disk delete the recording before an alarm is noticed.
 MAX_DELETED_SEGMENTS = 2
 MAX_STEP_BACK = 10.0  # seconds by which the names of segments may be ahead of the clock
+# Errors of a full disk or quota, and seconds without room after which the note is written. On a
+# disk that several recorders share, there is room for a moment after each of them deletes segments.
+FULL_ERRORS, NOTE_SECONDS = (errno.ENOSPC, errno.EDQUOT), 60.0
 
 
 class Limits(NamedTuple):
@@ -42,22 +46,27 @@ class Recorder:
         self.name = ""  # name of the current segment
         self.is_new = True  # data before the next segment may be missing
         self.segment_begin = self.latest = 0.0  # segment start, and the time in the segment's name
+        self.latest_wrong = 0.0  # the latest time in a name before the clock was set back
+        # Monotonic times when enough disk space was free, and when bytes were lost.
+        self.last_room, self.last_loss = time.monotonic(), -math.inf
 
     def take(self, data: bytes) -> None:
         """Write bytes. If the disk is full, delete the oldest segments. Bytes that still can't be
         written are dropped, and the name of the next segment shows the loss."""
         left, deadline = memoryview(data), time.monotonic() + WRITE_PATIENCE
+        self.has_room()
         while left:
             try:
                 left = left[os.write(self.prepare_file(), left):]
             except OSError as error:
-                if error.errno != errno.ENOSPC:
+                if error.errno not in FULL_ERRORS:
                     raise
-                if not self.delete_oldest():
+                if not self.delete_first():
                     if time.monotonic() > deadline:
                         print_stderr(f"{self.folder} has no room: {len(left)} bytes are lost")
                         self.close()
-                        self.is_new = True
+                        self.is_new, self.last_loss = True, time.monotonic()
+                        self.write_note()
                         return
                     time.sleep(WRITE_RETRY)
 
@@ -77,7 +86,7 @@ class Recorder:
         it still sorts last. Otherwise name it by the clock, since the clock was wrong before."""
         if self.latest > now + MAX_STEP_BACK:
             print_stderr(f"the clock was set back by {self.latest - now:.0f} seconds")
-            self.is_new = True
+            self.is_new, self.latest_wrong = True, self.latest
         begins = [self.latest, *(begin for begin, _ in list_segment_names(self.folder))]
         self.latest = max([now, *(begin + 0.001 for begin in begins
                                   if begin <= now + MAX_STEP_BACK)])
@@ -94,18 +103,38 @@ class Recorder:
             self.file = None
 
     def make_room(self, now: float) -> None:
-        """Delete segments after their retention time, and the oldest if too little disk space is
-        free."""
+        """Delete segments that this recorder wrote before the clock was set back, segments after
+        their retention time, and the oldest if too little disk space is free."""
         for _ in range(MAX_DELETED_SEGMENTS):
-            info = os.statvfs(self.folder)
-            is_short = info.f_bavail * info.f_frsize < self.limits.free
-            self.delete_oldest(math.inf if is_short else now - self.limits.kept)
+            before = now - self.limits.kept if self.has_room() else math.inf
+            if not self.delete_first(now + MAX_STEP_BACK, self.latest_wrong + 0.001):
+                self.delete_first(-math.inf, before)
+        self.has_room()
+        self.write_note()
 
-    def delete_oldest(self, before: float = math.inf) -> bool:
-        """Delete the oldest segment if it begins before a time, but neither the last nor the
-        current segment. Return whether it was deleted."""
-        for begin, name in list_segment_names(self.folder)[:-1][:1]:
-            if begin < before and name != self.name:
+    def has_room(self) -> bool:
+        """Return whether enough disk space is free."""
+        info = os.statvfs(self.folder)
+        has_room = info.f_bavail * info.f_frsize >= self.limits.free
+        self.last_room = time.monotonic() if has_room else self.last_room
+        return has_room
+
+    def write_note(self) -> None:
+        """Write the note if bytes were lost or deleting segments does not help, for `judge`."""
+        now, path = time.monotonic(), os.path.join(self.folder, NOTE)
+        with contextlib.suppress(OSError):
+            if now < self.last_loss + NOTE_SECONDS or now > self.last_room + NOTE_SECONDS:
+                with open(path, "w", encoding="utf-8") as file:
+                    file.write("The disk or a quota is full, and deleting segments does not help\n")
+            else:
+                os.unlink(path)
+
+    def delete_first(self, after: float = -math.inf, before: float = math.inf) -> bool:
+        """Delete the first segment that begins between two times. Never delete the current segment
+        or, before there is one, the last. Return whether a segment was deleted."""
+        names = list_segment_names(self.folder)
+        for begin, name in names[bisect.bisect_left(names, (after, "")):][:1]:
+            if begin < before and name != (self.name or names[-1][1]):
                 with contextlib.suppress(FileNotFoundError):
                     os.unlink(os.path.join(self.folder, name))
                 return True

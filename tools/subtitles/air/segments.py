@@ -7,6 +7,7 @@ import contextlib
 import datetime
 import errno
 import functools
+import math
 import os
 import re
 from typing import Iterable, Iterator, NamedTuple, Sequence
@@ -17,8 +18,12 @@ from ..common.times import subtract_pts
 NAME = re.compile(r"(?:.*\D)?(\d{4})-?(\d\d)-?(\d\d)[T_-]?(\d\d)[-.:]?(\d\d)[-.:]?(\d\d)"
                   r"(\.\d{1,6})?Z?(?:-new)?\.(?:ts|m2ts|mts|trp)", re.ASCII | re.DOTALL)
 NEW = "-new.ts"  # suffix of a segment's name if data before the segment may be missing
+NOTE = "no-room.txt"  # file that `record` writes if deleting segments does not help a full disk
 BLOCK = 1 << 19  # bytes per read, and bytes to compare on each side of a segment boundary
 MAX_STALL = 60.0  # seconds for which a recorder may stall without losing data
+# A segment is not used if its last write was more than a minute before the time in its name, or so
+# long after it that the name may be in another time zone.
+CLOCK_TOLERANCE, MAX_SEGMENT_SECONDS = 60.0, 900.0
 PACKET_SIZES, SYNC = (188, 192, 204), 0x47
 MIN_SYNC_PACKETS = 5  # number of sync bytes needed to find where TS packets begin
 Sides = tuple[list[int], list[int]]  # counters or PCR, before and after a segment boundary
@@ -64,6 +69,14 @@ def list_segment_names(folder: str) -> list[tuple[float, str]]:
     return sorted((begin, name) for begin, name in timed_names if begin is not None)
 
 
+def find_deleted(folder: str) -> float:
+    """Return the time before which `record` has deleted all segments, or minus infinity. The names
+    of other recorders do not show whether the oldest segment was the first."""
+    for begin, name in list_segment_names(folder)[:1]:
+        return begin if name == make_segment_name(begin) else -math.inf
+    return -math.inf
+
+
 def find_segments(folder: str, begin: float, end: float) -> list[Segment]:
     """Return the segments that overlap a period, earliest first. Skip empty segments, which a power
     failure may leave."""
@@ -75,12 +88,18 @@ def find_segments(folder: str, begin: float, end: float) -> list[Segment]:
 
 def stat_segment(folder: str, name: str, begin: float) -> Segment | None:
     """Return the segment in the file `name`, which begins at the time `begin`. Return `None` if the
-    file was deleted."""
+    file was deleted, or if its last write contradicts its name."""
     path = os.path.join(folder, name)
     with contextlib.suppress(FileNotFoundError):
         info = os.stat(path)
-        return Segment(path, info.st_size, begin, max(begin, info.st_mtime), name.endswith(NEW))
+        if has_right_time(begin, info.st_mtime):
+            return Segment(path, info.st_size, begin, max(begin, info.st_mtime), name.endswith(NEW))
     return None
+
+
+def has_right_time(begin: float, end: float) -> bool:
+    """Return whether a segment may begin at the time in its name and end at its last write."""
+    return -CLOCK_TOLERANCE <= end - begin <= MAX_SEGMENT_SECONDS
 
 
 class UnbrokenRun(NamedTuple):

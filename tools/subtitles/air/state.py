@@ -12,16 +12,14 @@ from ..common.command_line import Stop
 from ..common.files import open_result
 from ..formats.teletext import Page, page_name
 from ..stream.survey import survey
-from .segments import NEW, list_segment_names
+from .segments import CLOCK_TOLERANCE, NEW, NOTE, has_right_time, list_segment_names
 
 NAME = "state.json"
 SILENCE = 10.0  # seconds without data after which the alarm `silence` is active
 PAGE_SILENCE = 600.0  # seconds without a page header after which the alarm for the page is active
 SEARCH_EVERY = 60.0  # seconds between searches for page headers
 NEWEST_SEGMENTS = 3  # number of segments that show when the last byte was written
-# The alarm `clock` is active if the clock differs from a segment's name or its last write by more
-# than a minute, or if a segment seems to be longer than any time zone offset allows.
-CLOCK_TOLERANCE, MAX_SEGMENT_SECONDS = 60.0, 900.0
+MAX_ZONE_SECONDS = 86_400.0  # seconds by which a time zone can't change the name of a segment
 MIN_FREE_BYTES = 100_000_000  # bytes of free disk space below which the alarm `disk` is active
 TimedName = tuple[float, str]  # start time and name of a segment
 
@@ -32,7 +30,8 @@ class Monitor:
     def __init__(self) -> None:
         self.now = self.next_search = 0.0
         self.segments, self.oldest, self.last_byte = 0, 0.0, 0.0
-        self.is_deleted_early = self.is_clock_wrong = False
+        self.is_deleted_early = self.is_clock_wrong = self.has_note = False
+        self.pages_on_air: Collection[Page] = ()  # pages of programmes that must have begun
         self.free: list[int] = []
         self.headers: dict[Page, float] = {}  # time of the last header of each page
         self.waiting, self.late, self.schedule_faults = 0, list[str](), list[str]()
@@ -47,6 +46,7 @@ class Monitor:
         with contextlib.suppress(OSError):
             names = list_segment_names(segments)
         self.segments, self.oldest = len(names), names[0][0] if names else 0.0
+        self.has_note = os.path.exists(os.path.join(segments, NOTE))
         self.is_deleted_early = self.oldest > needed and not names[0][1].endswith(NEW)
         past_names = [item for item in names if item[0] <= now + CLOCK_TOLERANCE]
         self.look_at_clock(segments, {*names[-NEWEST_SEGMENTS:], *past_names[-NEWEST_SEGMENTS:]})
@@ -60,16 +60,18 @@ class Monitor:
             self.search(segments, [item for item in past_names if item[0] >= first], program)
 
     def look_at_clock(self, folder: str, names: Iterable[TimedName]) -> None:
-        """Compare the names and the times of segments with the clock. A segment from the future is
-        no sign that the feed is alive."""
+        """Compare the names and the last writes of segments with the clock. A segment from the
+        future is no sign that the feed is alive. A file that no clock could name is ignored."""
         self.last_byte, self.is_clock_wrong = 0.0, False
         for begin, name in names:
             with contextlib.suppress(OSError):
                 end = os.stat(os.path.join(folder, name)).st_mtime
+                if begin > end + MAX_ZONE_SECONDS:
+                    continue
                 self.is_clock_wrong |= max(begin, end) > self.now + CLOCK_TOLERANCE or \
-                    not -CLOCK_TOLERANCE <= end - begin <= MAX_SEGMENT_SECONDS
+                    not has_right_time(begin, end)
                 if end <= self.now + 1:
-                    self.last_byte = max(self.last_byte, end)
+                    self.last_byte = max(self.last_byte, min(end, self.now))
 
     def search(self, folder: str, names: Sequence[TimedName], program: str) -> None:
         """Search segments for headers of the scheduled pages, from the last segment back."""
@@ -88,17 +90,24 @@ class Monitor:
         is_active_by_alarm = {
             "silence": self.now - self.last_byte > SILENCE,
             "clock": self.is_clock_wrong,
-            "disk": min(self.free) < MIN_FREE_BYTES or self.is_deleted_early,
+            "disk": min(self.free) < MIN_FREE_BYTES or self.is_deleted_early or self.has_note,
             "late": bool(self.late),
             "schedule": bool(self.schedule_faults)}
         pages = [f"page {page_name(*page)}" for page, header in sorted(self.headers.items())
                  if self.now - max(header, self.oldest) > PAGE_SILENCE]
         return [name for name, is_active in is_active_by_alarm.items() if is_active] + pages
 
+    def warnings(self) -> list[str]:
+        """Return the alarms that are only warnings. Many inserters send a page only during
+        programmes."""
+        on_air = {f"page {page_name(*page)}" for page in self.pages_on_air}
+        return [alarm for alarm in self.alarms()
+                if alarm == "schedule" or alarm.startswith("page ") and alarm not in on_air]
+
     def state(self) -> dict[str, Any]:
         """Return the contents of the state file."""
         return {
-            "date": date(self.now), "alarms": self.alarms(),
+            "date": date(self.now), "alarms": self.alarms(), "warnings": self.warnings(),
             "last_byte": format_date_or_none(self.last_byte),
             "oldest": format_date_or_none(self.oldest), "segments": self.segments,
             "free_bytes": dict(zip(("segments", "results"), self.free)),

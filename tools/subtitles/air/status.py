@@ -15,7 +15,6 @@ from .state import NAME
 
 OK, WARNING, CRITICAL, UNKNOWN = range(4)  # statuses of Nagios and Icinga
 WORDS = ("OK", "WARNING", "CRITICAL", "UNKNOWN")
-WARNINGS = ("schedule",)  # alarms that are only warnings
 
 
 def read_date(text: str | None) -> float | None:
@@ -26,7 +25,7 @@ def read_date(text: str | None) -> float | None:
 def check_state(state: dict[str, Any], age: float, max_age: float) -> tuple[int, str]:
     """Return the status and a text for the state."""
     alarms = [str(alarm) for alarm in state["alarms"]]
-    status = CRITICAL if age > max_age or any(alarm not in WARNINGS for alarm in alarms) else \
+    status = CRITICAL if age > max_age or {*alarms} - {*state["warnings"]} else \
         WARNING if alarms else OK
     texts = [f"no news for {age:.0f} s"] * (age > max_age) + alarms or ["no alarm"]
     perf = {"age": f"{age:.0f}s", "waiting": state["waiting"], "late": len(state["late"]),
