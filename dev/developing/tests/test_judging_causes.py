@@ -323,7 +323,7 @@ ROWS_BY_HAND: list[tuple[str, str, list[tuple[int, str, int | None, int | None, 
         (0, "another text in a pause", None, None, "z")]),
     ("100-150 a;200-250 b", "0:- 100:a 150:- 200:b 250:z 270:-", [(1, "unknown", None, None, "z")]),
     ("100-150 a;200-250 b", "0:- 100:a 150:- 200:b 250:- 251:z 270:-", [
-        (1, "another text in a pause", None, None, "z")]),
+        (1, "unknown", None, None, "z")]),
     ("100-150 a;200-250 b", "0:z 100:a 150:- 200:b 250:-", [(0, "unknown", None, None, "a")]),
     ("100-150 a;200-250 b", "0:- 100:a 150:b 250:-", [(1, "early", 50, None, "b")]),
     ("100-150 a", "0:- 100:a 120:z 150:-", [(0, "wrong text", None, None, "z")]),

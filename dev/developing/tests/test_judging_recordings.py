@@ -7,7 +7,7 @@ import os
 import re
 
 from developing.pes import make_pes_packet, decode_pts
-from subtitles.common.times import TICKS, format_frame
+from subtitles.common.times import TICKS, format_frame, wrap_pts
 from subtitles.formats.stl import GSI
 from subtitles.results.schema import find_misfit
 from .bench import Case, get_example_path, read_example_file
@@ -182,7 +182,7 @@ class Recordings(Case):
             ([STORY, item, "--pid", "0x200"], "PID 0x200 has no complete PES packet",
              ["--pid 0x101"]),
             ([STORY, item, "--pid", "0x300"], "PID 0x300 has no packets", ["--pid 0x101"]),
-            ([other, self.path("own.pes")], "probably another programme's subtitle file", []),
+            ([other, self.path("own.pes")], "the clock cannot be estimated: ", ["--origin T"]),
             ([STORY, item, "--origin", "900000000"],
              "so the recording contains no subtitle at its expected time", []),
             ([STORY, self.path("own.pes"), "--start", "tcp"], "--start cannot be used with",
@@ -314,15 +314,40 @@ class Recordings(Case):
                                                               if expected else ""), result)
 
     def test_names_the_file_of_another_programme_first(self) -> None:
-        paths = [self.write(f"{seed}.stl", make_random_stl(seed)[0]) for seed in (1, 2)]
-        self.schedule(paths[0], "one.pes", "--every", "25")
-        for origin, begin in (("", "Not judged: probably another"), ("0", "Probably another")):
-            words = ["--origin", origin] if origin else []
-            result = judge_files(self, paths[1], self.path("one.pes"), *words)
-            self.must(begin, result.result["sentence"].startswith(
-                f"{begin} programme's subtitle file: "), result.said)
-        right = judge_files(self, paths[0], self.path("one.pes"), "--origin", "0")
-        self.must("right", "another programme" not in "".join(right.said), right.said)
+        (sent, (first, *_)), (other, (begin, *_)) = make_random_stl(1), make_random_stl(2)
+        self.schedule(self.write("sent.stl", sent), "one.pes", "--every", "25")
+        stl = self.write("other.stl", other.replace(b"Number", b"Figure"))
+        origin = wrap_pts(TICKS * (first - begin))
+        for words, word in ("", "Not judged"), (f"--origin {origin}", "Refused"):
+            result = judge_files(self, stl, self.path("one.pes"), *words.split())
+            self.must(word, result.result["sentence"].startswith(
+                f"{word}: probably another programme's subtitle file: "), result.said)
+
+    def test_a_file_whose_texts_come_at_other_times_is_not_another_programme_s(self) -> None:
+        due = subtitle_times(20)
+        stl = write_programme(self, due)
+        for name, times in (("right", due), ("drift", [
+                (begin + 4 * at, end + 4 * at) for at, (begin, end) in enumerate(due)]),
+                            ("half of them are missing", due[1::2])):
+            sent = write_programme(self, times, name="sent.stl", first=1 + (times[0] != due[0]))
+            self.schedule(sent, "one.pes", "--every", "25")
+            for words in ("", "--origin 0"):
+                result = judge_files(self, stl, self.path("one.pes"), *words.split())
+                self.must(f"{name} {words}", "another programme" not in "".join(result.said),
+                          result.said)
+
+    def test_what_follows_the_last_judged_subtitle_is_no_text_in_a_pause(self) -> None:
+        """The last subtitle is erased 1 frame early, and the next text comes 14 frames later."""
+        *due, (begin, end) = subtitle_times(5)
+        following = (end + 14, end + 60)
+        write_programme(self, [*due, (begin, end - 1), following], name="sent.stl")
+        self.schedule(self.path("sent.stl"), "one.pes", "--every", "25")
+        less = write_programme(self, [*due, (begin, end)], name="less.stl")
+        full = write_programme(self, [*due, (begin, end), following], name="full.stl")
+        for words in ([less], [full, "--to", format_frame(following[0])]):
+            result = judge_files(self, words[0], self.path("one.pes"), "--origin", "0", *words[1:])
+            self.check(" ".join(words), [(cause["name"], cause["subtitle"]["position"])
+                                         for cause in result.result["causes"]], [("erased", 5)])
 
     def test_a_text_in_a_pause_is_no_fault_of_the_subtitle_before(self) -> None:
         """The text of a subtitle that the file lacks has a row and a time of its own."""

@@ -27,6 +27,9 @@ from .stretches import (
 MAX_PRINTED_DISTANCE = 10 * FRAMES_A_SECOND
 MAX_PRINTED_ITEMS = 5  # maximum number of origins or pages to list
 MAX_LISTED_CHANGES = 20  # maximum number of changes of the delay to list
+# A file is another programme's if the recording has fewer than 1/4 of the texts that it could have,
+# and could have at least 3.
+MIN_COMPARED_TEXTS, OTHER_PROGRAMME_SHARE = 3, 4
 
 
 class OriginSearch(NamedTuple):
@@ -168,8 +171,8 @@ def store_first_part(origin: OriginEstimate, search: OriginSearch, bases: Sequen
         is_back = len(bases) > 1 and len(parts) == 1
         add_part(origin, part, part.time_base.packets if is_back else None, None, len(cues))
         origin.matches_every_cue = part.best.matches == part.best.content_matches == len(cues)
-    origin.lines += format_part(part, len(cues), search.has_picture)
-    origin.mismatch = describe_mismatch(part)
+    origin.mismatch = describe_mismatch(part, bases)
+    origin.lines += format_part(part, len(cues), search.has_picture, origin.mismatch)
     if not origin.mismatch:
         compare_with_known_origin(origin, search.origin, part)
     if len(parts) > 1:
@@ -307,8 +310,10 @@ def format_match(part: EstimatedPart, count: int) -> str:
             f"{counted(cues, 'cue')}; {following}")
 
 
-def format_part(part: EstimatedPart, count: int, has_picture: bool = False) -> Iterator[str]:
-    """Yield the report on the origin of a part. `count` is the number of cues in the file."""
+def format_part(part: EstimatedPart, count: int, has_picture: bool = False,
+                mismatch: str = "") -> Iterator[str]:
+    """Yield the report on the origin of a part. `count` is the number of cues in the file.
+    `mismatch` says that the file is probably another programme's."""
     best = part.best
     yield format_match(part, count)
     if part.time_base.within:
@@ -335,23 +340,29 @@ def format_part(part: EstimatedPart, count: int, has_picture: bool = False) -> I
         yield (f"{best.matches - best.exact_matches} of the matching cues match only to the "
                "nearest "
                "frame: PTS that are not whole frames apart are refused with fault 61")
-    if mismatch := describe_mismatch(part):
+    if mismatch:
         yield mismatch
     elif best.matches * 2 < best.total and not cue_offset:
         yield (f"fewer than half of the cues match with --origin {best.origin}: check that this "
                "is the right subtitle file")
 
 
-def describe_mismatch(part: EstimatedPart) -> str:
+def describe_mismatch(part: EstimatedPart, bases: Sequence[TimeBase]) -> str:
     """Return a message if the file is probably another programme's, otherwise "". Then fewer than
-    half of the cues match a page change, and more than a quarter of these changes show another
-    text. If the file is right, but its subtitles are late or missing, the matching cues show their
-    text."""
-    best = part.best
-    is_other = best.matches * 2 < best.total and best.content_matches * 4 < best.matches * 3 \
-        and not part.time_base.find_cue_offset(best)
+    half of the cues match a page change, and hardly any text of the file was sent at any time. If
+    the file is right, but its subtitles are late, missing or drift, most texts on air are its."""
+    best, cues = part.best, bases[0].cues
+    if best.matches * 2 >= best.total or part.time_base.find_cue_offset(best):
+        return ""
+    expected_texts = {cue.letters for cue in cues if cue.letters}
+    sent_texts = {change.letters for base in bases for change in base.changes.values()
+                  if change.letters}
+    count = min(len(expected_texts), len(sent_texts))
+    if count < MIN_COMPARED_TEXTS or \
+            len(expected_texts & sent_texts) * OTHER_PROGRAMME_SHARE >= count:
+        return ""
     return "probably another programme's subtitle file: " \
-        f"{best.matches} of {counted(best.total, 'cue')} match" if is_other else ""
+        f"{best.matches} of {counted(best.total, 'cue')} match"
 
 
 def describe_early_cues(early: EarlyCues, has_picture: bool) -> str:

@@ -271,8 +271,8 @@ class CauseFinder(PageTransmissions):
 
     def classify_after_end(self, place: int, number: int, frame: int) -> Cause:
         """Return the cause of the fault if page `number` was sent after the TCO of a subtitle. A
-        page that belongs to no subtitle is the next programme's after the last TCO, and otherwise
-        another text in the pause."""
+        page that belongs to no subtitle is another text in the pause. After the last TCO there is
+        no pause: the page is then the next programme's, or that of a subtitle after --to."""
         subtitle, page = self.subtitles[place], self.timeline.pages[number]
         is_unexpected_page = page not in self.expected.positions_by_page and page != BLANK_PAGE
         is_expected_text = join_page_text(page) in self.expected.positions_by_letters
@@ -280,8 +280,8 @@ class CauseFinder(PageTransmissions):
         late = self.timeline.frames[number] - subtitle.end
         if is_unexpected_page and is_last and late <= self.timeline.within:
             return self.make_unknown_cause(place, frame, subtitle.end, NEXT_PROGRAMME)
-        if is_unexpected_page and not is_expected_text and self.timeline.was_received(subtitle.end,
-                                                                                      frame):
+        if is_unexpected_page and not is_last and not is_expected_text \
+                and self.timeline.was_received(subtitle.end, frame):
             return Cause(place, TEXT_IN_PAUSE, None, page, None, f"at {format_frame(frame)}",
                          subtitle.end, frame)
         return self.make_unknown_cause(place, frame, subtitle.end,

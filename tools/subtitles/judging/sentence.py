@@ -243,12 +243,15 @@ class Facts(NamedTuple):
     delay: int = 0  # delay of all subtitles in frames, if the operator gave the clock
     has_picture: bool = False  # whether the operator may use --start
     unchecked: Sequence[str] = ()  # kinds of the checks that were not made everywhere
+    mismatch: str = ""  # says that the subtitle file is probably another programme's
 
 
 def write_sentence(facts: Facts) -> str:
     """Return the sentence about a verdict, and one about the checks that were not made."""
     if facts.word == NOT_JUDGED:
-        return f"Not judged: {(facts.reason or NOT_ANSWERED).splitlines()[0]}."
+        reason = (facts.reason or NOT_ANSWERED).splitlines()[0]
+        mismatch = f"{facts.mismatch}; " * bool(facts.mismatch and facts.mismatch not in reason)
+        return f"Not judged: {mismatch}{reason}."
     # The sentence of a relative verdict already says that a delay was not checked.
     unchecked = describe_kinds([kind for kind in facts.unchecked
                                 if kind != CLOCK or facts.word != RELATIVE])
@@ -259,7 +262,8 @@ def write_verdict(facts: Facts) -> str:
     """Return the sentence about a verdict on a pair that was judged."""
     if facts.word == REFUSED:
         waived = f"; waived: {describe_counts(facts.waived)}" if facts.waived else ""
-        return f"Refused: {describe_faults(facts)}{waived}."
+        mismatch = f"{facts.mismatch}; " if facts.mismatch else ""
+        return f"Refused: {mismatch}{describe_faults(facts)}{waived}."
     if facts.word == RELATIVE:
         return f"{describe_relative_match(facts)} was not checked: " \
             f"{advise_on_clock(facts.has_picture)}."
@@ -426,8 +430,16 @@ def describe_causes(causes: Causes, option: str) -> str:
     subtitles = causes.expected.subtitles
     words = describe_single_cause(worst_cause, causes, option) if len(same_causes) == 1 else \
         describe_shared_cause(same_causes, subtitles)
-    others = [cause.name for cause in every if cause.name != worst_cause.name]
-    return f"{words}; other subtitles: {count_names(others, 2)}" if others else words
+    others = [cause.name for cause in every
+              if cause.name not in (worst_cause.name, TEXT_IN_PAUSE)]
+    pauses = [cause for cause in every if TEXT_IN_PAUSE == cause.name != worst_cause.name]
+    return "; ".join([words, *[f"other subtitles: {count_names(others, 2)}"] * bool(others),
+                      *[f"also another text in {describe_pauses(len(pauses))}"] * bool(pauses)])
+
+
+def describe_pauses(count: int) -> str:
+    """Return a number of pauses as text."""
+    return "a pause" if count == 1 else counted(count, "pause")
 
 
 def describe_single_cause(cause: Cause, causes: Causes, option: str) -> str:
@@ -456,7 +468,7 @@ def describe_shared_cause(causes: Sequence[Cause], subtitles: Sequence[Subtitle]
     first, last = subtitles[causes[0].subtitle_index], subtitles[causes[-1].subtitle_index]
     name = causes[0].name
     if name == TEXT_IN_PAUSE:
-        return f"another text was sent in {counted(len(causes), 'pause')}, the first " \
+        return f"another text was sent in {describe_pauses(len(causes))}, the first " \
             f"{causes[0].details}"
     is_none = len(causes) == len(subtitles) and name in NONE_PREDICATES
     subject = f"none of the {len(subtitles):,} subtitles" if is_none else \

@@ -293,15 +293,14 @@ class Verdict:
             named=self.worst_named_fault.text if self.worst_named_fault else "",
             is_file=self.request.recording is None, within=self.request.within,
             parts=len(self.parts), delay=self.delay_of_all, has_picture=self.has_picture,
-            unchecked=self.unchecked_kinds)
+            unchecked=self.unchecked_kinds, mismatch=self.mismatch)
         if refused and self.valid_subtitles:
             facts = self.add_transmission_facts(facts, self.valid_subtitles)
         elif refused and not self.worst_named_fault:
             facts = add_worst_fault(facts._replace(hint=refused.hint,
                                                    of_block=refused.block_subtitle,
                                                    causes=refused.causes), refused.worst_fault)
-        is_other = self.mismatch and self.word in (REFUSED, NOT_JUDGED)
-        return f"{self.mismatch.capitalize()}. " * bool(is_other) + write_sentence(facts)
+        return write_sentence(facts)
 
     @property
     def delay_of_all(self) -> int:
