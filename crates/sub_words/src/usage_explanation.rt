@@ -73,8 +73,8 @@ pub fn explanation_of<'a>(alloc: Global, arguments: &'a [&'a str]) -> Option<Exp
     }
 }
 
-// Returns the line about an argument whose value is wrong. Returns `None` for a fault of the program
-// itself.
+// Returns the line about an argument whose value is wrong. Returns `None` for a fault of the
+// program itself.
 fn explain_value<'a>(fault: &UsageFault, matches: &ArgMatches<'a>) -> Option<Explanation<'a>> {
     let (argument, id, advice) = match fault {
         UsageFault::BadHex => ("HEX", "hex", "give 42 bytes as 84 hexadecimal digits"),

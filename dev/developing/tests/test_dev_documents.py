@@ -275,7 +275,13 @@ STORED_FILE = "dev/bodies-to-read.txt"
 # First lines of functions and impls in STORED_FILE. They make system calls that have no contract.
 HELD = [
     "fn main(rt: HostRuntime)",
+    "fn run_with_system(rt: &HostRuntime, closed_stream: LookupResult)",
+    "fn occupy_closed_streams(rt: &HostRuntime)",
+    "fn refuse_to_begin<K: Sink + Drop>(standard_output: K)",
+    "pub fn occupy_closed_stream<R: Files, S: AsFd>(\n",
+    "fn is_closed<S: AsFd>(stream: &S)",
     "impl<'a, R: Files + Eprint> FileSystem for SystemFiles<'a, R>",
+    "fn is_memory_device(file: &Metadata)",
     "fn lookup_result_from_metadata(looked_up: io::Result<Metadata>)",
     "impl<'a, R: Files + Eprint> SystemFiles<'a, R>",
     "impl<R: Files + Eprint> SizeLookup for SystemSizeLookup<'_, R>",
