@@ -220,7 +220,9 @@ impl Multiplex {
         let Some(pictures) = self.videos.get(state.video as usize) else {
             return;
         };
-        if begins(packet) || pictures.needs_every_packet() {
+        // A packet with the counter of the packet before it is needed: a repeat after it is none.
+        let is_same_counter = state.before % 0x10 == state.counter;
+        if begins(packet) || pictures.needs_every_packet() || is_same_counter {
             self.process_needed_packet(
                 state.video,
                 state.kind,
@@ -369,13 +371,13 @@ impl Multiplex {
         let Some(stream_id) = stream_id_in(payload) else {
             return;
         };
-        if begins_with_teletext(payload) {
-            self.follow(pid, text);
         let mut state = self.pids.get(pid);
         let is_video = stream_id / 0x10 == 0xE;
         if state.is_other && !is_video {
             return;
         }
+        if begins_with_teletext(payload) {
+            self.follow(pid, text);
         } else if stream_id != 0xBD || has_data_identifier(payload) {
             state.is_other = true;
             self.pids.set(pid, state);
