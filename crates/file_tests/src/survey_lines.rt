@@ -247,13 +247,13 @@ fn prints_the_lead_of_the_teletext_over_the_pictures(rt: HostRuntime) {
         teletext 257\nsub 257 888\nlead 257 3240000000 82000 272 6\npicture 272 3239928800\n\
         pes 257 0 1 3240000000 0 b/ 3 0\nlead 257 3240180000 251200 272 7\n\
         pes 257 1 1 3240180000 0 b/ 2 0\n\
+        steps 272 3600 2 10800 7\n\
         group 272 3239907200 3239903600 unknown\npictures 272 0 0 0 1\n\
         subs 257 888 2\n\
         end 257 2 0 2 0 0 0 3240180000\nover 0 11\n";
     assert_prints(&rt, &SURVEY, &stream, want);
 }
 
-#[test]
 // The table `PMT` with PCR_PID 1FFF, and a later version with video in PID 111 instead of PID 110.
 const PMT_WITHOUT_PCR: [u8; 31] = [
     0x47, 0x41, 0x00, 0x10, 0x00, 0x02, 0xB0, 0x17, 0x00, 0x01, 0xC1, 0x00, 0x00, 0xFF, 0xFF, 0xF0,
@@ -310,6 +310,7 @@ fn follows_the_video_that_the_last_pmt_names(rt: HostRuntime) {
     assert_prints(&rt, &SURVEY, &stream, want);
 }
 
+#[test]
 fn reports_whether_the_group_of_the_first_picture_is_closed(rt: HostRuntime) {
     let closed: [&[u8]; 7] = [
         &PAT,

@@ -37,6 +37,7 @@ mod recording;
 mod reporting;
 mod rows;
 mod section;
+mod steps;
 mod tables;
 mod text;
 mod units;
