@@ -219,7 +219,7 @@ impl<R: Files + Eprint> SizeLookup for SystemSizeLookup<'_, R> {
             return true;
         }
         match file_length(self.rt, self.name) {
-            Ok(found) if found == length => is_folder_stored(self.rt, self.name),
+            Ok(found) if found == length => store_folder(self.rt, self.name),
             Ok(found) => {
                 let name = self.name;
                 let _ = eprintln!(self.rt;
@@ -253,7 +253,7 @@ fn file_length<R: Files>(rt: &R, name: &str) -> io::Result<u64> {
 
 // Synchronises the folder of a file to disk. Returns `true` if the folder can't be opened for lack
 // of permission, because it can't be synchronised then.
-fn is_folder_stored<R: Files + Eprint>(rt: &R, name: &str) -> bool {
+fn store_folder<R: Files + Eprint>(rt: &R, name: &str) -> bool {
     let folder = match Path::new(name).parent() {
         Some(folder) if !folder.as_str().is_empty() => folder.as_str(),
         _ => ".",

@@ -9,7 +9,7 @@ use crate::picture_forms::{Form, FormReader};
 use crate::pid_state::PacketLink;
 use crate::steps::Steps;
 use crate::text::{CLOCK_PERIOD, Text, forward_distance};
-use mpeg_ts::{PACKET, announces_jump, begins, has_adaptation_field, has_payload, is_erroneous};
+use mpeg_ts::{PACKET, announces_jump, begins, has_adaptation_field, has_payload, is_unusable};
 
 /// How much of the first group of pictures has been received.
 #[derive(Clone, Copy, PartialEq, Eq)]
@@ -162,7 +162,7 @@ impl Pictures {
             self.flags_next = false;
             self.is_first = false;
         }
-        if is_erroneous(packet) {
+        if is_unusable(packet) {
             self.process_unreadable_packet(packet, kind, text);
         } else {
             self.read_header(packet, kind, link, text);

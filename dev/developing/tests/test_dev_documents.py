@@ -286,7 +286,7 @@ HELD = [
     "impl<'a, R: Files + Eprint> SystemFiles<'a, R>",
     "impl<R: Files + Eprint> SizeLookup for SystemSizeLookup<'_, R>",
     "fn file_length<R: Files>(rt: &R, name: &str)",
-    "fn is_folder_stored<R: Files + Eprint>(rt: &R, name: &str)",
+    "fn store_folder<R: Files + Eprint>(rt: &R, name: &str)",
     "impl<T: Read, E: Eprint> Read for ErrorReporter<'_, T, E>",
     "impl<T: Write, E: Eprint> Write for ErrorReporter<'_, T, E>",
     "impl<T: OpenFile, E: Eprint> OpenFile for ErrorReporter<'_, T, E>",
