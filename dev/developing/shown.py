@@ -36,16 +36,17 @@ def find_commands(path: str) -> list[Line]:
 
 def has_expected_status(status: int | None, command: str, output: str) -> bool:
     """Return whether the exit status (`None` after a timeout) agrees with the last line of the
-    output."""
+    output. Lines that explain a fault on standard error do not count."""
     if status is None:
         return False
     if "|" in command.rsplit(";", 1)[-1]:
         return True
-    last = output.rstrip("\n").split("\n")[-1]
-    if re.fullmatch(r"\d+ faults", last):
+    last = [line for line in output.rstrip("\n").split("\n")
+            if not line.startswith("subttx: ")][-1:] or [""]
+    if re.fullmatch(r"\d+ faults", last[0]):
         return status == 1
     statuses = {"refused": 1, "fault": 2, "usage": 2, "relative": 3}
-    return status == statuses.get(last.split(" ")[0], 0)
+    return status == statuses.get(last[0].split(" ")[0], 0)
 
 
 def run_command(command: str, folder: str, env: dict[str, str]) -> tuple[str, int | None]:

@@ -24,9 +24,9 @@ CALLS = "trace=openat,read,write,fsync,close,statx,mmap,brk,rt_sigaction"
 STRACE = ["strace", "-f", "--seccomp-bpf", "-y", "-s", "0", "-e", CALLS]
 # Lines on standard error that the shell or strace prints.
 SHELL_MESSAGES = re.compile(r"(sh|strace): ")
-# Printed faults that need an explanation on standard error, and how that explanation begins.
-EXPLANATIONS = [(re.compile(rb"^fault \d+ (Open|Read|Write)\b", re.MULTILINE), "subttx: "),
-                (re.compile(rb"^usage 0 Words$", re.MULTILINE), "error: ")]
+# Printed faults that need an explanation on standard error, and how each line of it begins.
+EXPLAINED = re.compile(rb"^(fault \d+ (Open|Read|Write)|usage \d+)\b", re.MULTILINE)
+EXPLANATION = "subttx: "
 COMMAND_LINE_ERROR = "subttx: cannot read the command line: "  # printed if memory runs out
 # For each input, the number of faults that `check --all` reports for each PES packet but the last.
 FAULTS_PER_PACKET = {"long.pes": 0, "even.pes": 2, "unread.pes": 1}
@@ -332,14 +332,19 @@ def find_faults(run_result: RunResult, status: int | str, printed: bytes,
 def find_explanation_faults(run_result: RunResult, printed: bytes) -> list[str]:
     """Return the faults in the standard error of a run.
 
-    It must explain each fault of a file or of the arguments, and be empty for status 0 and 1.
+    It must explain each fault of a file or of the arguments, wrong arguments in one line, and be
+    empty for status 0 and 1.
     """
     if run_result.status in (0, 1) and run_result.error_text:
         return [f"unexpected standard error: {run_result.error_text!r}"]
-    begins = [begin for sign, begin in EXPLANATIONS if sign.search(printed)]
-    return [f"standard error has no line {begin!r}, but {run_result.error_text!r}"
-            for begin in begins if run_result.status == 2 and not any(line.startswith(begin)
-                                                  for line in run_result.error_text.splitlines())]
+    lines = run_result.error_text.splitlines()
+    if run_result.status != 2 or not EXPLAINED.search(printed):
+        return []
+    if not lines or not all(line.startswith(EXPLANATION) for line in lines):
+        return [f"standard error does not explain the fault: {run_result.error_text!r}"]
+    if printed.startswith(b"usage ") and len(lines) > 1:
+        return [f"standard error has {len(lines)} lines: {run_result.error_text!r}"]
+    return []
 
 
 def shown(text: bytes) -> str:
@@ -365,7 +370,7 @@ def check_memory_failure(command: Command, run_result: RunResult) -> list[str]:
     if not result or run_result.printed is None:
         if command.status == 2 and (not run_result.error_text
                                     or run_result.error_text.startswith(COMMAND_LINE_ERROR)):
-            run_result = run_result._replace(error_text="error: ")
+            run_result = run_result._replace(error_text=EXPLANATION)
         return compare_with_normal_run(command, run_result)
     before = run_result.printed[:result.start()]
     faults = find_faults(run_result, 2, before + result[0], run_result.written)
@@ -447,7 +452,7 @@ def judge(trial: Trial, command: Command, run_result: RunResult) -> list[str]:
     if not injected_calls:
         return ["no call failed"] + compare_with_normal_run(command, run_result)
     if any(is_explanation(call) for call in injected_calls):
-        run_result = run_result._replace(error_text="error: \nsubttx: ")
+        run_result = run_result._replace(error_text=EXPLANATION)
     failed = {(call.name, call.on): call for call in reversed(injected_calls)
               if not is_explanation(call)}
     if not failed:

@@ -7,15 +7,20 @@ use std::alloc::Global;
 use std::process::Abort;
 
 // The names of the national options on the command line.
-const WORDS: [&str; 7] = [
-    "english", "german", "swedish", "italian", "french", "spanish", "czech",
+#[rattlefmt::skip]
+const WORDS: [&str; 13] = [
+    "english", "german", "swedish", "italian", "french", "spanish", "czech", "polish", "turkish",
+    "croatian", "romanian", "estonian", "lithuanian",
 ];
 
-// Byte 9 of a header for each national option, in the bit order of a PES packet.
-const LAST_BYTES: [u8; 7] = [0xA8, 0x0B, 0x26, 0x85, 0x92, 0x31, 0x1C];
+// Byte 9 of a header of each national option, in the bit order of a PES packet. Sub-sets of
+// different regions may have the same byte.
+const LAST_BYTES: [u8; 13] = [
+    0xA8, 0x0B, 0x26, 0x85, 0x92, 0x31, 0x1C, 0xA8, 0x1C, 0x31, 0xBF, 0x26, 0x85,
+];
 
-// Byte 9 of a header with C12, C13 and C14 set, which is no national option.
-const RESERVED: u8 = 0xBF;
+// The eight values of that byte. The last has C12, C13 and C14 set.
+const ALL_LAST_BYTES: [u8; 8] = [0xA8, 0x0B, 0x26, 0x85, 0x92, 0x31, 0x1C, 0xBF];
 
 const FIRST_REFUSED: &str = "refused 67 Control frame 10:00:00:00 packet 0\n";
 
@@ -35,23 +40,17 @@ fn assert_checks(rt: &(impl Abort + Alloc<A = Global>), word: &str, pes: &[u8], 
 }
 
 // Asserts the lines of checks with the national option `word`, whose byte 9 is `own`, for the
-// transmissions with all national options.
+// transmissions with all values of it.
 fn assert_requires_option(rt: &(impl Abort + Alloc<A = Global>), word: &str, own: u8) {
-    for byte in LAST_BYTES {
+    for byte in ALL_LAST_BYTES {
         let is_own = byte == own;
         let both = if is_own { ACCEPTED } else { FIRST_REFUSED };
         assert_checks(rt, word, &schedule_with_headers(byte, byte), both);
         let second = if is_own { ACCEPTED } else { SECOND_REFUSED };
         assert_checks(rt, word, &schedule_with_headers(own, byte), second);
     }
-    assert_checks(
-        rt,
-        word,
-        &schedule_with_headers(RESERVED, own),
-        FIRST_REFUSED,
-    );
     let mut closing = schedule_with_headers(own, own);
-    (closing[151], closing[289]) = (RESERVED, RESERVED);
+    (closing[151], closing[289]) = (0xBF, 0xBF);
     assert_checks(rt, word, &closing, ACCEPTED);
 }
 

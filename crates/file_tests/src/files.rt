@@ -101,6 +101,38 @@ fn creates_no_file_over_the_input(rt: HostRuntime) {
     assert_file_calls(&rt, &NORMAL, &there, &mut [0], "o0l0l1p?", false);
 }
 
+// Asserts how many reasons are given for not creating the output. `look_up` prints its own reason.
+fn assert_reasons(
+    rt: &(impl Abort + Alloc<A = Global>),
+    input: LookupResult,
+    output: LookupResult,
+    want: u8,
+) {
+    let entries = [
+        Entry {
+            found: input,
+            ..INPUT
+        },
+        second(output),
+    ];
+    let mut buffer = [0];
+    let mut files = FilesInMemory::new(&entries, &mut buffer);
+    if let Ok(request) = Request::parse(rt.alloc(), &NORMAL) {
+        let opened = open(&mut files, &request.files());
+        assert!(rt; opened.is_none());
+    }
+    assert_same(rt, &files.reasons(), &want);
+}
+
+#[test]
+fn gives_a_reason_for_an_output_only_if_no_lookup_gave_one(rt: HostRuntime) {
+    let (one, other) = (LookupResult::At(1, 1), LookupResult::At(1, 2));
+    assert_reasons(&rt, one, one, 1);
+    assert_reasons(&rt, LookupResult::Nothing, other, 1);
+    assert_reasons(&rt, one, LookupResult::Unknown, 0);
+    assert_reasons(&rt, LookupResult::Unknown, other, 0);
+}
+
 #[test]
 fn creates_the_file_of_a_recording_as_that_of_a_subtitle_file(rt: HostRuntime) {
     let there = [INPUT, second(LookupResult::Nothing)];

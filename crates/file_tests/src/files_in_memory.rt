@@ -1,6 +1,7 @@
 //! A file system in memory.
 ghost use Rattle.std.specs.Prelude.{None};
 
+use std::cell::Cell;
 use std::fs::{Metadata, OpenFile};
 use std::io::{self, ErrorKind, Read, Write};
 use sub_files::{FileSystem, LookupResult};
@@ -30,6 +31,7 @@ pub struct FilesInMemory<'a> {
     buffer: Option<&'a mut [u8]>,
     calls: [u8; 10],
     len: usize,
+    reasons: Cell<u8>,
 }
 
 /// A file that was opened or created.
@@ -50,6 +52,7 @@ impl<'a> FilesInMemory<'a> {
             buffer: Some(buffer),
             calls: [0; 10],
             len: 0,
+            reasons: Cell::new(0),
         }
     }
 
@@ -58,6 +61,11 @@ impl<'a> FilesInMemory<'a> {
     /// the list, or `?`.
     pub fn calls(&self) -> &[u8] {
         &self.calls[..self.len.min(10)]
+    }
+
+    /// Returns how many reasons were given for not creating a file.
+    pub fn reasons(&self) -> u8 {
+        self.reasons.get()
     }
 
     // Records a call, and returns the entry for the name.
@@ -125,6 +133,10 @@ impl<'a> FileSystem for FilesInMemory<'a> {
     fn release_input(&mut self, _file: FromRead<MemoryFile<'a>>) {}
 
     fn release_output(&mut self, _file: IntoFile<MemoryFile<'a>>) {}
+
+    fn refuse(&self, _name: &str, _reason: &str) {
+        self.reasons.set(self.reasons.get().saturating_add(1));
+    }
 }
 
 impl Read for MemoryFile<'_> {

@@ -247,9 +247,66 @@ fn prints_the_lead_of_the_teletext_over_the_pictures(rt: HostRuntime) {
         teletext 257\nsub 257 888\nlead 257 3240000000 82000 272 6\npicture 272 3239928800\n\
         pes 257 0 1 3240000000 0 b/ 3 0\nlead 257 3240180000 251200 272 7\n\
         pes 257 1 1 3240180000 0 b/ 2 0\n\
+        steps 272 3600 2 10800 7\n\
         group 272 3239907200 3239903600 unknown\npictures 272 0 0 0 1\n\
         subs 257 888 2\n\
         end 257 2 0 2 0 0 0 3240180000\nover 0 11\n";
+    assert_prints(&rt, &SURVEY, &stream, want);
+}
+
+// The table `PMT` with PCR_PID 1FFF, and a later version with video in PID 111 instead of PID 110.
+const PMT_WITHOUT_PCR: [u8; 31] = [
+    0x47, 0x41, 0x00, 0x10, 0x00, 0x02, 0xB0, 0x17, 0x00, 0x01, 0xC1, 0x00, 0x00, 0xFF, 0xFF, 0xF0,
+    0x00, 0x02, 0xE1, 0x10, 0xF0, 0x00, 0x06, 0xE1, 0x01, 0xF0, 0x00, 0x99, 0xEF, 0x5B, 0xB7,
+];
+
+const PMT_MOVED: [u8; 31] = [
+    0x47, 0x41, 0x00, 0x11, 0x00, 0x02, 0xB0, 0x17, 0x00, 0x01, 0xC1, 0x00, 0x00, 0xFF, 0xFF, 0xF0,
+    0x00, 0x02, 0xE1, 0x11, 0xF0, 0x00, 0x06, 0xE1, 0x01, 0xF0, 0x00, 0xC2, 0x4E, 0x87, 0x7D,
+];
+
+// TS packets that start pictures in PID 111. The first has the stream_id of audio.
+const MOVED_DAMAGED: [u8; 18] = [
+    0x47, 0x41, 0x11, 0x10, 0x00, 0x00, 0x01, 0xC0, 0x00, 0x00, 0x80, 0x80, 0x05, 0x27, 0x04, 0x75,
+    0x3B, 0x21,
+];
+
+const MOVED: [u8; 18] = [
+    0x47, 0x41, 0x11, 0x11, 0x00, 0x00, 0x01, 0xE0, 0x00, 0x00, 0x80, 0x80, 0x05, 0x27, 0x04, 0x75,
+    0x57, 0x41,
+];
+
+#[test]
+fn follows_the_video_that_the_last_pmt_names(rt: HostRuntime) {
+    let fill = &FILL[..170];
+    let stream: [&[u8]; 16] = [
+        &PAT,
+        &FILL[..167],
+        &PMT_WITHOUT_PCR,
+        &FILL[..157],
+        &FLAGGED,
+        &FILL[..163],
+        &BEGINS_0,
+        &FIRST,
+        &PMT_MOVED,
+        &FILL[..157],
+        &MOVED_DAMAGED,
+        fill,
+        &MOVED,
+        fill,
+        &BEGINS_1,
+        &SECOND,
+    ];
+    let want = "survey 1\nhead 474000100000b00d0001c1\nsize 188\n\
+        programme 1 8191\nstream 272 2\nstream 257 6\n\
+        video 272 0\npicture 272 3239907200\n\
+        teletext 257\nsub 257 888\nlead 257 3240000000 100000 272 1\n\
+        programme 1 8191\nstream 273 2\nstream 257 6\n\
+        pes 257 0 1 3240000000 0 b/ 3 0\nlead 257 3240180000 265600 273 1\n\
+        pes 257 1 1 3240180000 0 b/ 2 0\n\
+        group 272 3239907200 3239907200 unknown\npictures 272 0 0 0 1\npictures 273 0 0 1 0\n\
+        subs 257 888 2\n\
+        end 257 2 0 2 0 0 0 3240180000\nover 0 8\n";
     assert_prints(&rt, &SURVEY, &stream, want);
 }
 

@@ -12,10 +12,10 @@ use Rattle.mpeg_ts.specs.GoodPackets.{event_of_packet, pid_events, empty_history
 use Rattle.mpeg_ts.specs.Joining.{last_output_after, initial_joining}
 use Rattle.mpeg_ts.specs.PacketsInStep.{Item, Packet, Skipped, begins_packet, items, items_of}
 use Rattle.mpeg_ts.specs.Parts.{PartOutcome, begins_part, gap_where, is_break, outcomes}
-use Rattle.mpeg_ts.specs.Parts.{part_is_limited_suffix}
+use Rattle.mpeg_ts.specs.Parts.{single_packet_part}
 use Rattle.mpeg_ts.specs.Parts.{parts}
 use Rattle.mpeg_ts.specs.Stream.{output_of, start_of_stream, remaining_output, stream_output}
-use Rattle.mpeg_ts.specs.TransportPacket.{begins, has_payload, is_erroneous}
+use Rattle.mpeg_ts.specs.TransportPacket.{begins, has_payload, is_unusable}
 use Rattle.mpeg_ts.specs.TransportPacket.{payload, pid}
 use Rattle.mpeg_ts.specs.declared.joining.Given.TheVariants as given
 use Rattle.mpeg_ts.proofs.JoinedPacketLemmas.{joined_output_is_correct, joined_output}
@@ -61,7 +61,7 @@ only_last_reason_remains x y a h n h1 h2 h3 = grind (arith, nat_tests)
 -- The payload of a usable transport packet is not empty.
 payload_is_not_empty : (p : List ℕ)
     → length p ≡ 188
-    → is_erroneous p ≡ false
+    → is_unusable p ≡ false
     → has_payload p ≡ true
     → 0 < length (payload p)
 payload_is_not_empty p h1 h2 h3 = grind (arith, nat_tests, only_last_reason_remains, length-drop)
@@ -112,13 +112,13 @@ joining_starts_with_outcomes wrong [] cut all = no_marker_before_first_packet wr
 joining_starts_with_outcomes wrong (g ∷ more) cut all =
     let first : begins_part g ≡ true =
     ap (λ (b : Bool). begins g.packet || b) cut ∙ disjunction_with_true (begins g.packet) in
-    let rest = tail wrong (part_is_limited_suffix g) more in
+    let rest = tail wrong (single_packet_part g) more in
     rw first (
     new_part_gives_outcome wrong more initial_joining g all.1 (joined_output_is_correct wrong more
     all.1)
     ∙ gap_before_output_is_ignored (is_break g.link || true) rest
     ∙ leading_gap_is_ignored (is_break g.link) rest
-    ∙ sym (ap (output given.Nothing) (outcomes-from wrong (part_is_limited_suffix g) more))
+    ∙ sym (ap (output given.Nothing) (outcomes-from wrong (single_packet_part g) more))
     ∙ sym (with_gap_markers-nothing false (outcomes wrong (parts (g ∷ more)))))
 
 -- Reading a recording from its start returns what the transport packets of the PID carry.

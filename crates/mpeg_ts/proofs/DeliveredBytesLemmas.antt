@@ -4,7 +4,7 @@ use Rattle.std.proofs.Common.{append_assoc, subst}
 use Rattle.std.proofs.lemmas.List.{append-nil, append_cancel_right}
 use Rattle.std.proofs.KnownBytes.{Consumes-trans}
 use Rattle.std.specs.List.{concat}
-use Rattle.ttx_pes.specs.Reader.{FailsAtPacket, FailsWithinPacket, TakesPackets}
+use Rattle.ttx_pes.specs.Reader.{FailsAfterValidPackets, FailsWithinPacket, TakesValidPesPackets}
 use Rattle.mpeg_ts.specs.CarriedPackets.{carried_bytes, gap_marker}
 use Rattle.mpeg_ts.specs.Joining.{JoiningValue, TakesNext}
 use Rattle.mpeg_ts.specs.Stream.{StreamValue, output_of, start_of_stream}
@@ -69,15 +69,15 @@ remaining_bytes_give_output number distance v all taken rest given is same none 
 -- consumed bytes.
 failure_moves_to_prefix : (index : ℕ) (all prefix left : List ℕ)
     → all ≡ prefix ++ left
-    → FailsAtPacket index (Some all) (Some left)
-    → FailsAtPacket index (Some prefix) (Some [])
+    → FailsAfterValidPackets index (Some all) (Some left)
+    → FailsAfterValidPackets index (Some prefix) (Some [])
 failure_moves_to_prefix index all prefix left is failed =
     at failed.following failed.before failed.within
   where
     at : (following : Option (List ℕ))
-        → TakesPackets index (Some all) following
+        → TakesValidPesPackets index (Some all) following
         → FailsWithinPacket following (Some left)
-        → FailsAtPacket index (Some prefix) (Some [])
+        → FailsAfterValidPackets index (Some prefix) (Some [])
     at None before within = absurd before.consumed
     at (Some bytes) before within = record {
       following = Some within.bytes;

@@ -12,7 +12,7 @@ use Rattle.mpeg_ts.specs.Joining.{without_pending, has_ended, with_buffered_payl
 use Rattle.mpeg_ts.specs.Joining.{with_remembered_packet}
 use Rattle.mpeg_ts.specs.Joining.{settle_found, with_gap}
 use Rattle.mpeg_ts.specs.Parts.{PartOutcome, Part, begins_part, gap_where, is_break, outcome}
-use Rattle.mpeg_ts.specs.Parts.{part_bytes, part_is_limited_suffix}
+use Rattle.mpeg_ts.specs.Parts.{part_bytes, single_packet_part}
 use Rattle.mpeg_ts.specs.Parts.{payloads_up_to, with_packet}
 use Rattle.mpeg_ts.specs.TransportPacket.{begins, payload}
 use Rattle.mpeg_ts.specs.declared.joining.Given.{Given}
@@ -158,8 +158,8 @@ settling_gives_outcome : (gap : Bool) (v : JoiningValue) (part : Part) (wrong : 
 settling_gives_outcome gap v part wrong more h1 h2 h3 h4 = grind
     (arith, nat_tests, settling_by_cases)
 
-payloads_up_to-one : (g : GoodPacket) → payloads_up_to 6 (part_is_limited_suffix g).payloads ≡
-    part_bytes (part_is_limited_suffix g)
+payloads_up_to-one : (g : GoodPacket) → payloads_up_to 6 (single_packet_part g).payloads ≡
+    part_bytes (single_packet_part g)
 payloads_up_to-one g =
     payloads_up_to-last 6 [] (payload g.packet) (omega arith) ∙ sym (append-nil (payload g.packet))
 
@@ -174,14 +174,14 @@ new_part_by_cases : (wrong : Bool) (more : List GoodPacket) (v : JoiningValue) (
     wrong more
     ≡ gap_marker_where ((is_break g.link || not (is_complete v.part)) && gave_pes_packet v.given)
     ++ output (last_output_after (is_break g.link || not (is_complete v.part)) v.given)
-    (tail wrong (part_is_limited_suffix g) more)
+    (tail wrong (single_packet_part g) more)
 new_part_by_cases wrong more v g all joined_output_is_correct true e =
     let gap = is_break g.link || not (is_complete v.part) in
     let p = payload g.packet in
     let state : JoiningValue = record (with_remembered_packet v g.packet) { bytes = []; last = p }
     in
     ap (λ b. output_of_open_part gap state b wrong more) (sym (append-nil p))
-    ∙ settling_gives_outcome gap state (part_is_limited_suffix g) wrong more all
+    ∙ settling_gives_outcome gap state (single_packet_part g) wrong more all
     joined_output_is_correct e (λ o. payloads_up_to-one g)
 new_part_by_cases wrong more v g all joined_output_is_correct false e =
     let gap = is_break g.link || not (is_complete v.part) in
@@ -189,7 +189,7 @@ new_part_by_cases wrong more v g all joined_output_is_correct false e =
     with_buffered_payload gap (record (with_remembered_packet v g.packet) { part = WithoutStart })
     (payload g.packet) in
     ap (λ l. gap_marker_where (gap && gave_pes_packet v.given) ++ l)
-    (joined_output_is_correct.headless (without_pending state) (part_is_limited_suffix g) e)
+    (joined_output_is_correct.headless (without_pending state) (single_packet_part g) e)
 
 pub new_part_gives_outcome : (wrong : Bool) (more : List GoodPacket) (v : JoiningValue)
     (g : GoodPacket)
@@ -202,7 +202,7 @@ pub new_part_gives_outcome : (wrong : Bool) (more : List GoodPacket) (v : Joinin
     (payload g.packet))) wrong more
     ≡ gap_marker_where ((is_break g.link || not (is_complete v.part)) && gave_pes_packet v.given)
     ++ output (last_output_after (is_break g.link || not (is_complete v.part)) v.given)
-    (tail wrong (part_is_limited_suffix g) more)
+    (tail wrong (single_packet_part g) more)
 new_part_gives_outcome wrong more v g all joined_output_is_correct =
     new_part_by_cases wrong more v g all joined_output_is_correct (begins g.packet) refl
 
@@ -221,10 +221,10 @@ new_part_after_incomplete : (wrong : Bool) (more : List GoodPacket) (part : Part
     (g : GoodPacket)
     → outcome false part ≡ gap_where true
     → gap_marker_where ((is_break g.link || true) && gave_pes_packet h)
-    ++ output (last_output_after (is_break g.link || true) h) (tail wrong (part_is_limited_suffix g)
+    ++ output (last_output_after (is_break g.link || true) h) (tail wrong (single_packet_part g)
     more)
     ≡ output h (outcome false part ++
-    (gap_where (is_break g.link) ++ tail wrong (part_is_limited_suffix g) more))
+    (gap_where (is_break g.link) ++ tail wrong (single_packet_part g) more))
 new_part_after_incomplete wrong more part h g h1 = grind (
   arith,
   nat_tests,
@@ -285,7 +285,7 @@ joined_output_is_correct wrong (g ∷ more) all =
           ∙ sym (bytes-with part g))));
       complete = λ v excess no_output_after_wrong.
           let state : JoiningValue = record v { part = Complete } in
-          let after = tail wrong (part_is_limited_suffix g) more in
+          let after = tail wrong (single_packet_part g) more in
           boolean_cases (begins_part g)
           (λ yes. rw yes (
           new_part_gives_outcome wrong more state g all.1 rest

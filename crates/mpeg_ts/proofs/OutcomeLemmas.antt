@@ -14,7 +14,7 @@ use Rattle.mpeg_ts.specs.GoodPackets.{GoodPacket}
 use Rattle.mpeg_ts.specs.Joining.{found_in, found_by_size, gave_pes_packet, last_output_after}
 use Rattle.mpeg_ts.specs.Parts.{PartOutcome, Pes, Gap, Other, Part, begins_part, part_bytes}
 use Rattle.mpeg_ts.specs.Parts.{gap_where, is_break, may_be_cut_off, outcome, outcome_of_size}
-use Rattle.mpeg_ts.specs.Parts.{outcomes, part_is_limited_suffix, parts_from, payloads_up_to}
+use Rattle.mpeg_ts.specs.Parts.{outcomes, single_packet_part, parts_from, payloads_up_to}
 use Rattle.mpeg_ts.specs.Parts.{with_packet}
 use Rattle.mpeg_ts.specs.TransportPacket.{payload}
 use Rattle.mpeg_ts.specs.declared.joining.Given.{Given}
@@ -85,7 +85,7 @@ abbrev pub tail : Bool → Part → List GoodPacket → List PartOutcome
 tail wrong part [] = outcome (not wrong) part ++ gap_where wrong
 tail wrong part (g ∷ more) =
     if begins_part g then
-    outcome false part ++ (gap_where (is_break g.link) ++ tail wrong (part_is_limited_suffix g)
+    outcome false part ++ (gap_where (is_break g.link) ++ tail wrong (single_packet_part g)
     more)
     else tail wrong (with_packet part g) more
 
@@ -95,7 +95,7 @@ abbrev pub following : Bool → Bool → List GoodPacket → List PartOutcome
 following excess wrong [] = gap_where excess ++ gap_where wrong
 following excess wrong (g ∷ more) =
     if begins_part g then
-    gap_where excess ++ (gap_where (is_break g.link) ++ tail wrong (part_is_limited_suffix g) more)
+    gap_where excess ++ (gap_where (is_break g.link) ++ tail wrong (single_packet_part g) more)
     else following true wrong more
 
 unfinished_parts_are_not_cut : (wrong : Bool) (part : Part) (goods : List GoodPacket)
@@ -120,10 +120,10 @@ outcomes-from wrong part (g ∷ more) =
     boolean_cases (begins_part g)
     (λ yes. rw yes (
     ap (λ c. gap_where part.after_break
-    ++ (outcome c part ++ outcomes wrong (parts_from (part_is_limited_suffix g) more)))
-    (unfinished_parts_are_not_cut wrong (part_is_limited_suffix g) more)
+    ++ (outcome c part ++ outcomes wrong (parts_from (single_packet_part g) more)))
+    (unfinished_parts_are_not_cut wrong (single_packet_part g) more)
     ∙ ap (λ l. gap_where part.after_break ++ (outcome false part ++ l))
-    (outcomes-from wrong (part_is_limited_suffix g) more)))
+    (outcomes-from wrong (single_packet_part g) more)))
     (λ no. rw no (outcomes-from wrong (with_packet part g) more))
 
 concat-following : (ps : List (List ℕ)) (x : List ℕ) → concat (ps ++ x ∷ []) ≡ concat ps ++ x
@@ -266,7 +266,7 @@ tail-whole wrong part size (g ∷ more) all begins w =
     less_than_test_is_true size (length grow_part) (omega (arith, long, w.within, all.0)) in
     boolean_cases (begins_part g)
     (λ yes. rw yes (
-    ap (λ l. l ++ (gap_where (is_break g.link) ++ tail wrong (part_is_limited_suffix g) more))
+    ap (λ l. l ++ (gap_where (is_break g.link) ++ tail wrong (single_packet_part g) more))
     (outcome-whole false part size begins w)))
     (λ no. rw no (
     tail-whole wrong (with_packet part g) size more all.1 begins w2
@@ -298,7 +298,7 @@ output-other h wrong part (g ∷ more) begins o =
     } in
     boolean_cases (begins_part g)
     (λ yes. rw yes (
-    ap (λ l. output h (l ++ (gap_where (is_break g.link) ++ tail wrong (part_is_limited_suffix g)
+    ap (λ l. output h (l ++ (gap_where (is_break g.link) ++ tail wrong (single_packet_part g)
     more)))
     (outcome-other false part begins o)))
     (λ no. rw no (

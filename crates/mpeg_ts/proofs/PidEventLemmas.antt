@@ -78,8 +78,8 @@ RemembersLast v (Some q) = IsLastHeader v q × (0 < length (payload q))
 pub record RemembersHistory (v : JoiningValue) (s : PacketHistory) : Type 0 where
   pub repeat : v.has_repeat ≡ s.has_repeat
   pub jump : v.has_jump ≡ s.has_jump
-  pub lost : v.has_break ≡ (s.has_erroneous_packet || s.has_loss)
-  pub no_output_after_wrong : s.has_erroneous_packet ≡ true → gave_pes_packet v.given ≡ false
+  pub lost : v.has_break ≡ (s.has_unusable_packet || s.has_loss)
+  pub no_output_after_wrong : s.has_unusable_packet ≡ true → gave_pes_packet v.given ≡ false
   pub none : s.good ≡ None → gave_pes_packet v.given ≡ false
   pub last : RemembersLast v s.good
 
@@ -127,7 +127,7 @@ remembered_link_is_correct : (v : JoiningValue) (s : PacketHistory) (o : Option 
     (p : List ℕ)
     → RemembersLast v o
     → v.has_jump ≡ s.has_jump
-    → v.has_break ≡ (s.has_erroneous_packet || s.has_loss)
+    → v.has_break ≡ (s.has_unusable_packet || s.has_loss)
     → link_after v v.last p ≡ link_from o s p
 remembered_link_is_correct v s o p h1 h2 h3 = grind (
   arith,
@@ -216,7 +216,7 @@ StartAfterBreak wrong (g ∷ more) = g.link ≡ Break
 
 -- After an unusable packet, the link of the next good packet is a break.
 wrong_packet_breaks_next : (s : PacketHistory) (q : List ℕ) (all : List PidEvent)
-    → s.has_erroneous_packet ≡ true
+    → s.has_unusable_packet ≡ true
     → s.good ≡ Some q
     → StartAfterBreak (good_packets_after s all).wrong_after (good_packets_after s all).packets
 unfolding good_packets_after
@@ -225,7 +225,7 @@ wrong_packet_breaks_next s q (Wrong ∷ more) wrong good =
     grind (
       arith,
       nat_tests,
-      (wrong_packet_breaks_next (record s { has_erroneous_packet = true }) q
+      (wrong_packet_breaks_next (record s { has_unusable_packet = true }) q
           more refl good),
     )
 wrong_packet_breaks_next s q (Loss ∷ more) wrong good =
@@ -331,9 +331,9 @@ no_marker_after_unusable : (v : JoiningValue) (s : PacketHistory) (o : Option (L
     → s.good ≡ o
     → (s.good ≡ None → gave_pes_packet v.given ≡ false)
     → gave_pes_packet v.given ≡ true
-    → StartAfterBreak (good_packets_after (record s { has_erroneous_packet = true })
+    → StartAfterBreak (good_packets_after (record s { has_unusable_packet = true })
     all).wrong_after
-    (good_packets_after (record s { has_erroneous_packet = true }) all).packets
+    (good_packets_after (record s { has_unusable_packet = true }) all).packets
 no_marker_after_unusable v s o all h1 h2 h3 = grind (arith, nat_tests, wrong_packet_breaks_next)
 
 abbrev pub OutputAgrees : JoiningValue → PacketHistory → List PidEvent → Type 0
@@ -429,10 +429,10 @@ pub joining_agrees_with_events : (v : JoiningValue) (s : PacketHistory) (all : L
     → OutputAgrees v s all
 unfolding later_output good_packets_after
 joining_agrees_with_events v s [] k sound = last_event_ends_output (has_ended v.part)
-    s.has_erroneous_packet (gave_pes_packet v.given)
+    s.has_unusable_packet (gave_pes_packet v.given)
     k.no_output_after_wrong
 joining_agrees_with_events v s (Wrong ∷ more) k sound =
-    let history : PacketHistory = record s { has_erroneous_packet = true } in
+    let history : PacketHistory = record s { has_unusable_packet = true } in
     let after : JoiningValue =
     record v { has_break = true; given = last_output_after true v.given } in
     let goods = good_packets_after history more in
@@ -458,7 +458,7 @@ joining_agrees_with_events v s (Loss ∷ more) k sound =
     let known : RemembersHistory after history = record {
       repeat = k.repeat;
       jump = k.jump;
-      lost = sym (disjunction_with_true s.has_erroneous_packet);
+      lost = sym (disjunction_with_true s.has_unusable_packet);
       no_output_after_wrong = k.no_output_after_wrong;
       none = k.none;
       last = last_good_unchanged v after s.good refl refl refl k.last;
@@ -520,7 +520,7 @@ first_packet_follows_break s (Wrong ∷ more) none =
     grind (
       arith,
       nat_tests,
-      (first_packet_follows_break (record s { has_erroneous_packet = true })
+      (first_packet_follows_break (record s { has_unusable_packet = true })
           more none),
     )
 first_packet_follows_break s (Loss ∷ more) none =
@@ -543,7 +543,7 @@ pub good_packets_have_payloads : (s : PacketHistory) (all : List PidEvent)
 unfolding good_packets_after
 good_packets_have_payloads s [] sound = tt
 good_packets_have_payloads s (Wrong ∷ more) sound = good_packets_have_payloads
-    (record s { has_erroneous_packet = true }) more sound
+    (record s { has_unusable_packet = true }) more sound
 good_packets_have_payloads s (Loss ∷ more) sound = good_packets_have_payloads
     (record s { has_loss = true }) more sound
 good_packets_have_payloads s (Valid p ∷ more) sound =

@@ -1,7 +1,7 @@
 -- How the consumed bytes of a source determine the output, whatever bytes follow.
 use Rattle.std.specs.Prelude.{◌≡◌, ℕ, List, [], ◌++◌, Option, Some}
 use Rattle.std.specs.Io.KnownBytes.{Consumes}
-use Rattle.ttx_pes.specs.Reader.{FailsAtPacket}
+use Rattle.ttx_pes.specs.Reader.{FailsAfterValidPackets}
 use Rattle.mpeg_ts.specs.CarriedPackets.{carried_bytes}
 use Rattle.mpeg_ts.specs.Stream.{StreamValue, output_of, start_of_stream}
 
@@ -47,9 +47,9 @@ pub record IsCutOffByFailure (number distance : ℕ) (v : StreamValue) (recordin
   -- `index` complete PES packets.
   pub place :
       (index : ℕ)
-      → FailsAtPacket index (Some (carried_bytes number distance recording))
+      → FailsAfterValidPackets index (Some (carried_bytes number distance recording))
       (Some (output_of v rest))
-      → FailsAtPacket index (Some (carried_bytes number distance taken)) (Some [])
+      → FailsAfterValidPackets index (Some (carried_bytes number distance taken)) (Some [])
 
 -- If a recording was read from its start until a read failed, the consumed bytes give no more
 -- output.

@@ -5,7 +5,7 @@
 use Rattle.std.specs.Prelude.{ℕ, ◌+◌, ◌*◌, ◌%◌, ◌==◌, ◌&&◌, ◌||◌, not, Bool, true, false}
 use Rattle.std.specs.Prelude.{if◌then◌else◌, List, [], ◌∷◌, Option, Some, None, bytes_eq}
 use Rattle.mpeg_ts.specs.PacketsInStep.{Item, Packet, Skipped}
-use Rattle.mpeg_ts.specs.TransportPacket.{pid, is_erroneous, has_payload, announces_jump, counter}
+use Rattle.mpeg_ts.specs.TransportPacket.{pid, is_unusable, has_payload, announces_jump, counter}
 use Rattle.mpeg_ts.specs.TransportPacket.{packet_header, payload}
 
 -- ---- events of a PID
@@ -24,7 +24,7 @@ loss_size distance = 15 * distance
 
 -- The event of a transport packet of the PID: usable or unusable.
 abbrev pub event_of_packet : List ℕ → PidEvent
-event_of_packet p = if is_erroneous p then Wrong else Valid p
+event_of_packet p = if is_unusable p then Wrong else Valid p
 
 -- The events of a PID in a list of items, if `run` consecutive bytes were skipped before the items.
 -- A loss is an event of the byte with which the skipped bytes become a loss.
@@ -59,7 +59,7 @@ pub record PacketHistory : Type 0 where
   pub good : Option (List ℕ)
   pub has_repeat : Bool
   pub has_jump : Bool
-  pub has_erroneous_packet : Bool
+  pub has_unusable_packet : Bool
   pub has_loss : Bool
 
 -- The history of events directly after this good transport packet: no further event.
@@ -68,7 +68,7 @@ empty_history good = record {
   good = good;
   has_repeat = false;
   has_jump = false;
-  has_erroneous_packet = false;
+  has_unusable_packet = false;
   has_loss = false;
 }
 
@@ -97,7 +97,7 @@ counter_is_next p q = counter q == (counter p + 1) % 0x10
 abbrev pub link_from : Option (List ℕ) → PacketHistory → List ℕ → PacketLink
 link_from None history p = First
 link_from (Some q) history p =
-    if history.has_erroneous_packet || history.has_loss then Break
+    if history.has_unusable_packet || history.has_loss then Break
     else if history.has_jump || announces_jump p then Seam
     else if counter_is_next q p then Follows
     else Break
@@ -118,9 +118,9 @@ with_good_packet g more = record { packets = g ∷ more.packets; wrong_after = m
 
 -- The good transport packets among further events of the PID, after the events of this history.
 unfoldable pub good_packets_after : PacketHistory → List PidEvent → GoodPackets
-good_packets_after history [] = record { packets = []; wrong_after = history.has_erroneous_packet }
+good_packets_after history [] = record { packets = []; wrong_after = history.has_unusable_packet }
 good_packets_after history (Wrong ∷ pid_events) = good_packets_after
-    (record history { has_erroneous_packet = true }) pid_events
+    (record history { has_unusable_packet = true }) pid_events
 good_packets_after history (Loss ∷ pid_events) = good_packets_after
     (record history { has_loss = true }) pid_events
 good_packets_after history (Valid p ∷ pid_events) =

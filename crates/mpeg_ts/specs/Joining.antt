@@ -233,10 +233,10 @@ IsPendingFor (pending_item.Rest gap_marker_before fault) part bytes =
     IsRefusedAtStart bytes fault × (has_ended part ≡ true)
 
 -- The invariant of the state of reassembly.
-pub record IsJoining (w : PendingItem) (payload_size : ℕ) (part : PartState) (bytes : List ℕ) : Type
+pub record IsJoining (w : PendingItem) (last_size : ℕ) (part : PartState) (bytes : List ℕ) : Type
     0
   where
-    pub last : payload_size ≤ length bytes
+    pub last : last_size ≤ length bytes
     pub room : part ≡ Open → length bytes ≤ 1655
     pub waits : IsPendingFor w part bytes
 

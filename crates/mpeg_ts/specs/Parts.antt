@@ -39,8 +39,8 @@ abbrev pub begins_part : GoodPacket → Bool
 begins_part g = begins g.packet || is_unlinked g.link
 
 -- The part that consists of one transport packet.
-abbrev pub part_is_limited_suffix : GoodPacket → Part
-part_is_limited_suffix g = record {
+abbrev pub single_packet_part : GoodPacket → Part
+single_packet_part g = record {
   after_break = is_break g.link;
   begins = begins g.packet;
   payloads = payload g.packet ∷ [];
@@ -55,13 +55,13 @@ with_packet part g = record part { payloads = part.payloads ++ payload g.packet 
 unfoldable pub parts_from : Part → List GoodPacket → List Part
 parts_from part [] = part ∷ []
 parts_from part (g ∷ more) =
-    if begins_part g then part ∷ parts_from (part_is_limited_suffix g) more
+    if begins_part g then part ∷ parts_from (single_packet_part g) more
     else parts_from (with_packet part g) more
 
 -- Splits good transport packets into parts, with at most one PES packet each.
 abbrev pub parts : List GoodPacket → List Part
 parts [] = []
-parts (g ∷ more) = parts_from (part_is_limited_suffix g) more
+parts (g ∷ more) = parts_from (single_packet_part g) more
 
 -- ---- the outcomes of parts
 

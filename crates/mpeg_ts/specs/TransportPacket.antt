@@ -48,8 +48,8 @@ announces_jump p =
 
 -- The transport packet is unusable: its transport_error_indicator is set, it is scrambled, or its
 -- adaptation field leaves no space for the payload.
-abbrev pub is_erroneous : List ℕ → Bool
-is_erroneous p =
+abbrev pub is_unusable : List ℕ → Bool
+is_unusable p =
     (slice_index p 1 / 0x80 % 2 == 1)
     || not (slice_index p 3 / 0x40 % 4 == 0)
     || (has_adaptation_field p && has_payload p && nat_lt 182 (slice_index p 4))

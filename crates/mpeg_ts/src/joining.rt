@@ -12,13 +12,13 @@ ghost use Rattle.mpeg_ts.specs.Joining.{gap_marker_item};
 ghost use Rattle.mpeg_ts.specs.Joining.{initial_joining, with_remembered_packet, repeats};
 ghost use Rattle.mpeg_ts.specs.Joining.{taken_bytes};
 ghost use Rattle.mpeg_ts.specs.Parts.{is_break, is_seam, is_unlinked};
-ghost use Rattle.mpeg_ts.specs.TransportPacket.{has_payload, is_erroneous, payload};
+ghost use Rattle.mpeg_ts.specs.TransportPacket.{has_payload, is_unusable, payload};
 
 use crate::gap_marker::gap_marker_bytes;
 use crate::part_bytes::{PartBytes, find_packet};
 use crate::pending_item::{Next, PendingItem, gap_marker_item};
 use crate::transport_packet::{
-    PACKET, announces_jump, begins, counter_of, has_payload, is_erroneous, payload_of,
+    PACKET, announces_jump, begins, counter_of, has_payload, is_unusable, payload_of,
 };
 use std::marker::Model;
 use ttx_pes::PesFault;
@@ -149,12 +149,12 @@ impl Joining {
 
     // Processes an unusable transport packet of the PID.
     #[tactic(auto, using(crate::proofs::ReadyLemmas::growing))]
-    pub(crate) fn record_erroneous_packet(&mut self)
+    pub(crate) fn record_unusable_packet(&mut self)
         requires { self.old.pending ≡ [] }
         ensures { self.new ≡ after_pid_event self.old Wrong }
     {
         self.has_break = true;
-        self.pending_item = gap_marker_item(put_gap_marker(true, &mut self.given));
+        self.pending_item = gap_marker_item(needs_gap_marker(true, &mut self.given));
     }
 
     /// Records a loss: so many consecutive bytes were skipped that transport packets of the PID may
@@ -170,8 +170,8 @@ impl Joining {
         requires { self.old.pending ≡ [] }
         ensures { self.new ≡ after_pid_event self.old (event_of_packet packet.now) }
     {
-        if is_erroneous(packet) {
-            self.record_erroneous_packet();
+        if is_unusable(packet) {
+            self.record_unusable_packet();
         } else {
             self.take(packet);
         }
@@ -181,7 +181,7 @@ impl Joining {
     #[tactic(auto, unfolding(crate::specs::Joining::after_valid_packet))]
     fn take(&mut self, packet: &[u8; PACKET])
         requires idle { self.old.pending ≡ [] }
-        requires valid { is_erroneous packet.now ≡ false }
+        requires valid { is_unusable packet.now ≡ false }
         ensures { self.new ≡ after_valid_packet self.old packet.now }
     {
         if !has_payload(packet) {
@@ -214,7 +214,7 @@ impl Joining {
     /// Returns whether a transport packet is a repeat of the last good one.
     pub fn is_repeat(&self, packet: &[u8; PACKET]) -> bool
         requires payload { has_payload packet.now ≡ true }
-        requires valid { is_erroneous packet.now ≡ false }
+        requires valid { is_unusable packet.now ≡ false }
         ensures { result ≡ repeats self.now packet.now }
     {
         let (header, _) = packet.split_at(4);
@@ -345,7 +345,7 @@ impl Joining {
         self.clear();
         self.bytes.add(payload);
         self.payload_size = payload.len();
-        self.pending_item = gap_marker_item(put_gap_marker(gap, &mut self.given));
+        self.pending_item = gap_marker_item(needs_gap_marker(gap, &mut self.given));
     }
 
     // Appends a payload to an incomplete PES packet. If the PES packet is now complete, it becomes
@@ -358,7 +358,7 @@ impl Joining {
         requires most { length payload.now ≤ 184 }
         ensures { self.new ≡ grow_part gap self.old payload.now }
     {
-        let gap_marker_before = put_gap_marker(gap, &mut self.given);
+        let gap_marker_before = needs_gap_marker(gap, &mut self.given);
         self.bytes.add(payload);
         self.payload_size = payload.len();
         match find_packet(self.bytes.as_slice()) {
@@ -463,7 +463,7 @@ impl Joining {
 
     // Clears all stored bytes, after all pending items were returned.
     #[tactic(auto, using(crate::proofs::ReadyLemmas::idling))]
-    pub(crate) fn mark_packet_given(&mut self)
+    pub(crate) fn clear_returned_bytes(&mut self)
         ensures { self.new ≡ with_no_bytes self.old }
     {
         self.pending_item = PendingItem::Nothing;
@@ -487,7 +487,7 @@ impl Joining {
 
 // Returns whether a gap needs a gap marker: only the first gap after a PES packet does.
 #[inline(always)]
-fn put_gap_marker(gap: bool, given: &mut Given) -> bool
+fn needs_gap_marker(gap: bool, given: &mut Given) -> bool
     ensures given { given.new ≡ last_output_after gap given.old }
     ensures due { result ≡ (gap && gave_pes_packet given.old) }
 {

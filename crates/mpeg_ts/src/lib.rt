@@ -36,5 +36,5 @@ pub use recording_packets::RecordingPesPackets;
 pub use survey_options::SurveyOptions;
 pub use transport_packet::{
     PACKET, SYNC_BYTE, announces_jump, begins, counter_of, has_adaptation_field, has_payload,
-    is_erroneous, payload_of, pid_of,
+    is_unusable, payload_of, pid_of,
 };

@@ -141,7 +141,7 @@ impl<S: Source> PesPackets for RecordingPesPackets<S> {
         let bytes = self.stream.bytes();
         let count = bytes.len();
         put_in_front(room, bytes);
-        self.stream.mark_packet_given();
+        self.stream.clear_returned_bytes();
         Ok(count)
     }
 

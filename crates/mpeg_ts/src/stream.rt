@@ -436,10 +436,10 @@ impl Stream {
     }
 
     // Clears the collected bytes, after all pending items were returned.
-    pub(crate) fn mark_packet_given(&mut self)
+    pub(crate) fn clear_returned_bytes(&mut self)
         ensures { self.new ≡ record self.old { joining = with_no_bytes self.old.joining } }
     {
-        self.joining.mark_packet_given();
+        self.joining.clear_returned_bytes();
     }
 
     // Returns the bytes of an item that `take_next` returned.

@@ -2,7 +2,7 @@
 ghost use Rattle.std.specs.Prelude.{◌≡◌, ◌≤◌, ◌==◌, length, false, true};
 ghost use Rattle.mpeg_ts.specs.TransportPacket.{announces_jump, begins, counter};
 ghost use Rattle.mpeg_ts.specs.TransportPacket.{has_adaptation_field};
-ghost use Rattle.mpeg_ts.specs.TransportPacket.{has_payload, is_erroneous, payload, pid};
+ghost use Rattle.mpeg_ts.specs.TransportPacket.{has_payload, is_unusable, payload, pid};
 
 /// The size of a transport packet in bytes.
 pub const PACKET: usize = 188;
@@ -62,8 +62,8 @@ pub fn announces_jump(packet: &[u8; PACKET]) -> bool
 /// Returns whether a transport packet is unusable: its transport_error_indicator is set, the packet
 /// is scrambled, or its adaptation field leaves no space for the payload.
 #[inline(always)]
-pub fn is_erroneous(packet: &[u8; PACKET]) -> bool
-    ensures { result ≡ is_erroneous packet.now }
+pub fn is_unusable(packet: &[u8; PACKET]) -> bool
+    ensures { result ≡ is_unusable packet.now }
 {
     packet[1] / 0x80 % 2 == 1
         || packet[3] / 0x40 % 4 != 0
@@ -74,7 +74,7 @@ pub fn is_erroneous(packet: &[u8; PACKET]) -> bool
 #[inline(always)]
 pub fn payload_of(packet: &[u8; PACKET]) -> &[u8]
     requires payload { has_payload packet.now ≡ true }
-    requires valid { is_erroneous packet.now ≡ false }
+    requires valid { is_unusable packet.now ≡ false }
     ensures payload { result.now ≡ payload packet.now }
     ensures some { 1 ≤ length result.now }
     ensures most { length result.now ≤ 184 }

@@ -133,19 +133,19 @@ fn refuses_digits_that_are_no_packet(rt: HostRuntime) {
 #[rattlefmt::skip]
 const SCHEDULES: [[&str; 5]; 18] = [
     // The columns of the table: page, every, origin, option, line.
-    ["8FF", "0", "x", "polish", "usage 1 BadPage\n"],
+    ["8FF", "0", "x", "danish", "usage 1 BadPage\n"],
     ["088", "250", "0", "english", "usage 1 BadPage\n"],
     ["", "250", "0", "english", "usage 1 BadPage\n"],
-    ["888", "0", "x", "polish", "usage 80 Every\n"],
+    ["888", "0", "x", "danish", "usage 80 Every\n"],
     ["888", "x", "8589934592", "english", "usage 80 Every\n"],
     ["888", "2160001", "0", "english", "usage 80 Every\n"],
     ["888", "00000000001", "0", "english", "usage 80 Every\n"], // eleven digits
     ["888", "+1", "0", "english", "usage 80 Every\n"],
     ["888", "", "0", "english", "usage 80 Every\n"],
-    ["888", "2160000", "8589934592", "polish", "usage 81 Origin\n"],
+    ["888", "2160000", "8589934592", "danish", "usage 81 Origin\n"],
     ["888", "1", "x", "german", "usage 81 Origin\n"],
     ["888", "1", "99999999990", "german", "usage 81 Origin\n"],
-    ["888", "1", "8589934591", "polish", "usage 83 BadOption\n"],
+    ["888", "1", "8589934591", "danish", "usage 83 BadOption\n"],
     ["888", "1", "0", "English", "usage 83 BadOption\n"],
     ["888", "1", "0", "French", "usage 83 BadOption\n"],
     ["888", "1", "0", "fr", "usage 83 BadOption\n"],
@@ -178,11 +178,11 @@ fn reports_the_first_fault_of_a_schedule(rt: HostRuntime) {
     // A schedule must not overwrite the file that it reads. A check may name the same file twice.
     let options = [
         "subttx", "schedule", "a", "a", "--page", "8FF", "--every", "0", "--origin", "x",
-        "--option", "polish",
+        "--option", "danish",
     ];
     assert_refuses(&rt, &options, "usage 7 SameFile\n");
     let options = [
-        "subttx", "check", "--option", "polish", "--origin", "x", "--every", "0", "--page", "8FF",
+        "subttx", "check", "--option", "danish", "--origin", "x", "--every", "0", "--page", "8FF",
         "a", "a",
     ];
     assert_refuses(&rt, &options, "usage 1 BadPage\n");
@@ -194,8 +194,8 @@ fn reports_the_first_fault_of_a_schedule(rt: HostRuntime) {
 const WITHINS: [[&str; 6]; 14] = [
     // The columns of the table: option, within, origin, time, line of the check, line of the
     // receiver.
-    ["polish", "x", "x", "x", "usage 81 Origin\n", "usage 81 Origin\n"],
-    ["polish", "51", "0", "x", "usage 83 BadOption\n", "usage 85 Within\n"],
+    ["danish", "x", "x", "x", "usage 81 Origin\n", "usage 81 Origin\n"],
+    ["danish", "51", "0", "x", "usage 83 BadOption\n", "usage 85 Within\n"],
     ["english", "51", "0", "x", "usage 85 Within\n", "usage 85 Within\n"],
     ["english", "x", "0", "x", "usage 85 Within\n", "usage 85 Within\n"],
     ["english", "", "0", "x", "usage 85 Within\n", "usage 85 Within\n"],
@@ -206,8 +206,8 @@ const WITHINS: [[&str; 6]; 14] = [
     ["english", "9999999999", "0", "x", "usage 85 Within\n", "usage 85 Within\n"],
     ["english", "4294967297", "0", "x", "usage 85 Within\n", "usage 85 Within\n"],
     ["english", "0", "x", "x", "usage 81 Origin\n", "usage 81 Origin\n"],
-    ["polish", "50", "0", "x", "usage 83 BadOption\n", "usage 6 BadTime\n"],
-    ["polish", "0000000050", "0", "x", "usage 83 BadOption\n", "usage 6 BadTime\n"],
+    ["danish", "50", "0", "x", "usage 83 BadOption\n", "usage 6 BadTime\n"],
+    ["danish", "0000000050", "0", "x", "usage 83 BadOption\n", "usage 6 BadTime\n"],
 ];
 
 // Asserts the lines of a check and of a receiver for a row of `WITHINS`.
@@ -318,7 +318,7 @@ fn reports_faults_of_other_arguments_before_those_of_pes_packets(rt: HostRuntime
     assert_refuses(&rt, &within, "usage 85 Within\n");
     let within = ["subttx", "listen", "a", "--at", "x", "--pid", "x", "--within", "51"];
     assert_refuses(&rt, &within, "usage 85 Within\n");
-    let option = ["subttx", "check", "a", "b", "--pes", "x", "--option", "polish"];
+    let option = ["subttx", "check", "a", "b", "--pes", "x", "--option", "danish"];
     assert_refuses(&rt, &option, "usage 83 BadOption\n");
     let origin = ["subttx", "listen", "a", "--at", "x", "--packet-size", "x", "--origin", "x"];
     assert_refuses(&rt, &origin, "usage 81 Origin\n");

@@ -206,4 +206,10 @@ fn schedules_by_the_national_option(rt: HostRuntime) {
     assert_schedules_with_option(&rt, "french", 0x92);
     assert_schedules_with_option(&rt, "spanish", 0x31);
     assert_schedules_with_option(&rt, "czech", 0x1C);
+    assert_schedules_with_option(&rt, "polish", 0xA8);
+    assert_schedules_with_option(&rt, "turkish", 0x1C);
+    assert_schedules_with_option(&rt, "croatian", 0x31);
+    assert_schedules_with_option(&rt, "romanian", 0xBF);
+    assert_schedules_with_option(&rt, "estonian", 0x26);
+    assert_schedules_with_option(&rt, "lithuanian", 0x85);
 }

@@ -85,7 +85,7 @@ module _ {A : Type 0} (packet_of : A → List ℕ) (number : ℕ) where
     good = Some (packet_of c.packet);
     has_repeat = is_some c.again;
     has_jump = list_any (λ x. pid_announces_jump number (packet_of x)) c.after;
-    has_erroneous_packet = false;
+    has_unusable_packet = false;
     has_loss = false;
   }
 

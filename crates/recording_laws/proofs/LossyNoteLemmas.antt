@@ -27,7 +27,7 @@ history_after_loss good again wrong = record {
   good = good;
   has_repeat = again;
   has_jump = false;
-  has_erroneous_packet = wrong;
+  has_unusable_packet = wrong;
   has_loss = false;
 }
 

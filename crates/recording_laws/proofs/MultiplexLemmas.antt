@@ -13,7 +13,7 @@ use Rattle.mpeg_ts.specs.GoodPackets.{good_packets_after}
 use Rattle.mpeg_ts.specs.GoodPackets.{linked_packet}
 use Rattle.mpeg_ts.specs.GoodPackets.{empty_history, with_good_packet}
 use Rattle.mpeg_ts.specs.Parts.{Part, begins_part, part_bytes, outcomes, outcomes_of}
-use Rattle.mpeg_ts.specs.Parts.{part_is_limited_suffix}
+use Rattle.mpeg_ts.specs.Parts.{single_packet_part}
 use Rattle.mpeg_ts.specs.Parts.{parts_from, with_packet}
 use Rattle.mpeg_ts.specs.TransportPacket.{begins, payload}
 use Rattle.recording_laws.specs.Laws.{LawOfMultiplex}
@@ -31,7 +31,7 @@ use Rattle.recording_laws.proofs.RecordingLemmas.{pid_events-units}
 
 parts_from-begins : (part : Part) (g : GoodPacket) (more : List GoodPacket)
     → begins g.packet ≡ true
-    → parts_from part (g ∷ more) ≡ part ∷ parts_from (part_is_limited_suffix g) more
+    → parts_from part (g ∷ more) ≡ part ∷ parts_from (single_packet_part g) more
 unfolding parts_from
 parts_from-begins part g more first = rw first
 
@@ -114,10 +114,10 @@ module _ {A : Type 0} (packet_of : A → List ℕ) (number : ℕ) where
   whole-then given part c (s ∷ more) bytes h unbroken each next =
       ap (λ (parts : List Part). with_gap_markers given false (outcomes false parts))
       (parts_from-begins part g later is.first.begins)
-      ∙ with_gap_markers-whole given false part (parts_from (part_is_limited_suffix g) later) bytes
+      ∙ with_gap_markers-whole given false part (parts_from (single_packet_part g) later) bytes
       h unbroken
       ∙ ap (λ (rest : List ℕ). bytes ++ rest)
-      (fills-part true (part_is_limited_suffix g) s.first s.others (carriers_of more) s.bytes
+      (fills-part true (single_packet_part g) s.first s.others (carriers_of more) s.bytes
       (s.bytes ++ concat (map (λ s. s.bytes) more)) is.is_pes_packet is.first.begins
       (next-unbroken packet_of number c s.first next.0)
       (rw (append-nil (payload p)) is.joined) is.others next.1
@@ -159,7 +159,7 @@ module _ {A : Type 0} (packet_of : A → List ℕ) (number : ℕ) where
       (some-carriers packet_of number s.others (carriers_of more) is.others
       (all-carriers more each.1)) linked_all)
       )
-      ∙ fills-part false (part_is_limited_suffix g) s.first s.others (carriers_of more) s.bytes
+      ∙ fills-part false (single_packet_part g) s.first s.others (carriers_of more) s.bytes
       (s.bytes ++ concat (map (λ s. s.bytes) more)) is.is_pes_packet is.first.begins refl
       (rw (append-nil (payload p)) is.joined) is.others linked_all
       (λ whole last w u n. whole-then false whole last more s.bytes w u each.1 n)

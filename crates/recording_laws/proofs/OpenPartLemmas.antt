@@ -10,7 +10,7 @@ use Rattle.std.proofs.lemmas.List.{append-nil, take-append-le}
 use Rattle.ttx_pes.specs.PesPackets.{IsPesPacket}
 use Rattle.mpeg_ts.specs.CarriedPackets.{gap_marker_where, with_gap_markers}
 use Rattle.mpeg_ts.specs.GoodPackets.{GoodPacket}
-use Rattle.mpeg_ts.specs.Parts.{Part, begins_part, outcomes, part_bytes, part_is_limited_suffix}
+use Rattle.mpeg_ts.specs.Parts.{Part, begins_part, outcomes, part_bytes, single_packet_part}
 use Rattle.mpeg_ts.specs.Parts.{parts_from}
 use Rattle.mpeg_ts.specs.Parts.{with_packet, is_break}
 use Rattle.mpeg_ts.specs.TransportPacket.{begins, payload}
@@ -43,7 +43,7 @@ pub closed-by : (wrong_after : Bool) (part : Part) (given gap : Bool) (prefix : 
     → begins_part g ≡ true
     → with_gap_markers given gap (outcomes wrong_after (parts_from part (g ∷ later)))
     ≡ prefix ++ with_gap_markers given' gap'
-    (outcomes wrong_after (parts_from (part_is_limited_suffix g) later))
+    (outcomes wrong_after (parts_from (single_packet_part g) later))
 closed-by wrong_after part given gap prefix given' gap' g later h1 h2 =
     grind (arith, nat_tests, parts_from-cut, parts_from-some)
 
@@ -644,7 +644,7 @@ module _ (distance number : ℕ) (wrong_after few : Bool) where
               (ap (carried_from part given gap) here.2
               ∙ closed-by wrong_after part given gap [] given true here.0 here.1
               (closes-broken part given gap (broken-unbegun part headless)) cut))
-              (headless-within more (part_is_limited_suffix here.0) given true true 0 here.4 cs
+              (headless-within more (single_packet_part here.0) given true true 0 here.4 cs
               here.1 go
               (heard-begins following n wrong c here.0 each.0 here.3) each.1 here.6)
           | inr within ↦
@@ -666,7 +666,7 @@ module _ (distance number : ℕ) (wrong_after few : Bool) where
       → begins_part g ≡ true
       → ((given' gap' : Bool)
       → YieldsResults few (previous_with_marker given') more
-      (carried_from (part_is_limited_suffix g) given' gap' later))
+      (carried_from (single_packet_part g) given' gap' later))
       → FirstResultIsPacket few given (given && (gap || part.after_break)) s between skipped more
       (carried_from part given gap (g ∷ later))
   open-cut more part given gap s between skipped g later first lost cut go =
@@ -676,7 +676,7 @@ module _ (distance number : ℕ) (wrong_after few : Bool) where
             (gives-one few (given && (gap || part.after_break)) s between skipped more
             one.is.pes_packet
             (carried_from part given gap (g ∷ later))
-            (carried_from (part_is_limited_suffix g) true one.is.longer later) one.is.is_pes_packet
+            (carried_from (single_packet_part g) true one.is.longer later) one.is.is_pes_packet
             one.is.prefix
             (λ e. ((one.exact e).0, (one.exact e).1))
             (closed-by wrong_after part given gap
@@ -684,7 +684,7 @@ module _ (distance number : ℕ) (wrong_after few : Bool) where
             one.is.longer g
             later one.is.closes cut)
             (gives-marked few one.is.pes_packet s between skipped more
-            (carried_from (part_is_limited_suffix g) true one.is.longer later)
+            (carried_from (single_packet_part g) true one.is.longer later)
             (λ e. elim (lost e) [
               | inl broken ↦ absurd (cc (broken.1, (one.exact e).0))
               | inr whole ↦ ap (λ (b : Bool). b || is_damaged_after s) whole.2
@@ -733,7 +733,7 @@ module _ (distance number : ℕ) (wrong_after few : Bool) where
               going)
               cut
               (λ given' gap'.
-              headless-within more (part_is_limited_suffix here.0) given' gap' true 0 here.4 cs
+              headless-within more (single_packet_part here.0) given' gap' true 0 here.4 cs
               here.1 go
               (heard-begins true n wrong c here.0 each.0 here.3) each.1 here.6))
           | inr within ↦

@@ -12,7 +12,7 @@ use Rattle.ttx_pes.specs.PesPackets.{IsPesPacket}
 use Rattle.ttx_pes.specs.Reading.{size_at}
 use Rattle.mpeg_ts.specs.Parts.{Part, Pes, part_bytes, outcome, gap_where}
 use Rattle.mpeg_ts.specs.GoodPackets.{GoodPacket}
-use Rattle.mpeg_ts.specs.Parts.{begins_part, may_be_cut_off, outcomes, part_is_limited_suffix}
+use Rattle.mpeg_ts.specs.Parts.{begins_part, may_be_cut_off, outcomes, single_packet_part}
 use Rattle.mpeg_ts.specs.Parts.{parts_from}
 use Rattle.mpeg_ts.specs.Parts.{with_packet}
 use Rattle.mpeg_ts.specs.CarriedPackets.{with_gap_markers}
@@ -61,7 +61,7 @@ with_gap_markers-whole given wrong_after part more bytes h whole =
 
 pub parts_from-cut : (part : Part) (g : GoodPacket) (more : List GoodPacket)
     → begins_part g ≡ true
-    → parts_from part (g ∷ more) ≡ part ∷ parts_from (part_is_limited_suffix g) more
+    → parts_from part (g ∷ more) ≡ part ∷ parts_from (single_packet_part g) more
 unfolding parts_from
 parts_from-cut part g more cut = rw cut
 

@@ -8,7 +8,7 @@ use Rattle.std.specs.Prelude.{unwrap_or}
 use Rattle.ttx_pes.specs.PesGrammar.{IsValidPesPacket, PesValue, header_data_length, pts_bytes}
 use Rattle.ttx_pes.specs.PesPackets.{IsPesPacket}
 use Rattle.ttx_pes.specs.Reading.{pts_bits}
-use Rattle.recording_laws.specs.Pace.{KeepPace, KeepPaceFrom, frame_of_pts, up_to_pts}
+use Rattle.recording_laws.specs.Pace.{KeepPace, KeepPaceFrom, frame_up_to_pts, up_to_pts}
 use Rattle.sub_plan.specs.FrameTime.{clock_of}
 use Rattle.sub_plan.specs.Options.{OptionsValue}
 use Rattle.sub_rules.specs.PesFrames.{IsReadAs}
@@ -41,7 +41,7 @@ module _ (options : OptionsValue) where
   prefix-frame : (v : PesValue) (p : List ℕ) (s : SentFrame)
       → IsValidPesPacket v p
       → IsReadAs (clock_of options) v s
-      → frame_of_pts (frame_by_clock options) p ≡ s.frame
+      → frame_up_to_pts (frame_by_clock options) p ≡ s.frame
   prefix-frame v p s h read =
       ap (λ (pts : ℕ). unwrap_or (clock_of options pts) 0) (prefix-bits v p h)
       ∙ ap (λ (frame : Option ℕ). unwrap_or frame 0) read.frame

@@ -9,7 +9,7 @@ use Rattle.mpeg_ts.specs.CarriedPackets.{carried_bytes, gap_marker_where, with_g
 use Rattle.mpeg_ts.specs.GoodPackets.{GoodPacket, GoodPackets, good_packets_after}
 use Rattle.mpeg_ts.specs.TransportPacket.{begins, payload}
 use Rattle.mpeg_ts.specs.Parts.{PartOutcome, Pes, Gap, Other, outcome, Part, begins_part, is_break}
-use Rattle.mpeg_ts.specs.Parts.{is_unlinked, outcomes, part_bytes, part_is_limited_suffix, parts}
+use Rattle.mpeg_ts.specs.Parts.{is_unlinked, outcomes, part_bytes, single_packet_part, parts}
 use Rattle.mpeg_ts.specs.Parts.{parts_from}
 use Rattle.recording_laws.specs.Laws.{LawOfPace}
 use Rattle.std.proofs.lemmas.Bool.{cases_Bool}
@@ -87,7 +87,7 @@ module _ (distance number : ℕ) (wrong_after few : Bool) where
       → IsLossyPes distance number s
       → FirstPacketContainsPts distance s
       → IsPacketCopy (sent_packet distance s.first.packet) g.packet
-      → IsPrefix (part_is_limited_suffix g) s
+      → IsPrefix (single_packet_part g) s
   prefix-first s g is holds copy = record {
     begins = copy.begins ∙ is.first.is_carrier.begins;
     long = omega (arith, holds, ap length bytes);
@@ -101,7 +101,7 @@ module _ (distance number : ℕ) (wrong_after few : Bool) where
       first : List ℕ
       first = payload (sent_packet distance s.first.packet)
 
-      bytes : part_bytes (part_is_limited_suffix g) ≡ first
+      bytes : part_bytes (single_packet_part g) ≡ first
       bytes = append-nil (payload g.packet) ∙ copy.payload
 
   opening : (s : SentPes SentUnit) (more : List (SentPes SentUnit)) (g : GoodPacket)
@@ -118,16 +118,16 @@ module _ (distance number : ℕ) (wrong_after few : Bool) where
       → Fits previous (given && (gap || is_break g.link))
       → IsMarkerExpected few previous s (given && (gap || is_break g.link))
       → YieldsResults few previous (s ∷ more)
-      (carried_from distance number wrong_after few (part_is_limited_suffix g) given gap later)
+      (carried_from distance number wrong_after few (single_packet_part g) given gap later)
   opening s more g later wrong_after_good previous given gap go is holds copy first
       carriers_are_traced
       buffered_eq
       fits exact =
       gives-opened few previous given (given && (gap || is_break g.link)) s more
-      (carried_from distance number wrong_after few (part_is_limited_suffix g) given gap later)
+      (carried_from distance number wrong_after few (single_packet_part g) given gap later)
       buffered_eq fits
       exact
-      (open-within distance number wrong_after few more (part_is_limited_suffix g) given gap s
+      (open-within distance number wrong_after few more (single_packet_part g) given gap s
       (length s.others)
       false 0 wrong_after_good s.others later go
       (record {
@@ -309,7 +309,7 @@ module _ (distance number : ℕ) (wrong_after few : Bool) where
             (gives-one few (given && (gap || part.after_break)) s between skipped (t ∷ more)
             one.is.pes_packet
             (carried_from distance number wrong_after few part given gap (g ∷ later))
-            (carried_from distance number wrong_after few (part_is_limited_suffix g) true
+            (carried_from distance number wrong_after few (single_packet_part g) true
             one.is.longer later)
             one.is.is_pes_packet one.is.prefix
             (λ e. ((one.exact e).0, (one.exact e).1))
@@ -431,7 +431,7 @@ module _ (distance number : ℕ) (wrong_after few : Bool) where
     | inr here ↦
         ap bytes_of_good_packets here.2
         ∙ first_gap_is_not_marked false true
-        (outcomes wrong_after (parts_from (part_is_limited_suffix here.0) here.1))
+        (outcomes wrong_after (parts_from (single_packet_part here.0) here.1))
         ∙ sym
         (ap (carried_from distance number wrong_after few no_part false false) here.2
         ∙ closed-by wrong_after no_part false false [] false true here.0 here.1

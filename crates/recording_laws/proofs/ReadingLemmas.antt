@@ -10,7 +10,8 @@ use Rattle.mpeg_ts.specs.CarriedPackets.{gap_marker}
 use Rattle.recording_laws.specs.Losses.{SentUnit, any_unit_damaged, arrives, is_damaged_after}
 use Rattle.recording_laws.specs.Losses.{units_before_copy}
 use Rattle.recording_laws.specs.Multiplex.{SentPes, carriers_of_pes}
-use Rattle.recording_laws.specs.Pace.{AreFarApart, AreFarFrom, KeepPace, KeepPaceFrom, frame_of_pts}
+use Rattle.recording_laws.specs.Pace.{AreFarApart, AreFarFrom, KeepPace, KeepPaceFrom}
+use Rattle.recording_laws.specs.Pace.{frame_up_to_pts}
 use Rattle.recording_laws.specs.Pace.{up_to_pts}
 use Rattle.recording_laws.proofs.PesPacketLemmas.{HasNoGapMarker, equal_lists_have_equal_heads}
 use Rattle.recording_laws.proofs.PesPacketLemmas.{gap_markers_where}
@@ -251,8 +252,8 @@ module _ (frame_of : List ℕ → ℕ) (pace : ℕ) where
   too-far : (x y a b : List ℕ) (between : ℕ)
       → up_to_pts x ≡ up_to_pts a
       → up_to_pts y ≡ up_to_pts b
-      → (16 ≤ between → frame_of_pts frame_of a + pace < frame_of_pts frame_of b)
-      → frame_of_pts frame_of y ≤ frame_of_pts frame_of x + pace
+      → (16 ≤ between → frame_up_to_pts frame_of a + pace < frame_up_to_pts frame_of b)
+      → frame_up_to_pts frame_of y ≤ frame_up_to_pts frame_of x + pace
       → 16 ≤ between
       → ⊥
   too-far x y a b between h1 h2 h3 h4 h5 =
@@ -265,8 +266,8 @@ module _ (frame_of : List ℕ → ℕ) (pace : ℕ) where
       → up_to_pts x ≡ up_to_pts s.bytes
       → up_to_pts y ≡ up_to_pts t.bytes
       → (16 ≤ between
-      → frame_of_pts frame_of s.bytes + pace < frame_of_pts frame_of t.bytes)
-      → frame_of_pts frame_of y ≤ frame_of_pts frame_of x + pace
+      → frame_up_to_pts frame_of s.bytes + pace < frame_up_to_pts frame_of t.bytes)
+      → frame_up_to_pts frame_of y ≤ frame_up_to_pts frame_of x + pace
       → (16 ≤ between) ⊎ ((skipped ≡ false) × (x ≡ s.bytes))
       → (skipped ≡ false) × (x ≡ s.bytes)
   as-sent x y s t between skipped h1 h2 h3 h4 (inl far) =
@@ -279,22 +280,23 @@ module _ (frame_of : List ℕ → ℕ) (pace : ℕ) where
       (last : List ℕ) (following : List (List ℕ))
       → y ∷ rest ≡ run ++ (last ∷ following)
       → HasNoGapMarker (run ++ last ∷ [])
-      → KeepPaceFrom frame_of pace (frame_of_pts frame_of x) (run ++ last ∷ [])
+      → KeepPaceFrom frame_of pace (frame_up_to_pts frame_of x) (run ++ last ∷ [])
       → up_to_pts x ≡ up_to_pts s.bytes
       → up_to_pts y ≡ up_to_pts t.bytes
       → (16 ≤ between) ⊎ ((skipped ≡ false) × (x ≡ s.bytes))
-      → (16 ≤ between → frame_of_pts frame_of s.bytes + pace < frame_of_pts frame_of t.bytes)
+      → (16 ≤ between → frame_up_to_pts frame_of s.bytes + pace < frame_up_to_pts frame_of t.bytes)
       → ((others : List (List ℕ))
       → rest ≡ others ++ (last ∷ following)
       → HasNoGapMarker (others ++ last ∷ [])
-      → KeepPaceFrom frame_of pace (frame_of_pts frame_of y) (others ++ last ∷ [])
+      → KeepPaceFrom frame_of pace (frame_up_to_pts frame_of y) (others ++ last ∷ [])
       → Follows y t false more others last)
       → Follows x s skipped (t ∷ more) run last
   follows-here x s between skipped t more y rest [] last following e none keep prefix second fits
       far
       go =
       let same = equal_lists_have_equal_heads y last rest following e in
-      let close = subst (λ (z : List ℕ). frame_of_pts frame_of z ≤ frame_of_pts frame_of x + pace)
+      let close = subst
+      (λ (z : List ℕ). frame_up_to_pts frame_of z ≤ frame_up_to_pts frame_of x + pace)
       (sym same) keep.0 in
       let first = as-sent x y s t between skipped prefix second far close fits in
       record {
@@ -308,12 +310,13 @@ module _ (frame_of : List ℕ → ℕ) (pace : ℕ) where
   follows-here x s between skipped t more y rest (z ∷ run) last following e none keep prefix second
       fits far go =
       let same = equal_lists_have_equal_heads y z rest (run ++ (last ∷ following)) e in
-      let close = subst (λ (w : List ℕ). frame_of_pts frame_of w ≤ frame_of_pts frame_of x + pace)
+      let close = subst
+      (λ (w : List ℕ). frame_up_to_pts frame_of w ≤ frame_up_to_pts frame_of x + pace)
       (sym same) keep.0 in
       let first = as-sent x y s t between skipped prefix second far close fits in
       let more_eq = go run (equal_lists_have_equal_tails y z rest (run ++ (last ∷ following)) e)
       none.1
-      (subst (λ (w : List ℕ). KeepPaceFrom frame_of pace (frame_of_pts frame_of w)
+      (subst (λ (w : List ℕ). KeepPaceFrom frame_of pace (frame_up_to_pts frame_of w)
       (run ++ last ∷ []))
       (sym same) keep.1) in
       record {
@@ -330,15 +333,15 @@ module _ (frame_of : List ℕ → ℕ) (pace : ℕ) where
       (rest run : List (List ℕ)) (last : List ℕ) (following : List (List ℕ))
       → gap_markers_where marked ++ (y ∷ rest) ≡ run ++ (last ∷ following)
       → HasNoGapMarker (run ++ last ∷ [])
-      → KeepPaceFrom frame_of pace (frame_of_pts frame_of x) (run ++ last ∷ [])
+      → KeepPaceFrom frame_of pace (frame_up_to_pts frame_of x) (run ++ last ∷ [])
       → up_to_pts x ≡ up_to_pts s.bytes
       → up_to_pts y ≡ up_to_pts t.bytes
       → Fits (PreviousPes x s between skipped) marked
-      → (16 ≤ between → frame_of_pts frame_of s.bytes + pace < frame_of_pts frame_of t.bytes)
+      → (16 ≤ between → frame_up_to_pts frame_of s.bytes + pace < frame_up_to_pts frame_of t.bytes)
       → ((others : List (List ℕ))
       → rest ≡ others ++ (last ∷ following)
       → HasNoGapMarker (others ++ last ∷ [])
-      → KeepPaceFrom frame_of pace (frame_of_pts frame_of y) (others ++ last ∷ [])
+      → KeepPaceFrom frame_of pace (frame_up_to_pts frame_of y) (others ++ last ∷ [])
       → Follows y t false more others last)
       → Follows x s skipped (t ∷ more) run last
   follows-marked false x s between skipped t more y rest run last following e none keep prefix
@@ -376,9 +379,9 @@ module _ (frame_of : List ℕ → ℕ) (pace : ℕ) where
       → ReadsSent false (PreviousPes x s between skipped) more rest
       → rest ≡ run ++ (last ∷ following)
       → HasNoGapMarker (run ++ last ∷ [])
-      → KeepPaceFrom frame_of pace (frame_of_pts frame_of x) (run ++ last ∷ [])
+      → KeepPaceFrom frame_of pace (frame_up_to_pts frame_of x) (run ++ last ∷ [])
       → up_to_pts x ≡ up_to_pts s.bytes
-      → AreFarFrom frame_of pace (frame_of_pts frame_of s.bytes) between more
+      → AreFarFrom frame_of pace (frame_up_to_pts frame_of s.bytes) between more
       → AreFarApart frame_of pace more
       → Follows x s skipped more run last
   follows x s between skipped [] rest run last following reads e none keep prefix far apart =

@@ -5,7 +5,7 @@ use Rattle.std.specs.Prelude.{if◌then◌else◌, List, [], ◌∷◌, ◌++◌
 use Rattle.std.specs.List.{AllByRecursion, concat, list_any, flat_map}
 use Rattle.std.specs.Option.{option_to_list}
 use Rattle.mpeg_ts.specs.CarriedPackets.{gap_marker_where}
-use Rattle.mpeg_ts.specs.TransportPacket.{sync_byte, pid, is_erroneous}
+use Rattle.mpeg_ts.specs.TransportPacket.{sync_byte, pid, is_unusable}
 use Rattle.recording_laws.specs.Multiplex.{Carrier, SentPes, Multiplex, IsMultiplex, IsRecording}
 use Rattle.recording_laws.specs.Multiplex.{pid_announces_jump, carriers_of, packet_in}
 use Rattle.recording_laws.specs.Multiplex.{items_of_multiplex}
@@ -59,7 +59,7 @@ pub record IsDamagedUnit (distance number : ℕ) (unit other : List ℕ) : Type 
   pub sync : slice_index (packet_in distance other) 0 ≡ sync_byte
   pub original_pid : pid (packet_in distance unit) ≡ number
   pub damaged_pid : pid (packet_in distance other) ≡ number
-  pub wrong : is_erroneous (packet_in distance other) ≡ true
+  pub wrong : is_unusable (packet_in distance other) ≡ true
 
 -- The possible outcomes of recording a unit. Only units of the PID can be damaged.
 abbrev pub IsPossibleFate : ℕ → ℕ → List ℕ → UnitFate → Type 0

@@ -12,18 +12,18 @@ use Rattle.std.specs.Option.{option_to_list, is_some}
 use Rattle.ttx_pes.specs.PesPackets.{IsPesPacket}
 use Rattle.mpeg_ts.specs.GoodPackets.{counter_is_next, is_same}
 use Rattle.mpeg_ts.specs.PacketsInStep.{lead_size, max_stream_bytes}
-use Rattle.mpeg_ts.specs.TransportPacket.{packet_size, sync_byte, pid, begins, is_erroneous}
+use Rattle.mpeg_ts.specs.TransportPacket.{packet_size, sync_byte, pid, begins, is_unusable}
 use Rattle.mpeg_ts.specs.TransportPacket.{has_payload, announces_jump, payload}
 
 -- ---- TS packets of a PID
 
 -- The TS packet has another PID, or it is usable and has no payload.
 abbrev pub is_irrelevant : ℕ → List ℕ → Bool
-is_irrelevant number p = not (pid p == number) || (not (is_erroneous p) && not (has_payload p))
+is_irrelevant number p = not (pid p == number) || (not (is_unusable p) && not (has_payload p))
 
 -- The TS packet has the PID, is usable and has a payload.
 abbrev pub carries : ℕ → List ℕ → Bool
-carries number p = (pid p == number) && (not (is_erroneous p) && has_payload p)
+carries number p = (pid p == number) && (not (is_unusable p) && has_payload p)
 
 -- The TS packet has the PID and announces a jump of the continuity counter.
 abbrev pub pid_announces_jump : ℕ → List ℕ → Bool
@@ -133,7 +133,7 @@ pub record IsMultiplex {A : Type 0} (packet_of : A → List ℕ) (number : ℕ) 
     : Type 0 where
   pub lead : AllByRecursion (λ x. is_irrelevant number (packet_of x) ≡ true) m.lead
   pub sent : AllByRecursion (IsSentPes packet_of number) m.sent
-  pub linked_packet : AreInSequence packet_of number (carriers_of m.sent)
+  pub in_sequence : AreInSequence packet_of number (carriers_of m.sent)
 
 -- The bytes of the PES packets in a multiplex.
 abbrev pub sent_pes_packets : {A : Type 0} → Multiplex A → List (List ℕ)

@@ -11,8 +11,8 @@ abbrev pub up_to_pts : List ℕ → List ℕ
 up_to_pts packet = take 14 packet
 
 -- The frame of a PES packet, computed by `frame_of` from the bytes up to its PTS.
-abbrev pub frame_of_pts : (List ℕ → ℕ) → List ℕ → ℕ
-frame_of_pts frame_of packet = frame_of (up_to_pts packet)
+abbrev pub frame_up_to_pts : (List ℕ → ℕ) → List ℕ → ℕ
+frame_up_to_pts frame_of packet = frame_of (up_to_pts packet)
 
 -- The first TS packet of a PES packet contains its PTS.
 --
@@ -31,7 +31,7 @@ FirstPacketContainsPts distance s = 14 ≤ length (payload (sent_packet distance
 abbrev pub AreFarFrom : (List ℕ → ℕ) → ℕ → ℕ → ℕ → List (SentPes SentUnit) → Type 0
 AreFarFrom frame_of pace frame between [] = ⊤
 AreFarFrom frame_of pace frame between (s ∷ more) =
-    (16 ≤ between → frame + pace < frame_of_pts frame_of s.bytes)
+    (16 ≤ between → frame + pace < frame_up_to_pts frame_of s.bytes)
     × AreFarFrom frame_of pace frame (between + length (carriers_of_pes s)) more
 
 -- Any two PES packets that start 16 or more TS packets with payload apart are more than `pace`
@@ -39,7 +39,7 @@ AreFarFrom frame_of pace frame between (s ∷ more) =
 abbrev pub AreFarApart : (List ℕ → ℕ) → ℕ → List (SentPes SentUnit) → Type 0
 AreFarApart frame_of pace [] = ⊤
 AreFarApart frame_of pace (s ∷ more) =
-    AreFarFrom frame_of pace (frame_of_pts frame_of s.bytes) (length s.others) more
+    AreFarFrom frame_of pace (frame_up_to_pts frame_of s.bytes) (length s.others) more
     × AreFarApart frame_of pace more
 
 -- ---- distances of PES packets as read
@@ -49,10 +49,10 @@ AreFarApart frame_of pace (s ∷ more) =
 abbrev pub KeepPaceFrom : (List ℕ → ℕ) → ℕ → ℕ → List (List ℕ) → Type 0
 KeepPaceFrom frame_of pace frame [] = ⊤
 KeepPaceFrom frame_of pace frame (p ∷ more) =
-    (frame_of_pts frame_of p ≤ frame + pace)
-    × KeepPaceFrom frame_of pace (frame_of_pts frame_of p) more
+    (frame_up_to_pts frame_of p ≤ frame + pace)
+    × KeepPaceFrom frame_of pace (frame_up_to_pts frame_of p) more
 
 -- Each PES packet is at most `pace` frames later than the PES packet before it.
 abbrev pub KeepPace : (List ℕ → ℕ) → ℕ → List (List ℕ) → Type 0
 KeepPace frame_of pace [] = ⊤
-KeepPace frame_of pace (p ∷ more) = KeepPaceFrom frame_of pace (frame_of_pts frame_of p) more
+KeepPace frame_of pace (p ∷ more) = KeepPaceFrom frame_of pace (frame_up_to_pts frame_of p) more

@@ -14,7 +14,7 @@ use Rattle.stl_file.specs.Gsi.{with_counts, checked_gsi, IsGsi, IsGsiFor, field}
 use Rattle.stl_file.specs.Gsi.{IsAcceptedDisplay, gsi_checks, dfc, dsc, five_digits}
 use Rattle.stl_file.specs.Gsi.{teletext_level_1, teletext_level_2}
 use Rattle.stl_file.specs.Gsi.{unspecified_display, open_subtitles, stl_25, stl_30}
-use Rattle.stl_file.proofs.StepLemmas.{requested-right}
+use Rattle.stl_file.proofs.StepLemmas.{result_of_checks-right}
 
 passed_format_is_stl_25 : (g : List ℕ)
     → not (bytes_eq (dfc g) stl_25) && not (bytes_eq (dfc g) stl_30) ≡ false
@@ -35,7 +35,7 @@ pub accepted_gsi_is_valid : (takes_open : Bool) (g h : List ℕ)
     → (h ≡ g) × IsGsiFor takes_open g
 unfolding checked_gsi
 accepted_gsi_is_valid takes_open g h size e =
-    let right = requested-right (gsi_checks takes_open g) (Ok g) h e in
+    let right = result_of_checks-right (gsi_checks takes_open g) (Ok g) h e in
     let a = right.1 in (
       grind (arith, nat_tests),
       record {

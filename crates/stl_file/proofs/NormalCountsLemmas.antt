@@ -15,7 +15,8 @@ use Rattle.stl_file.specs.Reader.{GivesNextSubtitle, ReaderValue, ConsumesSubtit
 use Rattle.stl_file.specs.Reader.{yielded_subtitle}
 use Rattle.stl_file.specs.Reader.{remaining_outcome}
 use Rattle.stl_file.specs.Subtitle.{SubtitleValue}
-use Rattle.stl_file.specs.NormalForm.{Judged, blocks_of_subtitles, subtitles_of, blocks_of}
+use Rattle.stl_file.specs.NormalForm.{SubtitlesOrFault, blocks_of_subtitles, subtitles_of}
+use Rattle.stl_file.specs.NormalForm.{blocks_of}
 use Rattle.stl_file.specs.NormalForm.{prepend_subtitle}
 use Rattle.stl_file.specs.NormalCounts.{accepted_subtitles, judged_after_call, normal_counts}
 use Rattle.stl_file.proofs.SubtitleBlocksLemmas.{filtering_adds_no_blocks}
@@ -51,11 +52,11 @@ abbrev pub counts_added_to : Counts → Result Counts NormalFault → Result Cou
 counts_added_to c (Ok d) = Ok (record { tnb = c.tnb + d.tnb; tns = c.tns + d.tns })
 counts_added_to c (Err f) = Err f
 
-pub zero_counts_change_nothing : (j : Judged)
+pub zero_counts_change_nothing : (j : SubtitlesOrFault)
     → counts_added_to (record { tnb = 0; tns = 0 }) (normal_counts j) ≡ normal_counts j
 zero_counts_change_nothing j = grind arith
 
-pub counts_grow_by_subtitle : (c : Counts) (s : SubtitleValue) (j : Judged)
+pub counts_grow_by_subtitle : (c : Counts) (s : SubtitleValue) (j : SubtitlesOrFault)
     → counts_added_to c (normal_counts (prepend_subtitle s j))
     ≡ counts_added_to (record { tnb = c.tnb + length (blocks_of s); tns = c.tns + 1 })
     (normal_counts j)
@@ -67,12 +68,13 @@ pub ruleset judging = (
   one_block_more_than_chunks,
 )
 
-pub ok_result_has_ok_tail : (s : SubtitleValue) (j : Judged) → is_ok (prepend_subtitle s j) ≡ true →
+pub ok_result_has_ok_tail : (s : SubtitleValue) (j : SubtitlesOrFault)
+    → is_ok (prepend_subtitle s j) ≡ true →
     is_ok j ≡ true
 ok_result_has_ok_tail s j e = grind arith
 
 pub written_subtitles_join : {E : Type 0} (old mid new : Option (List ℕ)) (s : SubtitleValue)
-    (j : Judged)
+    (j : SubtitlesOrFault)
     (result : Result (Unit {0}) E)
     → is_ok (prepend_subtitle s j) ≡ true
     → Appends old mid (concat (blocks_of s))

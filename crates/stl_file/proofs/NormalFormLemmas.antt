@@ -20,7 +20,8 @@ use Rattle.stl_file.specs.Scope.{whole}
 use Rattle.stl_file.specs.Gsi.{with_counts}
 use Rattle.stl_file.specs.Subtitle.{SubtitleValue}
 use Rattle.stl_file.specs.File.{IsFile}
-use Rattle.stl_file.specs.NormalForm.{Judged, blocks_of_subtitles, gsi_with_counts, normal_form}
+use Rattle.stl_file.specs.NormalForm.{SubtitlesOrFault, blocks_of_subtitles, gsi_with_counts}
+use Rattle.stl_file.specs.NormalForm.{normal_form}
 use Rattle.stl_file.specs.NormalForm.{subtitles_of}
 use Rattle.stl_file.specs.NormalForm.{WritesNormal, WritesPrefix, NormalAnswers, blocks_of}
 use Rattle.stl_file.specs.NormalCounts.{normal_counts, accepted_subtitles}
@@ -154,7 +155,7 @@ record Accepted (s : List ℕ) (r : ReaderValue) (c : Counts) : Type 0 where
       (accepted_subtitles (subtitles_of (outcome_from 0 (drop 1024 s)))))
       ≡ normal_form (take 1024 s) ts
 
-counts_match_accepted_subtitles : (j : Judged) (c : Counts)
+counts_match_accepted_subtitles : (j : SubtitlesOrFault) (c : Counts)
     → normal_counts j ≡ Ok c
     → (ts : List SubtitleValue) × (j ≡ Ok ts) × (c.tnb ≡ length (blocks_of_subtitles ts))
     × (c.tns ≡ length ts)

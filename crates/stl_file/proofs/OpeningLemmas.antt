@@ -7,7 +7,7 @@ use Rattle.std.proofs.lemmas.List.{take_all, length-take-le, take_at, drop_at}
 use Rattle.std.proofs.lemmas.Bool.{le-ltb}
 use Rattle.std.proofs.lemmas.Bool.Decides.{nat_tests}
 use Rattle.std.specs.List.{concat}
-use Rattle.sub_io.specs.Device.{Fills, Told}
+use Rattle.sub_io.specs.Device.{Fills, FillsFromKnown}
 use Rattle.stl_file.specs.declared.fault.StlFault.{StlFault}
 use Rattle.stl_file.specs.declared.fault.StlFault.TheVariants as fault
 use Rattle.stl_file.specs.declared.progress.Progress.TheVariants.{Reading}
@@ -94,7 +94,8 @@ module _ {old new : Option (List ℕ)} {n : ℕ} {block : List ℕ} (f : Fills o
   }
 
 module _ {bytes : List ℕ} {n : ℕ} {new : Option (List ℕ)} {block : List ℕ}
-    (t : Told bytes n new block) (bound : n ≤ length block) (size : length block ≡ 1024) where
+    (t : FillsFromKnown bytes n new block) (bound : n ≤ length block)
+    (size : length block ≡ 1024) where
   pub short_file_is_truncated : (takes_open : Bool) → n < 1024 → checked_gsi_of_file takes_open
       bytes ≡ Err fault.Truncated
   unfolding checked_gsi_of_file

@@ -16,7 +16,7 @@ use Rattle.stl_file.specs.declared.scope.Scope.{Scope}
 use Rattle.stl_file.specs.SubtitleBlocks.{IsBlock, AreLinked, AreOutside, AreSubtitleBlocks}
 use Rattle.stl_file.specs.SubtitleBlocks.{AreBlocksOf}
 use Rattle.stl_file.specs.Subtitle.{SubtitleValue}
-use Rattle.stl_file.specs.NormalForm.{Judged, subtitles_of, prepend_subtitle}
+use Rattle.stl_file.specs.NormalForm.{SubtitlesOrFault, subtitles_of, prepend_subtitle}
 use Rattle.stl_file.specs.Reading.{StartedSubtitle, BlockStep, More, Yield, Findings}
 use Rattle.stl_file.specs.Reading.{step_after_block}
 use Rattle.stl_file.specs.Reading.{findings_after_block}
@@ -38,7 +38,7 @@ abbrev pub joined_groups : List (List (List ℕ)) → List (List ℕ)
 joined_groups gs = flat_map (λ (g : List (List ℕ)). g) gs
 
 -- The subtitles in the bytes b, given the current subtitle, if any.
-abbrev pub judged_with_room : Scope → ℕ → Option StartedSubtitle → List ℕ → Judged
+abbrev pub judged_with_room : Scope → ℕ → Option StartedSubtitle → List ℕ → SubtitlesOrFault
 judged_with_room scope room begun b = subtitles_of (stopped (findings_with_room scope room begun b))
 
 -- ---- completeness: the blocks of a file are read as its subtitles
@@ -88,7 +88,7 @@ result_without_skipped scope (b ∷ bs) begun few room ss h f le e =
 
 -- The result after the blocks of a subtitle: the subtitle, unless it is skipped, followed by the
 -- later subtitles.
-abbrev judged_after_started : StartedSubtitle → List (List ℕ) → Judged → Judged
+abbrev judged_after_started : StartedSubtitle → List (List ℕ) → SubtitlesOrFault → SubtitlesOrFault
 judged_after_started o tail j =
     cond o.is_skipped j
     (prepend_subtitle (record o.subtitle { text = o.subtitle.text ++ flat_map text_of_block tail })
@@ -264,7 +264,7 @@ front_block_keeps_reading scope room before k b ss ts groups le r kept out are =
   inside_groups_match = are;
 }
 
-pub ok_result_splits : (s : SubtitleValue) (j : Judged) (ss : List SubtitleValue)
+pub ok_result_splits : (s : SubtitleValue) (j : SubtitlesOrFault) (ss : List SubtitleValue)
     → prepend_subtitle s j ≡ Ok ss
     → (rest : List SubtitleValue) × (j ≡ Ok rest) × (ss ≡ s ∷ rest)
 ok_result_splits s j ss e = grind (arith, nat_tests)

@@ -7,7 +7,7 @@ use Rattle.std.proofs.lemmas.Grind.{flat_map-append}
 use Rattle.std.proofs.lemmas.List.{append-nil}
 use Rattle.std.proofs.lemmas.Bool.Decides.{nat_tests}
 use Rattle.stl_file.specs.declared.fault.StlFault.{StlFault}
-use Rattle.stl_file.specs.Questions.{Questions, requested}
+use Rattle.stl_file.specs.Questions.{Checks, result_of_checks}
 use Rattle.stl_file.specs.Tti.{is_subtitle_block, ebn, cf, sgn, sn, text_of_block, is_skipped_block}
 use Rattle.stl_file.specs.SubtitleBlocks.{BelongsTo, AreLinked, AreOutside, Begins, AreBlocksOf}
 use Rattle.stl_file.specs.Subtitle.{SubtitleValue}
@@ -20,11 +20,12 @@ use Rattle.stl_file.specs.Reading.{subtitle_block_step}
 use Rattle.stl_file.specs.Reading.{first_block_checks, skipped_subtitle_from}
 
 -- If a list of checks yields a value, all checks passed.
-pub requested-right : {X : Type 0} (qs : Questions) (answer : Result X StlFault) (x : X)
-    → requested qs answer ≡ Ok x
+pub result_of_checks-right : {X : Type 0} (qs : Checks) (answer : Result X StlFault) (x : X)
+    → result_of_checks qs answer ≡ Ok x
     → (answer ≡ Ok x) × AllByRecursion (λ (q : StlFault × Bool). q.1 ≡ false) qs
-requested-right [] answer x e = (e, tt)
-requested-right (q ∷ qs) answer x e = grind (arith, nat_tests, requested-right qs answer x)
+result_of_checks-right [] answer x e = (e, tt)
+result_of_checks-right (q ∷ qs) answer x e =
+    grind (arith, nat_tests, result_of_checks-right qs answer x)
 
 -- If a first block is read without a fault, the subtitle has the fields and the text of that block.
 pub accepted_first_block_begins : (b : List ℕ) (s : SubtitleValue)
@@ -32,7 +33,7 @@ pub accepted_first_block_begins : (b : List ℕ) (s : SubtitleValue)
     → Begins s b × (s.text ≡ text_of_block b)
 unfolding subtitle_of_first_block
 accepted_first_block_begins b s e =
-    let right = requested-right (first_block_checks b) _ s e in grind (arith, nat_tests)
+    let right = result_of_checks-right (first_block_checks b) _ s e in grind (arith, nat_tests)
 
 -- A block that begins a subtitle by the definition is read as the subtitle's first block.
 beginning_block_is_accepted : (b : List ℕ) (s : SubtitleValue)

@@ -24,7 +24,7 @@ use Rattle.std.specs.Prelude.{◌⊎◌, List, [], ◌∷◌, ◌++◌, length, 
 use Rattle.std.specs.Prelude.{bytes_eq, Result, Ok}
 use Rattle.stl_file.specs.declared.fault.StlFault.{StlFault}
 use Rattle.stl_file.specs.declared.fault.StlFault.TheVariants as fault
-use Rattle.stl_file.specs.Questions.{Questions, requested}
+use Rattle.stl_file.specs.Questions.{Checks, result_of_checks}
 
 -- Size of a GSI block in bytes.
 abbrev pub gsi_size : ℕ
@@ -94,7 +94,7 @@ abbrev pub IsGsi : List ℕ → Type 0
 IsGsi g = IsGsiFor false g
 
 -- The checks of a GSI block: format, frame rate, display and character code table.
-abbrev pub gsi_checks : Bool → List ℕ → Questions
+abbrev pub gsi_checks : Bool → List ℕ → Checks
 gsi_checks takes_open g =
     (fault.Format, not (bytes_eq (dfc g) stl_25) && not (bytes_eq (dfc g) stl_30))
     ∷ (fault.Rate, bytes_eq (dfc g) stl_30)
@@ -108,7 +108,7 @@ gsi_checks takes_open g =
 
 -- The GSI block g itself, or its first fault.
 unfoldable pub checked_gsi : Bool → List ℕ → Result (List ℕ) StlFault
-checked_gsi takes_open g = requested (gsi_checks takes_open g) (Ok g)
+checked_gsi takes_open g = result_of_checks (gsi_checks takes_open g) (Ok g)
 
 -- The ASCII digit of a number below ten.
 abbrev pub digit : ℕ → ℕ

@@ -5,21 +5,22 @@ use Rattle.stl_file.specs.declared.fault.StlFault.{StlFault}
 use Rattle.stl_file.specs.declared.fault.NormalFault.{NormalFault}
 use Rattle.stl_file.specs.declared.fault.NormalFault.TheVariants.{Refused}
 use Rattle.stl_file.specs.Subtitle.{SubtitleValue}
-use Rattle.stl_file.specs.NormalForm.{Judged, blocks_of_subtitles, prepend_subtitle}
+use Rattle.stl_file.specs.NormalForm.{SubtitlesOrFault, blocks_of_subtitles, prepend_subtitle}
 
 -- The subtitles of an accepted file; none for a rejected file.
-abbrev pub accepted_subtitles : Judged → List SubtitleValue
+abbrev pub accepted_subtitles : SubtitlesOrFault → List SubtitleValue
 accepted_subtitles (Ok ts) = ts
 accepted_subtitles (Err f) = []
 
 -- The numbers of blocks and subtitles in the normal form of a file.
-abbrev pub normal_counts : Judged → Result Counts NormalFault
+abbrev pub normal_counts : SubtitlesOrFault → Result Counts NormalFault
 normal_counts (Ok ts) = Ok (record { tnb = length (blocks_of_subtitles ts); tns = length ts })
 normal_counts (Err f) = Err f
 
 -- The subtitles of the next call of the reader and of all later calls, given the result of the next
 -- call, its block number and the subtitles of the later calls.
-abbrev pub judged_after_call : Result Bool StlFault → SubtitleValue → ℕ → Judged → Judged
+abbrev pub judged_after_call : Result Bool StlFault → SubtitleValue → ℕ → SubtitlesOrFault
+    → SubtitlesOrFault
 judged_after_call (Ok true) s block left = prepend_subtitle s left
 judged_after_call (Ok false) s block left = Ok []
 judged_after_call (Err f) s block left = Err (Refused f block)

@@ -65,16 +65,16 @@ normal_form g ts = gsi_with_counts g ts ++ concat (blocks_of_subtitles ts)
 -- ---- the subtitles of a file as one list
 
 -- The result of reading a file: all its subtitles, or its first fault with the number of the block.
-abbrev pub Judged : Type 0
-Judged = Result (List SubtitleValue) NormalFault
+abbrev pub SubtitlesOrFault : Type 0
+SubtitlesOrFault = Result (List SubtitleValue) NormalFault
 
 -- Puts the subtitle s in front of the subtitles in a result.
-abbrev pub prepend_subtitle : SubtitleValue → Judged → Judged
+abbrev pub prepend_subtitle : SubtitleValue → SubtitlesOrFault → SubtitlesOrFault
 prepend_subtitle s (Ok ss) = Ok (s ∷ ss)
 prepend_subtitle s (Err f) = Err f
 
 -- The subtitles in a reader's results, or the first fault with the number of its block.
-abbrev pub subtitles_of : Outcome → Judged
+abbrev pub subtitles_of : Outcome → SubtitlesOrFault
 subtitles_of ends = Ok []
 subtitles_of (fails f block) = Err (Refused f block)
 subtitles_of (gives s block o) = prepend_subtitle s (subtitles_of o)

@@ -7,7 +7,7 @@ use Rattle.sub_io.specs.Reading.{◌>>=◌}
 use Rattle.stl_file.specs.declared.fault.StlFault.{StlFault}
 use Rattle.stl_file.specs.declared.fault.StlFault.TheVariants as fault
 use Rattle.stl_file.specs.Fault.{is_first_block_fault}
-use Rattle.stl_file.specs.Questions.{Questions, requested}
+use Rattle.stl_file.specs.Questions.{Checks, result_of_checks}
 use Rattle.stl_file.specs.TimeCode.{frame_from_bytes, is_valid_time_field}
 use Rattle.stl_file.specs.Tti.{block_size, max_blocks, max_blocks_of_subtitle, first_reserved_ebn}
 use Rattle.stl_file.specs.Tti.{user_data_ebn}
@@ -36,7 +36,7 @@ pub data BlockStep : Type 0 where
   Yield : SubtitleValue → BlockStep
 
 -- The checks of the first block of a subtitle.
-abbrev pub first_block_checks : List ℕ → Questions
+abbrev pub first_block_checks : List ℕ → Checks
 first_block_checks b =
     (fault.Cumulative, not (cs b == not_cumulative))
     ∷ (fault.Justify, nat_lt 3 (jc b))
@@ -49,7 +49,7 @@ first_block_checks b =
 -- The subtitle that starts with the block b, with the text of that block.
 unfoldable pub subtitle_of_first_block : List ℕ → Result SubtitleValue StlFault
 subtitle_of_first_block b =
-    requested (first_block_checks b) (Ok (record {
+    result_of_checks (first_block_checks b) (Ok (record {
       sgn = sgn b;
       sn = sn b;
       tci = frame_from_bytes (tci b);
@@ -60,7 +60,7 @@ subtitle_of_first_block b =
     }))
 
 -- The checks of the second and each later block of a subtitle.
-abbrev pub later_block_checks : StartedSubtitle → List ℕ → Questions
+abbrev pub later_block_checks : StartedSubtitle → List ℕ → Checks
 later_block_checks begun b =
     (fault.Sequence, not ((sgn b == begun.subtitle.sgn) && (sn b == begun.subtitle.sn)))
     ∷ (fault.TooLong, begun.blocks == max_blocks_of_subtitle)
@@ -97,7 +97,7 @@ subtitle_block_step scope None b =
       s ← subtitle_of_first_block b
       Ok (step_after_block (ebn b) (record { subtitle = s; blocks = 1; is_skipped = false }))
 subtitle_block_step scope (Some begun) b =
-    requested (later_block_checks begun b) (Ok (step_after_block (ebn b) (record begun {
+    result_of_checks (later_block_checks begun b) (Ok (step_after_block (ebn b) (record begun {
       subtitle = record begun.subtitle { text = begun.subtitle.text ++ text_of_block b };
       blocks = begun.blocks + 1;
     })))
@@ -120,7 +120,7 @@ step_by_result s read (Ok true) = Ok (Yield s)
 step_by_result s read (Ok false) = Ok (More (current_subtitle s read))
 
 -- The checks of every block except user data.
-abbrev pub every_block_checks : List ℕ → Questions
+abbrev pub every_block_checks : List ℕ → Checks
 every_block_checks b =
     (fault.Extension, nat_le first_reserved_ebn (ebn b) && not (ebn b == last_block_ebn))
     ∷ (fault.CommentFlag, nat_lt comment_flag (cf b))
@@ -130,7 +130,7 @@ every_block_checks b =
 unfoldable pub tti_block_step : Scope → Option StartedSubtitle → List ℕ → Result BlockStep StlFault
 tti_block_step scope begun b =
     if ebn b == user_data_ebn then Ok (More begun)
-    else requested (every_block_checks b)
+    else result_of_checks (every_block_checks b)
     (if cf b == comment_flag then Ok (More begun) else subtitle_block_step scope begun b)
 
 -- ---- reading all following TTI blocks

@@ -58,7 +58,7 @@ fn compute_counts(gsi: Gsi, body: &[u8]) -> Result<Counts, NormalFault>
     ensures few { IfOk result (λ counts. (counts.tnb < 100000) × (counts.tns < 100000)) }
 {
     let mut source = MemSource::new(body);
-    let mut reader = StlReader::following(gsi);
+    let mut reader = StlReader::at_first_block(gsi);
     let mut subtitle = Subtitle::empty();
     let mut counts = Counts { tnb: 0, tns: 0 };
     'subtitles: loop {
@@ -130,7 +130,7 @@ fn write_subtitles<K: Sink>(gsi: Gsi, body: &[u8], sink: &mut K) -> Result<(), F
     ensures count { CountsFailure (K.failure_count sink.old) result (K.failure_count sink.new) }
 {
     let mut source = MemSource::new(body);
-    let mut reader = StlReader::following(gsi);
+    let mut reader = StlReader::at_first_block(gsi);
     let mut subtitle = Subtitle::empty();
     'subtitles: loop {
         match read_ahead(&mut reader, &mut source, &mut subtitle) {

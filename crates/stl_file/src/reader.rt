@@ -87,13 +87,13 @@ impl StlReader {
             (failed is_file_read_failure result) source.new }
     {
         match read_gsi(source, Scope::whole()) {
-            Ok(gsi) => Ok(StlReader::following(gsi)),
+            Ok(gsi) => Ok(StlReader::at_first_block(gsi)),
             Err(fault) => Err(fault),
         }
     }
 
     // Creates a reader whose next block is the first after the GSI block.
-    pub(crate) fn following(gsi: Gsi) -> StlReader
+    pub(crate) fn at_first_block(gsi: Gsi) -> StlReader
         ensures { result ≡ record { gsi = gsi; block = 0; progress = Reading } }
     {
         StlReader {

@@ -17,8 +17,8 @@ use Rattle.stl_rows.specs.EveryFault.{is_file_fault}
 use Rattle.stl_rows.specs.EveryFault.{EndsSubtitleAfter, RunsOutOfMemory, is_reported_before}
 use Rattle.stl_rows.specs.EveryFault.{load_fault}
 use Rattle.stl_rows.specs.Judged.{JudgedValue, JudgesFile}
-use Rattle.stl_rows.specs.Loading.{EndsAfterTimes, EndsFaultlessSubtitle, FailsLoading}
-use Rattle.stl_rows.specs.Loading.{ReportsFault, loaded_programme}
+use Rattle.stl_rows.specs.Loading.{EndsFaultlessAfter, EndsFaultlessSubtitle, FailsLoading}
+use Rattle.stl_rows.specs.Loading.{IsErrorOfLoad, loaded_programme}
 use Rattle.stl_rows.specs.Loading.{programme_unless_faulty}
 use Rattle.stl_rows.specs.Fault.{is_load_read_failure, is_read_failure_kind}
 use Rattle.stl_rows.specs.Programme.{ProgrammeValue, faults_of_next_subtitle, times_of}
@@ -47,7 +47,7 @@ single_taken_fault_is_first n all fault some h = grind (arith, nat_tests)
 reports-kind : (drawing : Drawing) (file : List ℕ) (block : ℕ) (kind : LoadFaultKind)
     → is_file_fault kind ≡ true
     → loaded_programme drawing file ≡ Err (load_fault block kind)
-    → ReportsFault drawing file block kind
+    → IsErrorOfLoad drawing file block kind
 reports-kind drawing file block kind fault_is_in_file h = grind (arith, nat_tests)
 
 pub first-fault_is_in_file : (first : Option LoadFault)
@@ -77,7 +77,7 @@ first-file_fault_excludes_read_failure new first fault is_new is_first fault_is_
 pub reports-first : (drawing : Drawing) (file : List ℕ) (fault : LoadFault) (stopped : Bool)
     → ReportsFaults KeepsFirst None (Some fault) stopped (faults drawing file)
     → ReportsSomeFileFaults KeepsFirst None (Some fault)
-    → ReportsFault drawing file fault.block fault.kind
+    → IsErrorOfLoad drawing file fault.block fault.kind
 reports-first drawing file fault stopped reported fault_is_in_file =
     let p = reported.prefix in
     let taken = only_first_item_is_reported (Some fault) (take p.0 (faults drawing file)) p.3 in
@@ -126,7 +126,7 @@ loads-all drawing file j judged reported =
 ending_subtitle_ends_after_times : (drawing : Drawing) (before : Option Times) (at : ℕ)
     (left : Findings)
     → EndsSubtitleAfter drawing before [] at left
-    → EndsAfterTimes drawing before at left
+    → EndsFaultlessAfter drawing before at left
 ending_subtitle_ends_after_times drawing before at no_more e = e
 ending_subtitle_ends_after_times drawing before at (breaks f block) e = e
 ending_subtitle_ends_after_times drawing before at (refuses f block left) e = absurd
@@ -157,7 +157,7 @@ ends-record drawing file block wants =
 pub reports-failed : (drawing : Drawing) (file : List ℕ) (block : ℕ) (kind : LoadFaultKind)
     → (kind ≡ Memory) ⊎ (kind ≡ File Read)
     → (kind ≡ Memory → RunsOutOfMemory drawing file KeepsFirst None None block)
-    → ReportsFault drawing file block kind
+    → IsErrorOfLoad drawing file block kind
 reports-failed drawing file block kind (inl is) wants =
     rw is (ends-record drawing file block (wants is))
 reports-failed drawing file block kind (inr is) wants = rw is tt

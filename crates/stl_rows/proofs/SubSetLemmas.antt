@@ -1,6 +1,7 @@
--- The cells of all national characters are codes below 128, and no two national options have the
--- same name.
-use Rattle.std.proofs.Common.{◌≡◌, ◌↔◌, ℕ, ◌<◌, List, [], ◌∷◌, Option, Some, find, sym}
+-- The cells of all national characters are codes below 128, no two national options have the same
+-- name, and a search for a name in the code's table finds the option of this name.
+use Rattle.std.proofs.Common.{◌≡◌, ◌↔◌, ℕ, ◌<◌, List, [], ◌∷◌, Option, Some, find, map, option_map}
+use Rattle.std.proofs.Common.{ap, refl, sym, ◌∙◌}
 use Rattle.std.proofs.Common.{arith}
 use Rattle.std.proofs.lemmas.Slice.Eq.{bytes_eq-Decides}
 use Rattle.std.proofs.lemmas.Bool.Decides.{nat_tests}
@@ -10,6 +11,7 @@ use Rattle.std.specs.Str.{bytes_eq}
 use Rattle.ttx_page.specs.Page.{IsCode}
 use Rattle.stl_rows.specs.declared.national.National.{National}
 use Rattle.stl_rows.specs.declared.sub_sets.NationalCharacter.{NationalCharacter}
+use Rattle.stl_rows.specs.declared.sub_sets.SubSet.{SubSet}
 use Rattle.stl_rows.specs.SubSets.{cell_of_character, named_option, options, sub_set}
 
 abbrev HaveCodes : List NationalCharacter → Type 0
@@ -53,3 +55,48 @@ pub option_is_named_by_word : (n : National) (text : List ℕ)
 unfolding named_option
 option_is_named_by_word n text =
     (λ e. sym (found_option_has_word options n text e), λ is. rw is (option_of_word n))
+
+-- The name in each row of a table is the name of the row's option.
+abbrev pub HaveNames : List SubSet → Type 0
+HaveNames rows = AllByRecursion (λ (r : SubSet). r.word.now ≡ (sub_set r.national).word) rows
+
+-- A search for a name in a table of such rows finds the first option of this name. (Induction over
+-- the rows: a proof by cases of all rows ends at the limit of `grind`.)
+pub option_of_found_row : (rows : List SubSet) (text : List ℕ)
+    → HaveNames rows
+    → option_map (λ (r : SubSet). r.national)
+    (find (λ (r : SubSet). bytes_eq r.word.now text) rows)
+    ≡ find (λ (n : National). bytes_eq (sub_set n).word text)
+    (map (λ (r : SubSet). r.national) rows)
+option_of_found_row [] text h = refl
+option_of_found_row (r ∷ rows) text h =
+    grind (arith, nat_tests, h.0, option_of_found_row rows text h.1)
+
+-- The names and the options of a table's rows.
+abbrev pub words_of : List SubSet → List (List ℕ)
+words_of rows = map (λ (r : SubSet). r.word.now) rows
+
+abbrev pub nationals_of : List SubSet → List National
+nationals_of rows = map (λ (r : SubSet). r.national) rows
+
+-- If the names of a table's rows are those of its options, so is each of them.
+have_names : (rows : List SubSet)
+    → words_of rows ≡ map (λ (n : National). (sub_set n).word) (nationals_of rows)
+    → HaveNames rows
+have_names [] e = tt
+have_names (r ∷ rows) e =
+    let head : r.word.now ≡ (sub_set r.national).word = cc in
+    let rest : words_of rows ≡ map (λ (n : National). (sub_set n).word) (nationals_of rows) = cc in
+    (head, have_names rows rest)
+
+-- So it is for the table that has all options in the order of the definition.
+pub found_option_is_named : (rows : List SubSet) (text : List ℕ) (found : Option National)
+    → found ≡ option_map (λ (r : SubSet). r.national)
+    (find (λ (r : SubSet). bytes_eq r.word.now text) rows)
+    → words_of rows ≡ map (λ (n : National). (sub_set n).word) (nationals_of rows)
+    → nationals_of rows ≡ options
+    → found ≡ named_option text
+unfolding named_option
+found_option_is_named rows text found is names all =
+    is ∙ option_of_found_row rows text (have_names rows names)
+    ∙ ap (λ (ns : List National). find (λ (n : National). bytes_eq (sub_set n).word text) ns) all

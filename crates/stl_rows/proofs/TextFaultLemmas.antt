@@ -16,7 +16,8 @@ use Rattle.stl_rows.specs.declared.text_faults.OpenLine.{OpenLine}
 use Rattle.stl_rows.specs.PlainPage.{line_fault_kinds, line_faults, subtitle_faults}
 use Rattle.stl_rows.specs.Line.{has_cells, has_start_box_code, has_double_height, boxed_line}
 use Rattle.stl_rows.specs.LineByLine.{empty_line, next_empty_line, prepared_lines}
-use Rattle.stl_rows.specs.LineByLine.{shape_fault_kinds, reported, first_fault_up_to_line}
+use Rattle.stl_rows.specs.LineByLine.{shape_fault_kinds, first_fault_of_codes}
+use Rattle.stl_rows.specs.LineByLine.{first_fault_up_to_line}
 use Rattle.stl_rows.specs.LineByLine.{with_cell}
 use Rattle.stl_rows.specs.TextCode.{first_of, lines_of_codes, faults_of_codes, text_codes}
 use Rattle.stl_rows.proofs.LineByLineLemmas.{code_joins_cells, line_end_closes_cells}
@@ -100,39 +101,42 @@ abbrev IsReported : List (ℕ × TextCode) → Type 0
 IsReported ss =
     (before : Option RowFault) (cells : List ℕ) (line : OpenLine)
     → HasShape cells line
-    → reported before line ss
+    → first_fault_of_codes before line ss
     ≡ option_or (first_of (faults_of_codes ss)) (option_or before (first_of
     (line_faults line.number line.row line.is_below_double_height (prepared_lines cells ss))))
 
-reported-code : (at : ℕ) (s : TextCode) (ss : List (ℕ × TextCode)) → IsReported ss → IsReported
+first_fault_of_codes-code : (at : ℕ) (s : TextCode) (ss : List (ℕ × TextCode)) → IsReported ss
+    → IsReported
     ((at, s) ∷ ss)
-reported-code at (Cell code) ss after before cells line h = search (
+first_fault_of_codes-code at (Cell code) ss after before cells line h = search (
   rules,
   code_joins_cells,
   shape-push,
 )
-reported-code at NoCell ss after before cells line h = after before cells line h
-reported-code at NewLine ss after before cells line h =
+first_fault_of_codes-code at NoCell ss after before cells line h = after before cells line h
+first_fault_of_codes-code at NewLine ss after before cells line h =
     rw (line_end_closes_cells cells (lines_of_codes ss))
     (after (first_fault_up_to_line before line) [] (next_empty_line line) (shape-none _ _ _)
     ∙ ap (option_or (first_of (faults_of_codes ss)))
     (reported_fault_is_first before cells line (prepared_lines [] ss) h))
-reported-code at (Refused kind) ss after before cells line h = refl
+first_fault_of_codes-code at (Refused kind) ss after before cells line h = refl
 
-reported-is : (ss : List (ℕ × TextCode)) → IsReported ss
-reported-is [] before cells line h = grind (
+first_fault_of_codes-is : (ss : List (ℕ × TextCode)) → IsReported ss
+first_fault_of_codes-is [] before cells line h = grind (
   arith,
   nat_tests,
   line_end_closes_cells,
   shape_decides_fault_kinds,
   append-nil,
 )
-reported-is (c ∷ ss) before cells line h = reported-code c.0 c.1 ss (reported-is ss) before cells
+first_fault_of_codes-is (c ∷ ss) before cells line h =
+    first_fault_of_codes-code c.0 c.1 ss (first_fault_of_codes-is ss) before cells
     line h
 
-pub reported-faults : (n : National) (t : SubtitleValue)
-    → reported None (empty_line 0 t.vp false) (text_codes n 0 t.text) ≡ first_of
+pub first_fault_of_codes-faults : (n : National) (t : SubtitleValue)
+    → first_fault_of_codes None (empty_line 0 t.vp false) (text_codes n 0 t.text) ≡ first_of
     (subtitle_faults n t)
-reported-faults n t =
-    reported-is (text_codes n 0 t.text) None [] (empty_line 0 t.vp false) (shape-none 0 t.vp false)
+first_fault_of_codes-faults n t =
+    first_fault_of_codes-is (text_codes n 0 t.text) None [] (empty_line 0 t.vp false)
+    (shape-none 0 t.vp false)
     ∙ sym (first_of-append (faults_of_codes (text_codes n 0 t.text)) _)

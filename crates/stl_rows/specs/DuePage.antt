@@ -91,8 +91,8 @@ LawOfEdges =
 
 -- Row 24 of each expected page is blank, since no subtitle may use row 24. So a transmission of an
 -- expected page needs only 23 rows.
-abbrev pub LawOfLastRow : Type 0
-LawOfLastRow =
+abbrev pub LawOfRow24 : Type 0
+LawOfRow24 =
     (drawing : Drawing) (records : List SubtitleValue) (frame : ℕ)
     → row_at (due drawing records frame) 24 ≡ blank_row
 

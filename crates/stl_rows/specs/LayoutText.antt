@@ -189,12 +189,12 @@ items_with_item items text =
 -- Sets the layout items that several texts name. `None` if a text names no item, or an item that
 -- was already set.
 unfoldable pub items_with_all : LayoutItems → List Bool → List (List ℕ) → Option LayoutItems
-items_with_all items received [] = Some items
-items_with_all items received (text ∷ texts) = do
+items_with_all items already_set [] = Some items
+items_with_all items already_set (text ∷ texts) = do
   next ← items_with_item items text
-  if slice_index_or received next.0 true
+  if slice_index_or already_set next.0 true
       then None
-      else items_with_all next.1 (slice_set received next.0 true) texts
+      else items_with_all next.1 (slice_set already_set next.0 true) texts
 
 -- The layout that a text describes; `None` if the text does not match the syntax.
 unfoldable pub layout_of_text : List ℕ → Option Layout

@@ -97,6 +97,7 @@ fault_after_code at (Refused kind) before line next = Some (fault_of at kind)
 
 -- The first fault of a text, given a fault found before, if any, the properties of the current
 -- line, and the text codes left.
-abbrev pub reported : Option RowFault → OpenLine → List (ℕ × TextCode) → Option RowFault
-reported before line [] = first_fault_up_to_line before line
-reported before line (c ∷ codes) = fault_after_code c.0 c.1 before line (λ f l. reported f l codes)
+abbrev pub first_fault_of_codes : Option RowFault → OpenLine → List (ℕ × TextCode) → Option RowFault
+first_fault_of_codes before line [] = first_fault_up_to_line before line
+first_fault_of_codes before line (c ∷ codes) =
+    fault_after_code c.0 c.1 before line (λ f l. first_fault_of_codes f l codes)

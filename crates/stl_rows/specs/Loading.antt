@@ -46,26 +46,26 @@ loaded_programme drawing file =
 
 -- A subtitle ends at block `at`, and no fault comes up to that block. The previous subtitle has the
 -- times `before`.
-abbrev pub EndsAfterTimes : Drawing → Option Times → ℕ → Findings → Type 0
-EndsAfterTimes drawing before at no_more = ⊥
-EndsAfterTimes drawing before at (breaks fault block) = ⊥
-EndsAfterTimes drawing before at (refuses fault block more) = ⊥
-EndsAfterTimes drawing before at (finds t block more) =
+abbrev pub EndsFaultlessAfter : Drawing → Option Times → ℕ → Findings → Type 0
+EndsFaultlessAfter drawing before at no_more = ⊥
+EndsFaultlessAfter drawing before at (breaks fault block) = ⊥
+EndsFaultlessAfter drawing before at (refuses fault block more) = ⊥
+EndsFaultlessAfter drawing before at (finds t block more) =
     (faults_of_next_subtitle drawing before t ≡ [])
-    × ((at ≡ block) ⊎ EndsAfterTimes drawing (Some (times_of t)) at more)
+    × ((at ≡ block) ⊎ EndsFaultlessAfter drawing (Some (times_of t)) at more)
 
 -- A subtitle of the file ends at block `at`, and no fault comes up to that block.
 abbrev pub EndsFaultlessSubtitle : Drawing → List ℕ → ℕ → Type 0
-EndsFaultlessSubtitle drawing file at = EndsAfterTimes drawing None at
+EndsFaultlessSubtitle drawing file at = EndsFaultlessAfter drawing None at
     (findings_within_scope drawing.scope file)
 
 -- The meaning of an error of `load`. `Memory`: a subtitle ends at the block, and no fault comes up
 -- to that block. `Read`: the source failed, which is no fault of the file. Any other error is the
 -- first fault of the file.
-abbrev pub ReportsFault : Drawing → List ℕ → ℕ → LoadFaultKind → Type 0
-ReportsFault drawing file block (File Read) = ⊤
-ReportsFault drawing file block Memory = EndsFaultlessSubtitle drawing file block
-ReportsFault drawing file block kind = loaded_programme drawing file ≡ Err (load_fault block kind)
+abbrev pub IsErrorOfLoad : Drawing → List ℕ → ℕ → LoadFaultKind → Type 0
+IsErrorOfLoad drawing file block (File Read) = ⊤
+IsErrorOfLoad drawing file block Memory = EndsFaultlessSubtitle drawing file block
+IsErrorOfLoad drawing file block kind = loaded_programme drawing file ≡ Err (load_fault block kind)
 
 -- No fault of the file comes before this block. If a file ends within a subtitle, the fault has the
 -- number of the last complete block, but is found only when the next block is read.

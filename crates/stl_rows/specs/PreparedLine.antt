@@ -24,12 +24,12 @@ trailing first last (c ∷ cells) =
     else trailing first last cells
 
 -- The number of spacing attributes (codes below 20) at the start of a line.
-abbrev pub leading_codes : List ℕ → ℕ
-leading_codes cells = leading_count 0 0x1F cells
+abbrev pub leading_code_count : List ℕ → ℕ
+leading_code_count cells = leading_count 0 0x1F cells
 
 -- The number of spacing attributes (codes below 20) at the end of a line.
-abbrev pub trailing_codes : List ℕ → ℕ
-trailing_codes cells = trailing 0 0x1F cells
+abbrev pub trailing_code_count : List ℕ → ℕ
+trailing_code_count cells = trailing 0 0x1F cells
 
 -- The line without leading spaces.
 abbrev pub without_leading_spaces : List ℕ → List ℕ
@@ -56,9 +56,9 @@ codes_with_colour items codes =
 unfoldable pub line_with_before_codes : LayoutItems → List ℕ → List ℕ
 line_with_before_codes items cells =
     codes_of_places items.ahead
-    ++ codes_with_colour items (take (leading_codes cells) cells)
+    ++ codes_with_colour items (take (leading_code_count cells) cells)
     ++ codes_of_places items.following
-    ++ drop (leading_codes cells) cells
+    ++ drop (leading_code_count cells) cells
 
 -- The layout item `after`: the codes to add at the end of a line of n cells. With `fit`, only as
 -- many codes as there is room for.
@@ -90,8 +90,8 @@ abbrev pub uncounted_cells : LayoutItems → List ℕ → ℕ × ℕ
 uncounted_cells items line =
     if items.text
     then (
-      leading_codes line,
-      if leading_codes line == length line then 0 else trailing_codes line,
+      leading_code_count line,
+      if leading_code_count line == length line then 0 else trailing_code_count line,
     )
     else (0, 0)
 
@@ -112,9 +112,9 @@ start_column_for items jc ahead width =
 -- row.
 unfoldable pub start_column_by_layout : LayoutItems → ℕ → List ℕ → ℕ
 start_column_by_layout items jc line =
-    let free_jc : ℕ × ℕ = uncounted_cells items line in
-    min (start_column_for items (effective_jc items jc) free_jc.0
-    (length line - (free_jc.0 + free_jc.1)))
+    let uncounted : ℕ × ℕ = uncounted_cells items line in
+    min (start_column_for items (effective_jc items jc) uncounted.0
+    (length line - (uncounted.0 + uncounted.1)))
     (columns - length line)
 
 -- The 40 codes of the row that shows a line from column `start` on.

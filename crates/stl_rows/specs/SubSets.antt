@@ -3,7 +3,10 @@
 -- which is Latin and has the bytes of ISO 6937).
 --
 -- The code table of level 1 has 13 places for a sub-set. These are the sub-sets of the default
--- region, 0000, with one for each value of C12 to C14; 1 1 1 is reserved.
+-- region, 0000, with one for each value of C12 to C14 but 1 1 1, which is reserved there, and the
+-- other Latin sub-sets: Polish of region 0001, Turkish of 0010, Croatian and Romanian of 0011,
+-- Estonian and Lithuanian of 0100. A header names no region: C12 to C14 choose a sub-set within the
+-- region to which a receiver is set.
 use Rattle.std.specs.Prelude.{ℕ, Bool, ◌&&◌, ◌==◌, nat_eq, List, [], ◌∷◌, Option, Some, None}
 use Rattle.std.specs.Prelude.{codes, if◌then◌else◌}
 use Rattle.std.specs.List.{find}
@@ -11,7 +14,9 @@ use Rattle.std.specs.Option.{option_eq}
 use Rattle.std.specs.Str.{bytes_eq}
 use Rattle.stl_rows.specs.declared.national.National.{National}
 use Rattle.stl_rows.specs.declared.national.National.TheVariants.{English, German, Swedish, Italian}
-use Rattle.stl_rows.specs.declared.national.National.TheVariants.{French, Spanish, Czech}
+use Rattle.stl_rows.specs.declared.national.National.TheVariants.{French, Spanish, Czech, Polish}
+use Rattle.stl_rows.specs.declared.national.National.TheVariants.{Turkish, Croatian, Romanian}
+use Rattle.stl_rows.specs.declared.national.National.TheVariants.{Estonian, Lithuanian}
 use Rattle.stl_rows.specs.declared.national.NationalBits.{NationalBits}
 use Rattle.stl_rows.specs.declared.sub_sets.NationalCharacter.{NationalCharacter}
 
@@ -168,10 +173,126 @@ sub_set Czech = record {
       ∷ marked_character 0x7E 0xCF 0x73  -- š
       ∷ [];
 }
+sub_set Polish = record {
+  word = codes "polish";
+  bits = three_bits 0 0 0;
+  characters =
+      plain 0x23 0x23  -- #
+      ∷ marked_character 0x24 0xC2 0x6E  -- ń
+      ∷ marked_character 0x40 0xCE 0x61  -- ą
+      ∷ marked_character 0x5B 0xC7 0x5A  -- Ż
+      ∷ marked_character 0x5C 0xC2 0x53  -- Ś
+      ∷ plain 0x5D 0xE8  -- Ł
+      ∷ marked_character 0x5E 0xC2 0x63  -- ć
+      ∷ marked_character 0x5F 0xC2 0x6F  -- ó
+      ∷ marked_character 0x60 0xCE 0x65  -- ę
+      ∷ marked_character 0x7B 0xC7 0x7A  -- ż
+      ∷ marked_character 0x7C 0xC2 0x73  -- ś
+      ∷ plain 0x7D 0xF8  -- ł
+      ∷ marked_character 0x7E 0xC2 0x7A  -- ź
+      ∷ [];
+}
+sub_set Turkish = record {
+  word = codes "turkish";
+  bits = three_bits 1 1 0;
+  characters =
+      marked_character 0x24 0xC6 0x67  -- ğ
+      ∷ marked_character 0x40 0xC7 0x49  -- İ
+      ∷ marked_character 0x5B 0xCB 0x53  -- Ş
+      ∷ marked_character 0x5C 0xC8 0x4F  -- Ö
+      ∷ marked_character 0x5D 0xCB 0x43  -- Ç
+      ∷ marked_character 0x5E 0xC8 0x55  -- Ü
+      ∷ marked_character 0x5F 0xC6 0x47  -- Ğ
+      ∷ plain 0x60 0xF5  -- ı
+      ∷ marked_character 0x7B 0xCB 0x73  -- ş
+      ∷ marked_character 0x7C 0xC8 0x6F  -- ö
+      ∷ marked_character 0x7D 0xCB 0x63  -- ç
+      ∷ marked_character 0x7E 0xC8 0x75  -- ü
+      ∷ [];
+}
+sub_set Croatian = record {
+  word = codes "croatian";
+  bits = three_bits 1 0 1;
+  characters =
+      plain 0x23 0x23  -- #
+      ∷ marked_character 0x24 0xC8 0x45  -- Ë
+      ∷ marked_character 0x40 0xCF 0x43  -- Č
+      ∷ marked_character 0x5B 0xC2 0x43  -- Ć
+      ∷ marked_character 0x5C 0xCF 0x5A  -- Ž
+      ∷ plain 0x5D 0xE2  -- Đ
+      ∷ marked_character 0x5E 0xCF 0x53  -- Š
+      ∷ marked_character 0x5F 0xC8 0x65  -- ë
+      ∷ marked_character 0x60 0xCF 0x63  -- č
+      ∷ marked_character 0x7B 0xC2 0x63  -- ć
+      ∷ marked_character 0x7C 0xCF 0x7A  -- ž
+      ∷ plain 0x7D 0xF2  -- đ
+      ∷ marked_character 0x7E 0xCF 0x73  -- š
+      ∷ [];
+}
+sub_set Romanian = record {
+  word = codes "romanian";
+  bits = three_bits 1 1 1;
+  characters =
+      plain 0x23 0x23  -- #
+      ∷ plain 0x24 0xA8  -- ¤
+      ∷ marked_character 0x40 0xCB 0x54  -- Ţ
+      ∷ marked_character 0x5B 0xC3 0x41  -- Â
+      ∷ marked_character 0x5C 0xCB 0x53  -- Ş
+      ∷ marked_character 0x5D 0xC6 0x41  -- Ă
+      ∷ marked_character 0x5E 0xC3 0x49  -- Î
+      ∷ plain 0x5F 0xF5  -- ı
+      ∷ marked_character 0x60 0xCB 0x74  -- ţ
+      ∷ marked_character 0x7B 0xC3 0x61  -- â
+      ∷ marked_character 0x7C 0xCB 0x73  -- ş
+      ∷ marked_character 0x7D 0xC6 0x61  -- ă
+      ∷ marked_character 0x7E 0xC3 0x69  -- î
+      ∷ [];
+}
+sub_set Estonian = record {
+  word = codes "estonian";
+  bits = three_bits 0 1 0;
+  characters =
+      plain 0x23 0x23  -- #
+      ∷ marked_character 0x24 0xC4 0x6F  -- õ
+      ∷ marked_character 0x40 0xCF 0x53  -- Š
+      ∷ marked_character 0x5B 0xC8 0x41  -- Ä
+      ∷ marked_character 0x5C 0xC8 0x4F  -- Ö
+      ∷ marked_character 0x5D 0xCF 0x5A  -- Ž
+      ∷ marked_character 0x5E 0xC8 0x55  -- Ü
+      ∷ marked_character 0x5F 0xC4 0x4F  -- Õ
+      ∷ marked_character 0x60 0xCF 0x73  -- š
+      ∷ marked_character 0x7B 0xC8 0x61  -- ä
+      ∷ marked_character 0x7C 0xC8 0x6F  -- ö
+      ∷ marked_character 0x7D 0xCF 0x7A  -- ž
+      ∷ marked_character 0x7E 0xC8 0x75  -- ü
+      ∷ [];
+}
+sub_set Lithuanian = record {
+  word = codes "lithuanian";
+  bits = three_bits 0 1 1;
+  characters =
+      plain 0x23 0x23  -- #
+      ∷ plain 0x24 0x24  -- $
+      ∷ plain 0x24 0xA4  -- $
+      ∷ marked_character 0x40 0xCF 0x53  -- Š
+      ∷ marked_character 0x5B 0xC7 0x65  -- ė
+      ∷ marked_character 0x5C 0xCE 0x65  -- ę
+      ∷ marked_character 0x5D 0xCF 0x5A  -- Ž
+      ∷ marked_character 0x5E 0xCF 0x63  -- č
+      ∷ marked_character 0x5F 0xC5 0x75  -- ū
+      ∷ marked_character 0x60 0xCF 0x73  -- š
+      ∷ marked_character 0x7B 0xCE 0x61  -- ą
+      ∷ marked_character 0x7C 0xCE 0x75  -- ų
+      ∷ marked_character 0x7D 0xCF 0x7A  -- ž
+      ∷ marked_character 0x7E 0xCE 0x69  -- į
+      ∷ [];
+}
 
 -- All national options.
 abbrev pub options : List National
-options = English ∷ German ∷ Swedish ∷ Italian ∷ French ∷ Spanish ∷ Czech ∷ []
+options =
+    English ∷ German ∷ Swedish ∷ Italian ∷ French ∷ Spanish ∷ Czech
+    ∷ Polish ∷ Turkish ∷ Croatian ∷ Romanian ∷ Estonian ∷ Lithuanian ∷ []
 
 -- The national option with this name, in lower case.
 unfoldable pub named_option : List ℕ → Option National

@@ -44,5 +44,5 @@ pub use loading::{law_of_judged, law_of_loading, law_of_parts, load, load_with_a
 pub use national::{National, NationalBits};
 pub use programme::{
     Programme, law_of_blank_pages, law_of_due_pages, law_of_due_subtitles, law_of_edges,
-    law_of_last_row,
+    law_of_row_24,
 };

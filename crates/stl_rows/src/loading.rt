@@ -8,7 +8,7 @@ ghost use Rattle.stl_rows.specs.Fault.{is_load_read_failure};
 ghost use Rattle.stl_rows.specs.Layout.{drawing_within};
 ghost use Rattle.stl_rows.specs.declared.fault.LoadFaultKind.TheVariants.{File};
 ghost use Rattle.stl_rows.specs.Loading.{FailsLoading, LawOfLoading, LawOfParts};
-ghost use Rattle.stl_rows.specs.Loading.{ReportsFault, loaded_programme};
+ghost use Rattle.stl_rows.specs.Loading.{IsErrorOfLoad, loaded_programme};
 ghost use Rattle.stl_rows.specs.Judged.{LawOfFaultlessFiles, LawOfJudged};
 ghost use Rattle.stl_rows.specs.Programme.{IsProgramme};
 
@@ -50,7 +50,7 @@ pub fn load<S: Source>(
         loaded_programme (drawing_within national layout scope) bytes ≡ Ok programme)) }
     ensures fault { IfKnown (S.remaining source.old) (λ bytes.
         IfErr result (λ f.
-        ReportsFault (drawing_within national layout scope) bytes f.block f.kind)) }
+        IsErrorOfLoad (drawing_within national layout scope) bytes f.block f.kind)) }
     ensures never { IfErr result (λ f. f.kind ≢ File Ended) }
 
     ensures programme { IfOk result (λ programme.
@@ -87,7 +87,7 @@ pub fn load_with_allocator<A: Allocator + Copy, S: Source>(
     ensures exact { IfKnown (S.remaining source.old) (λ bytes. IfOk result (λ v.
         loaded_programme drawing bytes ≡ Ok (record { drawing = drawing; records = v }))) }
     ensures fault { IfKnown (S.remaining source.old) (λ bytes. IfErr result (λ f.
-        ReportsFault drawing bytes f.block f.kind)) }
+        IsErrorOfLoad drawing bytes f.block f.kind)) }
     ensures never { IfErr result (λ f. f.kind ≢ File Ended) }
     ensures programme { IfOk result (λ v. IsProgramme drawing v) }
     ensures read { IfErr result (λ f. is_load_read_failure f ≡ true → FailsLoading drawing

@@ -27,6 +27,18 @@ pub enum National {
     Spanish,
     /// The sub-set for Czech and Slovak.
     Czech,
+    /// The sub-set for Polish.
+    Polish,
+    /// The sub-set for Turkish.
+    Turkish,
+    /// The sub-set for Croatian, Slovenian and Serbian in Latin letters.
+    Croatian,
+    /// The sub-set for Romanian.
+    Romanian,
+    /// The sub-set for Estonian.
+    Estonian,
+    /// The sub-set for Lithuanian and Latvian.
+    Lithuanian,
 }
 
 /// The control bits C12 to C14 of a page header, which select the page's national option character
@@ -42,9 +54,8 @@ pub struct NationalBits {
 }
 
 impl National {
-    /// Parses the name of a national option in lower case: `english`, `german`, `swedish`,
-    /// `italian`, `french`, `spanish` or `czech`. Returns `None` for any other text.
-    #[tactic(auto, unfolding(crate::specs::SubSets::named_option, crate::specs::SubSets::sub_set))]
+    /// Parses the name of a national option, which is that of its variant in lower case, such as
+    /// `english`. Returns `None` for any other text.
     pub fn parse(text: &str) -> Option<National>
         ensures value { result ≡ named_option text.now }
         ensures words { (n : National) → (result ≡ Some n) ↔ (text.now ≡ (sub_set n).word) }

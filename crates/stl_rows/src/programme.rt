@@ -6,7 +6,7 @@ ghost use Rattle.std.specs.Prelude.{length};
 ghost use Rattle.std.specs.Prelude.{slice_get, slice_index_or};
 ghost use Rattle.stl_file.specs.Subtitle.{SubtitleValue};
 ghost use Rattle.stl_rows.specs.DuePage.{due, LawOfBlankPages, LawOfDuePages, LawOfDueSubtitles};
-ghost use Rattle.stl_rows.specs.DuePage.{LawOfLastRow};
+ghost use Rattle.stl_rows.specs.DuePage.{LawOfRow24};
 ghost use Rattle.stl_rows.specs.DuePage.{LawOfEdges, ReportsLastEdge, ReportsNextEdge};
 ghost use Rattle.stl_rows.specs.DuePage.{tci_of_subtitle_ending_at};
 ghost use Rattle.stl_rows.specs.Judged.{is_undecided_from, is_undecided_in};
@@ -410,8 +410,8 @@ pub fn law_of_edges()
 
 /// Row 24 of each expected page is blank.
 #[tactic(auto, using(crate::proofs::LastRowLemmas::due_row_24_is_blank))]
-pub fn law_of_last_row()
-    ensures { LawOfLastRow }
+pub fn law_of_row_24()
+    ensures { LawOfRow24 }
 {}
 
 /// Each expected page is a valid page: 24 rows of 40 codes below 128.

@@ -1,7 +1,9 @@
 //! The table of the national options, one row each.
 //!
 //! The code table of level 1 (EN 300 706) has 13 places for a national option. The table has the
-//! sub-sets of the default region, 0000, one for each value of C12 to C14; 1 1 1 is reserved.
+//! sub-sets of the default region, 0000, one for each value of C12 to C14 but 1 1 1, which is
+//! reserved there, and the Latin sub-sets of other regions. A header does not name the region: C12
+//! to C14 choose a sub-set within the region to which a receiver is set.
 
 use crate::national::{National, NationalBits};
 
@@ -37,7 +39,7 @@ pub(crate) struct SubSet {
 /// Both 24 and A4 are read as the dollar sign, since editions of the code table differ and files in
 /// use have both. In a sub-set without a dollar sign, neither byte is accepted.
 #[rattlefmt::skip]
-pub(crate) const SUB_SETS: [SubSet; 7] = [
+pub(crate) const SUB_SETS: [SubSet; 13] = [
     SubSet {
         national: National::English,
         word: "english",
@@ -169,6 +171,126 @@ pub(crate) const SUB_SETS: [SubSet; 7] = [
             NationalCharacter { cell: 0x7C, mark: Some(0xCF), byte: 0x65 }, // ě
             NationalCharacter { cell: 0x7D, mark: Some(0xC2), byte: 0x75 }, // ú
             NationalCharacter { cell: 0x7E, mark: Some(0xCF), byte: 0x73 }, // š
+        ],
+    },
+    SubSet {
+        national: National::Polish,
+        word: "polish",
+        bits: NationalBits { c12: false, c13: false, c14: false },
+        characters: &[
+            NationalCharacter { cell: 0x23, mark: None, byte: 0x23 },       // #
+            NationalCharacter { cell: 0x24, mark: Some(0xC2), byte: 0x6E }, // ń
+            NationalCharacter { cell: 0x40, mark: Some(0xCE), byte: 0x61 }, // ą
+            NationalCharacter { cell: 0x5B, mark: Some(0xC7), byte: 0x5A }, // Ż
+            NationalCharacter { cell: 0x5C, mark: Some(0xC2), byte: 0x53 }, // Ś
+            NationalCharacter { cell: 0x5D, mark: None, byte: 0xE8 },       // Ł
+            NationalCharacter { cell: 0x5E, mark: Some(0xC2), byte: 0x63 }, // ć
+            NationalCharacter { cell: 0x5F, mark: Some(0xC2), byte: 0x6F }, // ó
+            NationalCharacter { cell: 0x60, mark: Some(0xCE), byte: 0x65 }, // ę
+            NationalCharacter { cell: 0x7B, mark: Some(0xC7), byte: 0x7A }, // ż
+            NationalCharacter { cell: 0x7C, mark: Some(0xC2), byte: 0x73 }, // ś
+            NationalCharacter { cell: 0x7D, mark: None, byte: 0xF8 },       // ł
+            NationalCharacter { cell: 0x7E, mark: Some(0xC2), byte: 0x7A }, // ź
+        ],
+    },
+    SubSet {
+        national: National::Turkish,
+        word: "turkish",
+        bits: NationalBits { c12: true, c13: true, c14: false },
+        characters: &[
+            NationalCharacter { cell: 0x24, mark: Some(0xC6), byte: 0x67 }, // ğ
+            NationalCharacter { cell: 0x40, mark: Some(0xC7), byte: 0x49 }, // İ
+            NationalCharacter { cell: 0x5B, mark: Some(0xCB), byte: 0x53 }, // Ş
+            NationalCharacter { cell: 0x5C, mark: Some(0xC8), byte: 0x4F }, // Ö
+            NationalCharacter { cell: 0x5D, mark: Some(0xCB), byte: 0x43 }, // Ç
+            NationalCharacter { cell: 0x5E, mark: Some(0xC8), byte: 0x55 }, // Ü
+            NationalCharacter { cell: 0x5F, mark: Some(0xC6), byte: 0x47 }, // Ğ
+            NationalCharacter { cell: 0x60, mark: None, byte: 0xF5 },       // ı
+            NationalCharacter { cell: 0x7B, mark: Some(0xCB), byte: 0x73 }, // ş
+            NationalCharacter { cell: 0x7C, mark: Some(0xC8), byte: 0x6F }, // ö
+            NationalCharacter { cell: 0x7D, mark: Some(0xCB), byte: 0x63 }, // ç
+            NationalCharacter { cell: 0x7E, mark: Some(0xC8), byte: 0x75 }, // ü
+        ],
+    },
+    SubSet {
+        national: National::Croatian,
+        word: "croatian",
+        bits: NationalBits { c12: true, c13: false, c14: true },
+        characters: &[
+            NationalCharacter { cell: 0x23, mark: None, byte: 0x23 },       // #
+            NationalCharacter { cell: 0x24, mark: Some(0xC8), byte: 0x45 }, // Ë
+            NationalCharacter { cell: 0x40, mark: Some(0xCF), byte: 0x43 }, // Č
+            NationalCharacter { cell: 0x5B, mark: Some(0xC2), byte: 0x43 }, // Ć
+            NationalCharacter { cell: 0x5C, mark: Some(0xCF), byte: 0x5A }, // Ž
+            NationalCharacter { cell: 0x5D, mark: None, byte: 0xE2 },       // Đ
+            NationalCharacter { cell: 0x5E, mark: Some(0xCF), byte: 0x53 }, // Š
+            NationalCharacter { cell: 0x5F, mark: Some(0xC8), byte: 0x65 }, // ë
+            NationalCharacter { cell: 0x60, mark: Some(0xCF), byte: 0x63 }, // č
+            NationalCharacter { cell: 0x7B, mark: Some(0xC2), byte: 0x63 }, // ć
+            NationalCharacter { cell: 0x7C, mark: Some(0xCF), byte: 0x7A }, // ž
+            NationalCharacter { cell: 0x7D, mark: None, byte: 0xF2 },       // đ
+            NationalCharacter { cell: 0x7E, mark: Some(0xCF), byte: 0x73 }, // š
+        ],
+    },
+    SubSet {
+        national: National::Romanian,
+        word: "romanian",
+        bits: NationalBits { c12: true, c13: true, c14: true },
+        characters: &[
+            NationalCharacter { cell: 0x23, mark: None, byte: 0x23 },       // #
+            NationalCharacter { cell: 0x24, mark: None, byte: 0xA8 },       // ¤
+            NationalCharacter { cell: 0x40, mark: Some(0xCB), byte: 0x54 }, // Ţ
+            NationalCharacter { cell: 0x5B, mark: Some(0xC3), byte: 0x41 }, // Â
+            NationalCharacter { cell: 0x5C, mark: Some(0xCB), byte: 0x53 }, // Ş
+            NationalCharacter { cell: 0x5D, mark: Some(0xC6), byte: 0x41 }, // Ă
+            NationalCharacter { cell: 0x5E, mark: Some(0xC3), byte: 0x49 }, // Î
+            NationalCharacter { cell: 0x5F, mark: None, byte: 0xF5 },       // ı
+            NationalCharacter { cell: 0x60, mark: Some(0xCB), byte: 0x74 }, // ţ
+            NationalCharacter { cell: 0x7B, mark: Some(0xC3), byte: 0x61 }, // â
+            NationalCharacter { cell: 0x7C, mark: Some(0xCB), byte: 0x73 }, // ş
+            NationalCharacter { cell: 0x7D, mark: Some(0xC6), byte: 0x61 }, // ă
+            NationalCharacter { cell: 0x7E, mark: Some(0xC3), byte: 0x69 }, // î
+        ],
+    },
+    SubSet {
+        national: National::Estonian,
+        word: "estonian",
+        bits: NationalBits { c12: false, c13: true, c14: false },
+        characters: &[
+            NationalCharacter { cell: 0x23, mark: None, byte: 0x23 },       // #
+            NationalCharacter { cell: 0x24, mark: Some(0xC4), byte: 0x6F }, // õ
+            NationalCharacter { cell: 0x40, mark: Some(0xCF), byte: 0x53 }, // Š
+            NationalCharacter { cell: 0x5B, mark: Some(0xC8), byte: 0x41 }, // Ä
+            NationalCharacter { cell: 0x5C, mark: Some(0xC8), byte: 0x4F }, // Ö
+            NationalCharacter { cell: 0x5D, mark: Some(0xCF), byte: 0x5A }, // Ž
+            NationalCharacter { cell: 0x5E, mark: Some(0xC8), byte: 0x55 }, // Ü
+            NationalCharacter { cell: 0x5F, mark: Some(0xC4), byte: 0x4F }, // Õ
+            NationalCharacter { cell: 0x60, mark: Some(0xCF), byte: 0x73 }, // š
+            NationalCharacter { cell: 0x7B, mark: Some(0xC8), byte: 0x61 }, // ä
+            NationalCharacter { cell: 0x7C, mark: Some(0xC8), byte: 0x6F }, // ö
+            NationalCharacter { cell: 0x7D, mark: Some(0xCF), byte: 0x7A }, // ž
+            NationalCharacter { cell: 0x7E, mark: Some(0xC8), byte: 0x75 }, // ü
+        ],
+    },
+    SubSet {
+        national: National::Lithuanian,
+        word: "lithuanian",
+        bits: NationalBits { c12: false, c13: true, c14: true },
+        characters: &[
+            NationalCharacter { cell: 0x23, mark: None, byte: 0x23 },       // #
+            NationalCharacter { cell: 0x24, mark: None, byte: 0x24 },       // $
+            NationalCharacter { cell: 0x24, mark: None, byte: 0xA4 },       // $
+            NationalCharacter { cell: 0x40, mark: Some(0xCF), byte: 0x53 }, // Š
+            NationalCharacter { cell: 0x5B, mark: Some(0xC7), byte: 0x65 }, // ė
+            NationalCharacter { cell: 0x5C, mark: Some(0xCE), byte: 0x65 }, // ę
+            NationalCharacter { cell: 0x5D, mark: Some(0xCF), byte: 0x5A }, // Ž
+            NationalCharacter { cell: 0x5E, mark: Some(0xCF), byte: 0x63 }, // č
+            NationalCharacter { cell: 0x5F, mark: Some(0xC5), byte: 0x75 }, // ū
+            NationalCharacter { cell: 0x60, mark: Some(0xCF), byte: 0x73 }, // š
+            NationalCharacter { cell: 0x7B, mark: Some(0xCE), byte: 0x61 }, // ą
+            NationalCharacter { cell: 0x7C, mark: Some(0xCE), byte: 0x75 }, // ų
+            NationalCharacter { cell: 0x7D, mark: Some(0xCF), byte: 0x7A }, // ž
+            NationalCharacter { cell: 0x7E, mark: Some(0xCE), byte: 0x69 }, // į
         ],
     },
 ];

@@ -7,7 +7,7 @@
 ghost use Rattle.std.specs.Prelude.{◌≡◌, ◌<◌, ◌≤◌, length, IsOk, MatchOption, Err, None, false};
 ghost use Rattle.stl_rows.specs.DrawnPage.{drawn};
 ghost use Rattle.stl_rows.specs.LineByLine.{empty_line, next_empty_line, shape_fault_kinds};
-ghost use Rattle.stl_rows.specs.LineByLine.{reported};
+ghost use Rattle.stl_rows.specs.LineByLine.{first_fault_of_codes};
 ghost use Rattle.stl_rows.specs.LineByLine.{first_fault_up_to_line, with_cell};
 ghost use Rattle.stl_rows.specs.TextCode.{first_of, text_codes};
 
@@ -116,7 +116,8 @@ impl OpenLine {
 fn fault_of_text(national: National, vp: u8, text: &[u8]) -> Option<RowFault>
     requires last { vp ≤ 23 }
     requires at_most_1008 { length text.now ≤ 1008 }
-    ensures { result ≡ reported None (empty_line 0 vp false) (text_codes national 0 text.now) }
+    ensures { result
+        ≡ first_fault_of_codes None (empty_line 0 vp false) (text_codes national 0 text.now) }
 {
     let mut fault = None;
     let mut line = OpenLine::first(vp);

@@ -220,16 +220,16 @@ pub answers_end :
     → LawOfLoading
     → ReportsBoth drawing options stl pes first Untouched old new given
     → new.failed ≡ false
-    → old.refused ≡ 0
+    → old.fault_count ≡ 0
     → PrintsOrFails (sink new.contents new.count end end_count)
-    (last_listing new.first new.refused given) status
+    (last_listing new.first new.fault_count given) status
     → AnswersCheckAll drawing options stl pes first Untouched
     (sink old.contents old.count end end_count) status
 unfolding counted
 answers_end
     drawing options stl pes first Untouched old new given end end_count status loading t holds none
     last =
-    let refused : new.refused ≡ min (fault_count_of_events t.events) max_fault_count =
+    let refused : new.fault_count ≡ min (fault_count_of_events t.events) max_fault_count =
     t.prints.counts_faults holds ∙ ap
     (λ n. min (n + fault_count_of_events t.events) max_fault_count) none
     ∙ (let none_before : 0 + fault_count_of_events t.events ≡ fault_count_of_events t.events = omega

@@ -6,20 +6,20 @@ use Rattle.std.proofs.lemmas.Bool.{true≢false}
 use Rattle.std.specs.Io.KnownBytes.{Appends}
 use Rattle.sub_io.specs.Device.{CountRisesIf, failed}
 use Rattle.sub_io.specs.Reading.{IfKnown}
-use Rattle.ttx_pes.specs.Reader.{FailsAtPacket}
+use Rattle.ttx_pes.specs.Reader.{FailsAfterValidPackets}
 use Rattle.stl_file.specs.declared.fault.StlFault.TheVariants as stl
 use Rattle.stl_rows.specs.declared.fault.LoadFault.{LoadFault}
 use Rattle.stl_rows.specs.declared.fault.LoadFaultKind.{LoadFaultKind}
 use Rattle.stl_rows.specs.declared.fault.LoadFaultKind.TheVariants as load
 use Rattle.stl_rows.specs.declared.layout.Drawing.{Drawing}
-use Rattle.stl_rows.specs.Loading.{FailsLoading, LawOfLoading, ReportsFault, loaded_programme}
+use Rattle.stl_rows.specs.Loading.{FailsLoading, LawOfLoading, IsErrorOfLoad, loaded_programme}
 use Rattle.stl_rows.specs.Programme.{ProgrammeValue}
 use Rattle.sub_plan.specs.Options.{OptionsValue}
 use Rattle.sub_check.specs.CheckedFiles.{AreChecked, IsCheckedBy}
 use Rattle.sub_check.specs.CheckedFiles.{ReportsSubtitles}
 use Rattle.ttx_pes.specs.declared.fault.PesFault.TheVariants as pes_fault
 use Rattle.sub_answer.proofs.FailedReadLemmas.{no_packets_have_no_events}
-use Rattle.sub_rules.specs.Fault.{is_failure, is_failure_kind, is_pes_read}
+use Rattle.sub_rules.specs.Fault.{is_failure, is_failure_kind, is_pes_read_failure}
 use Rattle.sub_rules.specs.Fault.{is_subtitle_fault}
 use Rattle.sub_checker.specs.declared.accepted.Accepted.{Accepted}
 use Rattle.sub_rules.specs.declared.fault.CheckFault.{CheckFault}
@@ -60,7 +60,7 @@ failure-of_programme :
     (drawing : Drawing) (file : List ℕ) (programme : ProgrammeValue) (block : ℕ)
     (kind : LoadFaultKind)
     → loaded_programme drawing file ≡ Ok programme
-    → ReportsFault drawing file block kind
+    → IsErrorOfLoad drawing file block kind
     → is_failure_kind kind ≡ true
 failure-of_programme drawing file programme block (load.File stl.Read) is reported = refl
 failure-of_programme drawing file programme block load.Memory is reported = refl
@@ -71,7 +71,7 @@ looked-at :
     → loaded_programme drawing file ≡ Ok programme
     → ReportsSubtitles drawing file (Err f)
     → is_failure f ≡ false
-    → (is_subtitle_fault f ≡ false) × (is_pes_read f ≡ false)
+    → (is_subtitle_fault f ≡ false) × (is_pes_read_failure f ≡ false)
 looked-at drawing file programme f is reported runs = grind (arith, nat_tests, failure-of_programme)
 
 done-exactly :
@@ -108,7 +108,7 @@ pub answer_of_check_files :
     → PrintsOrFails out (verdict number answer) status
     → (failed is_subtitle_fault answer ≡ false → StartsAt first pes number)
     → ReportsSources (FailsLoading drawing stl.known stl.left)
-    (λ index. FailsAtPacket index pes.known pes.left)
+    (λ index. FailsAfterValidPackets index pes.known pes.left)
     Untouched (failed is_subtitle_fault answer) stl pes answer
     → IfKnown stl.known (λ file. AreChecked drawing options file pes.known answer)
     → AnswersCheck drawing options stl pes first Untouched out status

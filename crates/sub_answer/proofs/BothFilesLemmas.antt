@@ -17,7 +17,8 @@ use Rattle.stl_rows.specs.declared.fault.LoadFaultKind.{LoadFaultKind}
 use Rattle.stl_rows.specs.declared.fault.LoadFaultKind.TheVariants as load
 use Rattle.stl_rows.specs.declared.layout.Drawing.{Drawing}
 use Rattle.sub_plan.specs.Options.{OptionsValue}
-use Rattle.sub_rules.specs.Fault.{is_failure, is_failure_kind, is_pes_read, is_stl_read}
+use Rattle.sub_rules.specs.Fault.{is_failure, is_failure_kind, is_pes_read_failure}
+use Rattle.sub_rules.specs.Fault.{is_stl_read_failure}
 use Rattle.sub_rules.specs.Fault.{is_subtitle_fault}
 use Rattle.sub_rules.specs.declared.fault.CheckFault.{CheckFault}
 use Rattle.sub_rules.specs.declared.fault.CheckFault.TheVariants as fault
@@ -49,10 +50,10 @@ pub reported-runs : (b : Bool) → status_of (kind_of_failure b) ≢ Fault → b
 reported-runs true other = absurd (other refl)
 reported-runs false other = refl
 
-pub stl-fails : (f : CheckFault) → is_stl_read f ≡ true → is_failure f ≡ true
+pub stl-fails : (f : CheckFault) → is_stl_read_failure f ≡ true → is_failure f ≡ true
 stl-fails f is = grind (arith, nat_tests)
 
-pub pes-fails : (f : CheckFault) → is_pes_read f ≡ true → is_failure f ≡ true
+pub pes-fails : (f : CheckFault) → is_pes_read_failure f ≡ true → is_failure f ≡ true
 pes-fails f is = grind (arith, nat_tests)
 
 memory-kind : (kind : LoadFaultKind)
@@ -65,8 +66,8 @@ memory-kind kind fails read = cc
 
 memory-fault : {Counts : Type 0} (answer : Result Counts CheckFault)
     → failed is_failure answer ≡ true
-    → failed is_stl_read answer ≡ false
-    → failed is_pes_read answer ≡ false
+    → failed is_stl_read_failure answer ≡ false
+    → failed is_pes_read_failure answer ≡ false
     → (block : ℕ) × (answer ≡ Err (fault.Subtitles (load_fault block load.Memory)))
 memory-fault (Ok a) fails read fine = absurd (true≢false (sym fails))
 memory-fault (Err (fault.Subtitles f)) fails read fine =
@@ -84,7 +85,7 @@ pub record AcceptsExactly
       (programme : ProgrammeValue)
       → loaded_programme drawing file ≡ Ok programme
       → failed is_subtitle_fault answer ≡ false
-      → failed is_pes_read answer ≡ false
+      → failed is_pes_read_failure answer ≡ false
       → IsOk answer ↔ Means
   pub described_files_load : Means → (programme : ProgrammeValue) × (loaded_programme drawing file ≡
       Ok programme)
@@ -164,9 +165,11 @@ status-reported drawing options stl pes out listing status answer PrintsMemory p
           let whole = printed-whole out listing status printed out_same in
           let expected =
           memory-fault answer (fails (sym whole.1 ∙ is))
-          (unchanged_count_means_success (failed is_stl_read answer) _ _ sources.stl_failure_count
+          (unchanged_count_means_success (failed is_stl_read_failure answer) _ _
+          sources.stl_failure_count
           stl_same)
-          (unchanged_count_means_success (failed is_pes_read answer) _ _ sources.pes_failure_count
+          (unchanged_count_means_success (failed is_pes_read_failure answer) _ _
+          sources.pes_failure_count
           pes_same) in
           memory expected.0 expected.1 whole.0;
     }

@@ -62,7 +62,7 @@ module _ {D : Type 0} (IsReported : D → LoadFault → D → Type 0) (value : D
     → PrintsEvent (value s) (subtitle_event x) (value t))
     (drawing : Drawing) (options : OptionsValue) (stl pes : SourceCall) (first : FirstNumber)
     (Untouched : Type 0) (old new : D)
-    (goes : (value old).failed ≡ false) (few : (value old).refused ≤ max_fault_count)
+    (goes : (value old).failed ≡ false) (few : (value old).fault_count ≤ max_fault_count)
     (untouched : Untouched) (pes_failure_count : CountRisesIf pes.old_count false pes.new_count)
   where
     abbrev printed : (items : List LoadFault) → Reports IsReported old new items

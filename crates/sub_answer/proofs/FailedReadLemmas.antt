@@ -14,7 +14,7 @@ use Rattle.stl_rows.specs.declared.layout.Drawing.{Drawing}
 use Rattle.sub_plan.specs.Options.{OptionsValue}
 use Rattle.sub_check.specs.CheckedFiles.{ReportsEvents}
 use Rattle.sub_check.specs.CheckedFiles.{first_judged_events, events_of_first_pes_packets}
-use Rattle.sub_rules.specs.Fault.{is_pes_read}
+use Rattle.sub_rules.specs.Fault.{is_pes_read_failure}
 use Rattle.sub_rules.specs.PesPacketEvents.{announced_events, events_of_pes_packets, steps_of_each}
 use Rattle.sub_rules.specs.Trusted.{events_reported_after}
 use Rattle.sub_checker.specs.declared.accepted.Accepted.{Accepted}
@@ -60,7 +60,7 @@ failed_result_is_error Q is_one (Err e) holds is = holds
 
 accepted_means_no_failure : (answer : Result (Option Accepted) CheckFault) (old new : ℕ)
     → IsOk answer
-    → CountRisesIf old (failed is_pes_read answer) new
+    → CountRisesIf old (failed is_pes_read_failure answer) new
     → old < new
     → ⊥
 accepted_means_no_failure (Ok a) old new ok same risen = omega (arith, same, risen)
@@ -81,7 +81,7 @@ failed_printer_stops_reading reported failing risen =
 pub failure_line_is_last : {K : Type 0} (contents : K → Option (List ℕ)) (buffered : K → ℕ)
     (IsPush : K → List ℕ → Option ℕ → K → Type 0) (before new end : K) (number : ℕ)
     (answer : Result (Option Accepted) CheckFault)
-    → failed is_pes_read answer ≡ true
+    → failed is_pes_read_failure answer ≡ true
     → buffered before ≡ 0
     → IfErr answer (λ f.
     PutsLine contents IsPush before (text_of_fault_line (counted_from number (check_line f))) new)

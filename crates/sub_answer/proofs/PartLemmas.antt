@@ -4,7 +4,7 @@ use Rattle.std.proofs.Common.{◌≡◌, ◌∙◌, ap, arith, ℕ, List, Option
 use Rattle.std.specs.Prelude.{◌⊎◌, option_map}
 use Rattle.mpeg_ts.specs.CarriedPackets.{carried_bytes}
 use Rattle.mpeg_ts.specs.PacketSize.{bytes_of}
-use Rattle.ttx_pes.specs.PesPacketRange.{PesPacketRangeValue, first_index, in_range}
+use Rattle.ttx_pes.specs.PesPacketRange.{PesPacketRangeValue, first_index, range_bytes}
 use Rattle.sub_request.specs.declared.pes_selection.TransportStream.{TransportStream}
 use Rattle.sub_request.specs.declared.request.Request.{Request}
 use Rattle.sub_answer.specs.Answering.{InputCall, pes_packets_call, reads_pes_packets, entire_call}
@@ -74,7 +74,7 @@ module _ {P : Type 0} (given following : P → Option (List ℕ)) (count : P →
 
   pub selected_pes_packets_are_range : (part : InputCall) (r : PesPacketRangeValue)
       → input ≡ part
-      → part.call.known ≡ option_map (in_range r) (given before)
+      → part.call.known ≡ option_map (range_bytes r) (given before)
       → part.number.known ≡ option_map (first_index r) (given before)
       → part.call.old_count ≡ count before
       → part.call.new_count ≡ count after

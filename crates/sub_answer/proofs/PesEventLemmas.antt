@@ -21,7 +21,7 @@ use Rattle.sub_check.specs.CheckedFiles.{all_events_of, first_judged_events, fir
 use Rattle.sub_check.specs.CheckedFiles.{frames_read}
 use Rattle.sub_checker.specs.ReadCounts.{AreCountsOfFrames}
 use Rattle.sub_rules.specs.Events.{latest_frame}
-use Rattle.sub_rules.specs.Fault.{is_pes_read}
+use Rattle.sub_rules.specs.Fault.{is_pes_read_failure}
 use Rattle.sub_rules.specs.FrameRules.{frame_at, packets_before}
 use Rattle.sub_rules.specs.PacketRules.{header_count}
 use Rattle.sub_rules.specs.PesPackets.{FailsAtPesPacket, pes_packet_file_of}
@@ -88,7 +88,7 @@ every_length_has_counts page frames (suc n) is =
 -- If the source of the PES file failed, the fault names the PES packet at which it failed. This is
 -- a separate lemma because the tactic `cc` is slow when more facts are known.
 failed_read_has_number : (f : CheckFault)
-    → is_pes_read f ≡ true
+    → is_pes_read_failure f ≡ true
     → (n : ℕ) × (f ≡ fault.Pes n pes_fault.Read)
 failed_read_has_number (fault.Pes n pes_fault.Read) is = (n, refl)
 failed_read_has_number f is = cc
@@ -130,7 +130,7 @@ module _ {D : Type 0} (IsReported : D → Event → D → Type 0) (value : D →
     (one : (s t : D) (x : Event) → IsReported s x t → PrintsEvent (value s) x (value t))
     (judged : JudgedValue) (options : OptionsValue) (pes : SourceCall) (first : FirstNumber)
     (old new : D)
-    (goes : (value old).failed ≡ false) (few : (value old).refused ≤ max_fault_count)
+    (goes : (value old).failed ≡ false) (few : (value old).fault_count ≤ max_fault_count)
     (starts : StartsAt first pes (value old).first) where
   put : (items : List Event) → Reports IsReported old new items
       → PrintsEvents (value old) items (value new)
@@ -140,11 +140,11 @@ module _ {D : Type 0} (IsReported : D → Event → D → Type 0) (value : D →
       reported)
 
   failed_pes_read_is_reported : (f : CheckFault)
-      → is_pes_read f ≡ true
+      → is_pes_read_failure f ≡ true
       → (value new).failed ≡ false
       → ReportsSome IsReported old new
       → IfKnown pes.known (λ bytes. ReportsEvents judged options bytes IsReported old new (Err f))
-      → CountRisesIf pes.old_count (is_pes_read f) pes.new_count
+      → CountRisesIf pes.old_count (is_pes_read_failure f) pes.new_count
       → ((index : ℕ)
       → (let r : Result (Option Accepted) CheckFault = Err f in r)
       ≡ Err (fault.Pes index pes_fault.Read)
@@ -182,7 +182,8 @@ module _ {D : Type 0} (IsReported : D → Event → D → Type 0) (value : D →
             starts = starts;
             prints = put events.0 events.1;
             count =
-                subst (λ (g : CheckFault). CountRisesIf pes.old_count (is_pes_read g) pes.new_count)
+                subst (λ (g : CheckFault). CountRisesIf pes.old_count (is_pes_read_failure g)
+                pes.new_count)
                 same
                 count;
             read = λ m e.
@@ -290,8 +291,8 @@ module _ {D : Type 0} (IsReported : D → Event → D → Type 0) (value : D →
       bytes (first_answer (all_events_of programme options bytes) a))))
       → IfOk r (λ counts. stopped ≡ is_none counts)
       → IfErr r (λ f. stopped ≡ false)
-      → IfErr r (λ f. is_pes_read f ≡ true)
-      → CountRisesIf pes.old_count (failed is_pes_read r) pes.new_count
+      → IfErr r (λ f. is_pes_read_failure f ≡ true)
+      → CountRisesIf pes.old_count (failed is_pes_read_failure r) pes.new_count
       → ((index : ℕ)
       → r ≡ Err (fault.Pes index pes_fault.Read)
       → FailsAtPesPacket index pes.known pes.left)

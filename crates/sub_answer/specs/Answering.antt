@@ -3,7 +3,7 @@ use Rattle.std.specs.Prelude.{◌≡◌, ◌≢◌, ◌+◌, ◌<◌, ⊤, ℕ, 
 use Rattle.std.specs.Prelude.{List, Option, Some, Result, Ok, Err, codes, if◌then◌else◌}
 use Rattle.sub_io.specs.Device.{failed}
 use Rattle.sub_io.specs.Reading.{IfKnown}
-use Rattle.ttx_pes.specs.Reader.{FailsAtPacket}
+use Rattle.ttx_pes.specs.Reader.{FailsAfterValidPackets}
 use Rattle.stl_rows.specs.Loading.{FailsLoading}
 use Rattle.stl_rows.specs.declared.layout.Drawing.{Drawing}
 use Rattle.stl_rows.specs.Layout.{default_layout, drawing_by, drawing_within}
@@ -87,7 +87,7 @@ pub record AnswersCheck
   -- earlier fault is reported.
   pub sources :
       ReportsSources (FailsLoading drawing stl.known stl.left)
-      (λ index. FailsAtPacket index pes.known pes.left)
+      (λ index. FailsAfterValidPackets index pes.known pes.left)
       Untouched (failed is_subtitle_fault answer) stl pes answer
   -- If the bytes of the files are known, they determine the answer. An accepted transmission is
   -- robust, even if rows are lost: every receiver shows the expected page within the repeat bound,

@@ -8,7 +8,7 @@ use Rattle.stl_rows.specs.declared.fault.LoadFault.{LoadFault}
 use Rattle.stl_rows.specs.declared.layout.Drawing.{Drawing}
 use Rattle.sub_plan.specs.Options.{OptionsValue}
 use Rattle.sub_check.specs.CheckedFiles.{IsAccepted, IsAcceptedBy}
-use Rattle.sub_rules.specs.Fault.{is_pes_read, is_stl_read}
+use Rattle.sub_rules.specs.Fault.{is_pes_read_failure, is_stl_read_failure}
 use Rattle.sub_rules.specs.declared.fault.CheckFault.{CheckFault}
 use Rattle.sub_rules.specs.declared.fault.CheckFault.TheVariants.{Pes, Subtitles}
 use Rattle.sub_listing.specs.DeviceCall.{SinkCall, SourceCall}
@@ -22,8 +22,10 @@ pub record ReportsSources
     (concerns_subtitle_file : Bool) (stl pes : SourceCall) (answer : Result Counts CheckFault)
     : Type 0 where
   -- A source failed exactly if the answer reports it.
-  pub stl_failure_count : CountRisesIf stl.old_count (failed is_stl_read answer) stl.new_count
-  pub pes_failure_count : CountRisesIf pes.old_count (failed is_pes_read answer) pes.new_count
+  pub stl_failure_count : CountRisesIf stl.old_count (failed is_stl_read_failure answer)
+      stl.new_count
+  pub pes_failure_count : CountRisesIf pes.old_count (failed is_pes_read_failure answer)
+      pes.new_count
   -- The answer names the block or PES packet at which a source failed.
   pub stl_failure_is_at_block :
       (f : LoadFault) → answer ≡ Err (Subtitles f) → is_load_read_failure f ≡ true → FailsAtBlock

@@ -3,7 +3,7 @@
 use Rattle.std.specs.Prelude.{◌≡◌, ℕ, List, Option, Some, None, option_map}
 use Rattle.mpeg_ts.specs.CarriedPackets.{carried_bytes}
 use Rattle.mpeg_ts.specs.PacketSize.{bytes_of}
-use Rattle.ttx_pes.specs.PesPacketRange.{PesPacketRangeValue, first_index, in_range}
+use Rattle.ttx_pes.specs.PesPacketRange.{PesPacketRangeValue, first_index, range_bytes}
 use Rattle.sub_request.specs.declared.pes_selection.TransportStream.{TransportStream}
 use Rattle.sub_request.specs.declared.request.Request.{Request}
 use Rattle.sub_request.specs.declared.request.Request.TheVariants as ask
@@ -33,7 +33,7 @@ carried_bytes_if_stream (Some s) reported = option_map
 -- The bytes of the PES packets in a range, or all bytes if no range is selected.
 abbrev pub bytes_in_range : Option PesPacketRangeValue → Option (List ℕ) → Option (List ℕ)
 bytes_in_range None reported = reported
-bytes_in_range (Some r) reported = option_map (in_range r) reported
+bytes_in_range (Some r) reported = option_map (range_bytes r) reported
 
 -- The number of the first selected PES packet in the file or the stream.
 abbrev pub first_number_in_range : Option PesPacketRangeValue → Option (List ℕ) → Option ℕ

@@ -6,7 +6,7 @@ use Rattle.std.specs.Prelude.{IsTrue}
 use Rattle.sub_io.specs.Device.{failed}
 use Rattle.stl_file.specs.Subtitle.{SubtitleValue}
 use Rattle.stl_rows.specs.EveryFault.{faults}
-use Rattle.stl_rows.specs.Loading.{LawOfLoading, ReportsFault, loaded_programme}
+use Rattle.stl_rows.specs.Loading.{LawOfLoading, IsErrorOfLoad, loaded_programme}
 use Rattle.stl_rows.specs.Loading.{programme_unless_faulty}
 use Rattle.stl_rows.specs.Programme.{ProgrammeValue}
 use Rattle.stl_rows.specs.declared.fault.LoadFault.{LoadFault}
@@ -14,7 +14,8 @@ use Rattle.stl_rows.specs.declared.fault.LoadFaultKind.{LoadFaultKind}
 use Rattle.stl_rows.specs.declared.layout.Drawing.{Drawing}
 use Rattle.sub_plan.specs.FrameTime.{clock_of}
 use Rattle.sub_plan.specs.Options.{OptionsValue}
-use Rattle.sub_rules.specs.Fault.{is_failure, is_failure_kind, is_pes_read, is_subtitle_fault}
+use Rattle.sub_rules.specs.Fault.{is_failure, is_failure_kind, is_pes_read_failure}
+use Rattle.sub_rules.specs.Fault.{is_subtitle_fault}
 use Rattle.sub_rules.specs.Good.{Good}
 use Rattle.sub_rules.specs.PesFrames.{Carries, CarriesOnClock}
 use Rattle.sub_rules.specs.Repeats.{GoodWithRepeats}
@@ -38,7 +39,7 @@ answer_after_loading :
     (answer : Result Accepted CheckFault)
     → failed is_subtitle_fault answer ≡ false
     → failed is_failure answer ≡ false
-    → failed is_pes_read answer ≡ false
+    → failed is_pes_read_failure answer ≡ false
 answer_after_loading answer looked fine = grind (arith, nat_tests)
 
 no_fault_keeps_programme : (faults : List LoadFault) (p q : ProgrammeValue) →
@@ -204,14 +205,14 @@ module _ (drawing : Drawing) (options : OptionsValue) (stl pes : List ℕ)
 own_fault :
     (drawing : Drawing) (stl : List ℕ) (programme : ProgrammeValue) (block : ℕ)
     (kind : LoadFaultKind)
-    → ReportsFault drawing stl block kind
+    → IsErrorOfLoad drawing stl block kind
     → is_failure_kind kind ≡ false
     → loaded_programme drawing stl ≡ Ok programme
     → ⊥
 own_fault drawing stl programme block kind reported fine is = grind (arith, nat_tests)
 
 module _ (drawing : Drawing) (options : OptionsValue) (stl pes : List ℕ) (f : LoadFault)
-    (loading : LawOfLoading) (reported : ReportsFault drawing stl f.block f.kind) where
+    (loading : LawOfLoading) (reported : IsErrorOfLoad drawing stl f.block f.kind) where
   pub faulty_subtitles_are_refused : AreAccepted drawing options stl pes (Err (fault.Subtitles f))
   faulty_subtitles_are_refused = record {
     accepted = λ fine. (

@@ -9,7 +9,7 @@ use Rattle.stl_rows.specs.Programme.{IsProgramme, ProgrammeValue}
 use Rattle.sub_plan.specs.FrameTime.{clock_of}
 use Rattle.sub_plan.specs.Options.{OptionsValue, IsOptions}
 use Rattle.sub_rules.specs.Events.{first_reported_fault}
-use Rattle.sub_rules.specs.Fault.{is_pes_read}
+use Rattle.sub_rules.specs.Fault.{is_pes_read_failure}
 use Rattle.sub_rules.specs.FrameRules.{criteria_of, criteria_of_judged}
 use Rattle.sub_rules.specs.PesPackets.{pes_packet_file_of}
 use Rattle.sub_rules.specs.declared.event.Event.{Event}
@@ -39,7 +39,7 @@ module _ (programme : ProgrammeValue) (options : OptionsValue) (fine : IsOptions
     (p : IsProgramme programme.drawing programme.records) (bytes : List ℕ) where
   pub answered :
       (result : Result Accepted CheckFault)
-      → (failed is_pes_read result ≡ false → Decides programme options bytes result)
+      → (failed is_pes_read_failure result ≡ false → Decides programme options bytes result)
       → ReadsUntilAnswer programme options bytes result
       → IsAnswerForFirstFault programme options bytes result
   answered result decides so_far = record {

@@ -11,7 +11,7 @@ use Rattle.sub_io.specs.Reading.{IfKnown}
 use Rattle.stl_rows.specs.Programme.{IsProgramme, ProgrammeValue}
 use Rattle.ttx_pes.specs.PesGrammar.{IsValidPesPacket, IsPesValue, PesValue, canonical_packet}
 use Rattle.ttx_pes.specs.PesGrammar.{empty_value}
-use Rattle.ttx_pes.specs.Reader.{FailsAtPacket}
+use Rattle.ttx_pes.specs.Reader.{FailsAfterValidPackets}
 use Rattle.ttx_pes.proofs.PesGrammarLemmas.{canonical_packet_is_valid}
 use Rattle.sub_plan.specs.FrameTime.{clock_of}
 use Rattle.sub_plan.specs.Options.{OptionsValue, IsOptions}
@@ -28,7 +28,7 @@ use Rattle.sub_check.proofs.CompleteReadLemmas.{fault_free_prefix_sends_all}
 use Rattle.sub_check.proofs.CompleteReadLemmas.{fault_in_prefix_is_first}
 use Rattle.sub_check.proofs.RuleReportedLemmas.{first_reported_breaks_rule}
 use Rattle.sub_check.proofs.RuleReportedLemmas.{first_in_prefix_breaks_rule}
-use Rattle.sub_rules.specs.Fault.{is_pes_read}
+use Rattle.sub_rules.specs.Fault.{is_pes_read_failure}
 use Rattle.ttx_pes.specs.declared.fault.PesFault.TheVariants as Pes
 use Rattle.sub_rules.specs.declared.fault.CheckFault.TheVariants as fault
 use Rattle.sub_check.proofs.FirstAnswerLemmas.{IsAnswerForFirstFault, accepted_none, answered}
@@ -117,7 +117,7 @@ module _ (programme : ProgrammeValue) (options : OptionsValue) (bytes : List ℕ
         → empty ≡ None
         → is_some kept ≡ false
         → ReportsFirst programme options bytes empty kept (Err f)
-        → is_pes_read f ≡ true
+        → is_pes_read_failure f ≡ true
         → IsAnswerForFirstFault programme options bytes (Err f)
     failed_read_is_answer empty kept f e fault_free reported own =
         answered programme options fine p bytes (Err f)
@@ -143,7 +143,7 @@ pub failure_is_at_reported_packet : (programme : ProgrammeValue) (options : Opti
     → f ≡ fault.Pes pes Pes.Read
     → FailsWhileReadingOn (clock_of options) pes old new
     → IfKnown old (λ bytes. ReportsFirst programme options bytes empty kept (Err f))
-    → FailsAtPacket pes old new
+    → FailsAfterValidPackets pes old new
 failure_is_at_reported_packet programme options empty kept f pes None new e fault_free is at
     reported =
     let pes_packet = at.0 in

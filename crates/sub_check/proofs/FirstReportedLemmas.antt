@@ -25,7 +25,7 @@ use Rattle.sub_rules.specs.declared.event.Event.TheVariants.{Ended, SkippedUntil
 use Rattle.sub_rules.specs.declared.fault.CheckFault.{CheckFault}
 use Rattle.sub_rules.specs.declared.fault.CheckFault.TheVariants as fault
 use Rattle.sub_rules.proofs.JoinedLemmas.{joined_after-read}
-use Rattle.sub_laws.specs.UnexpectedContent.{IsDifferentEverywhere}
+use Rattle.sub_laws.specs.UnexpectedContent.{IsNotRightOnAir}
 use Rattle.sub_laws.proofs.ContentLemmas.{content_fault_differs_everywhere}
 use Rattle.sub_laws.proofs.EventLemmas.{HasFirstFault, all_faults_are_reported, is_plain}
 use Rattle.sub_laws.proofs.FirstContentLemmas.{first_content_fault_is_in_prefix}
@@ -142,14 +142,14 @@ module _ (programme : ProgrammeValue) (options : OptionsValue) (bytes : List ℕ
   pub first_reported_cell_differs : (frame row column : ℕ)
       → first_reported_fault (all_events_of programme options bytes)
       ≡ Some (fault.Content frame row column)
-      → IsDifferentEverywhere programme options (joined options.within file.frames) frame row column
+      → IsNotRightOnAir programme options (joined options.within file.frames) frame row column
   unfolding file_at
   first_reported_cell_differs frame row column e =
       let pes_packets = pes_packet_file_of (clock_of options) bytes in
       let frames = joined options.within file.frames in
       reported_cell_differs (criteria_of programme options pes_packets.unread) frames
       joined_frames_have_packets
-      (λ f row column. IsDifferentEverywhere programme options frames f row column)
+      (λ f row column. IsNotRightOnAir programme options frames f row column)
       (λ n f x read broken.
       content_fault_differs_everywhere programme options pes_packets.unread frames n f read x
       broken)

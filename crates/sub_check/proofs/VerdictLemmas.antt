@@ -18,7 +18,7 @@ use Rattle.sub_plan.specs.FrameTime.{clock_of}
 use Rattle.sub_plan.specs.Options.{OptionsValue, IsOptions}
 use Rattle.sub_plan.specs.Schedule.{plan}
 use Rattle.sub_rules.specs.Events.{first_reported_fault}
-use Rattle.sub_rules.specs.Fault.{is_pes_read}
+use Rattle.sub_rules.specs.Fault.{is_pes_read_failure}
 use Rattle.sub_rules.specs.FrameRules.{Criteria, criteria_of}
 use Rattle.sub_rules.specs.Good.{Good}
 use Rattle.sub_rules.specs.PesFrames.{Carries, CarriesOnClock, IsReadAs}
@@ -188,7 +188,7 @@ module _ (programme : ProgrammeValue) (options : OptionsValue) (is : IsOptions o
 
   accepted_is :
       (frames : Transmission) (result : Result Accepted CheckFault)
-      → (failed is_pes_read result ≡ false → Decides programme options bytes result)
+      → (failed is_pes_read_failure result ≡ false → Decides programme options bytes result)
       → CarriesOnClock (clock_of options) options.within bytes frames
       → IsOk result
       → GoodWithRepeats options.keeps programme frames options
@@ -218,7 +218,7 @@ module _ (programme : ProgrammeValue) (options : OptionsValue) (is : IsOptions o
 
   counts_from :
       (frames : Transmission) (result : Result Accepted CheckFault)
-      → (failed is_pes_read result ≡ false → Decides programme options bytes result)
+      → (failed is_pes_read_failure result ≡ false → Decides programme options bytes result)
       → CarriesOnClock (clock_of options) options.within bytes frames
       → IfOk result (HasCounts options.page frames)
   counts_from frames (Ok a) decides carries =
@@ -259,7 +259,7 @@ module _ (programme : ProgrammeValue) (options : OptionsValue) (is : IsOptions o
       all.2)
 
   module _ (result : Result Accepted CheckFault)
-      (decides : failed is_pes_read result ≡ false → Decides programme options bytes result)
+      (decides : failed is_pes_read_failure result ≡ false → Decides programme options bytes result)
       (so_far : ReadsUntilAnswer programme options bytes result) where
     answered_cell_was_reported : (frame row column : ℕ)
         → result ≡ Err (fault.Content frame row column)
@@ -269,7 +269,7 @@ module _ (programme : ProgrammeValue) (options : OptionsValue) (is : IsOptions o
         subst
         (λ r. IfErr r (λ f. first_reported_fault (all_events_of programme options bytes) ≡ Some f))
         e
-        (first_from result (decides (ap (failed is_pes_read) e)))
+        (first_from result (decides (ap (failed is_pes_read_failure) e)))
 
     pub answer_is_checked_within : IsCheckedBy programme options bytes result
     answer_is_checked_within = record {

@@ -9,7 +9,7 @@ use Rattle.stl_file.specs.File.{IsFileFor}
 use Rattle.stl_file.specs.Subtitle.{SubtitleValue}
 use Rattle.stl_rows.specs.DrawnPage.{drawn}
 use Rattle.stl_rows.specs.Judged.{JudgedValue}
-use Rattle.stl_rows.specs.Loading.{loaded_programme, ReportsFault}
+use Rattle.stl_rows.specs.Loading.{loaded_programme, IsErrorOfLoad}
 use Rattle.stl_rows.specs.Programme.{AreInOrder, ProgrammeValue}
 use Rattle.stl_rows.specs.declared.layout.Drawing.{Drawing}
 use Rattle.sub_plan.specs.FrameTime.{clock_of}
@@ -25,7 +25,7 @@ use Rattle.sub_rules.specs.declared.event.Event.{Event}
 use Rattle.sub_rules.specs.declared.event.Event.TheVariants.{Trusted}
 use Rattle.sub_trusted.specs.TrustedFrames.{MayStay, StaysAsReadFromFile, rising_frames_of}
 use Rattle.sub_trusted.specs.TrustedRepeats.{MayStayWithRepeats}
-use Rattle.sub_rules.specs.Fault.{is_failure, is_pes_read, is_subtitle_fault}
+use Rattle.sub_rules.specs.Fault.{is_failure, is_pes_read_failure, is_subtitle_fault}
 use Rattle.sub_rules.specs.Good.{Good}
 use Rattle.sub_rules.specs.Repeats.{GoodWithRepeats}
 use Rattle.sub_laws.specs.OnScreen.{Complete}
@@ -33,7 +33,7 @@ use Rattle.sub_laws.specs.Repeats.{HasPromisesWithRepeats}
 use Rattle.sub_rules.specs.PesFrames.{Carries, CarriesOnClock}
 use Rattle.sub_rules.specs.PesReading.{pes_file_of}
 use Rattle.sub_laws.specs.Stretch.{HasPromises}
-use Rattle.sub_laws.specs.UnexpectedContent.{IsDifferentEverywhere}
+use Rattle.sub_laws.specs.UnexpectedContent.{IsNotRightOnAir}
 use Rattle.sub_rules.specs.PesPacketEvents.{all_events_of_pes_packets, events_of_pes_packets}
 use Rattle.sub_rules.specs.PesPackets.{frames_of, joined, pes_packet_file_of}
 use Rattle.sub_rules.specs.WrongContent.{IsWrongEverywhere}
@@ -46,7 +46,7 @@ use Rattle.sub_rules.specs.declared.fault.CheckFault.TheVariants as fault
 
 -- If the result is a fault of the subtitle file, it is the fault that loading this file reports.
 abbrev pub ReportsSubtitles : Drawing → List ℕ → Result Accepted CheckFault → Type 0
-ReportsSubtitles drawing file (Err (fault.Subtitles f)) = ReportsFault drawing file f.block f.kind
+ReportsSubtitles drawing file (Err (fault.Subtitles f)) = IsErrorOfLoad drawing file f.block f.kind
 ReportsSubtitles drawing file _ = ⊤
 
 -- The counts of an accepted transmission: the number of frames from its first to its last frame,
@@ -177,7 +177,7 @@ pub record IsCheckedBy
   -- transmission of the programme that is good by the options.
   pub accepted :
       failed is_subtitle_fault answer ≡ false
-      → failed is_pes_read answer ≡ false
+      → failed is_pes_read_failure answer ≡ false
       → IsOk answer
       ↔ ((transmission : Transmission)
       × CarriesOnClock (clock_of options) options.within bytes transmission
@@ -198,7 +198,7 @@ pub record IsCheckedBy
   -- The returned fault is the first fault among all events.
   pub first :
       failed is_subtitle_fault answer ≡ false
-      → failed is_pes_read answer ≡ false
+      → failed is_pes_read_failure answer ≡ false
       → IfErr answer (λ f. first_reported_fault (all_events_of programme options bytes) ≡ Some f)
   -- A failure of the source is reported at the PES packet that could not be read; no event of the
   -- packets before it is a fault.
@@ -207,13 +207,14 @@ pub record IsCheckedBy
       → answer ≡ Err (fault.Pes pes Read)
       → (pes ≤ length (pes_packet_file_of (clock_of options) bytes).pes_packets)
       × (first_reported_fault (events_of_first_pes_packets programme options bytes pes) ≡ None)
-  -- If the fault is `Content`, receivers that start at the first packet and receive each bit
-  -- correctly show a wrong code in the cell that the fault names. If the page may still become
-  -- right later, that code was expected at none of the last `within` frames.
+  -- If the fault is `Content`, the cell that the fault names is wrong for receivers that start at
+  -- the first packet and receive each bit correctly. They show another code or, if repeats may keep
+  -- the page, the row of the cell was not sent again. If the page may still become right later, the
+  -- code that they show was expected at none of the last `within` frames.
   pub content :
       (frame row column : ℕ)
       → answer ≡ Err (fault.Content frame row column)
-      → IsDifferentEverywhere programme options
+      → IsNotRightOnAir programme options
       (joined options.within (pes_file_of (clock_of options) bytes).frames) frame row column
   -- The transmission that `schedule` makes for the programme and the same options is accepted,
   -- unless the maximum distance of PES packets is less than the maximum distance of repeats.
@@ -223,7 +224,7 @@ pub record IsCheckedBy
       → programme.records ≢ []
       → IfSome options.pace (λ frames. options.every ≤ frames)
       → failed is_subtitle_fault answer ≡ false
-      → failed is_pes_read answer ≡ false
+      → failed is_pes_read_failure answer ≡ false
       → IsOk answer
 
 -- The result with the default options (each header erases the page, and no delay is allowed), in
@@ -236,7 +237,7 @@ pub record IsChecked
   -- good transmission of the programme, with complete pages if the options require them.
   pub accepted :
       failed is_subtitle_fault answer ≡ false
-      → failed is_pes_read answer ≡ false
+      → failed is_pes_read_failure answer ≡ false
       → IsOk answer
       ↔ ((transmission : Transmission)
       × Carries options.origin bytes transmission
@@ -310,8 +311,8 @@ first_judged_events judged options bytes n =
 -- Frames that the checker reports as trusted need no correction on air: receivers recover in them,
 -- whatever is transmitted in other frames. This applies to the part of the transmission with rising
 -- frames.
-abbrev pub ReportsAllowedEvents : JudgedValue → OptionsValue → List ℕ → Type 0
-ReportsAllowedEvents judged options bytes =
+abbrev pub TrustedFramesMayStay : JudgedValue → OptionsValue → List ℕ → Type 0
+TrustedFramesMayStay judged options bytes =
     let file = pes_packet_file_of (clock_of options) bytes in
     (from to : ℕ)
     → Contains (all_judged_events judged options bytes) (Trusted from to)
@@ -320,8 +321,8 @@ ReportsAllowedEvents judged options bytes =
 
 -- Frames that are reported as trusted need no correction on air with any options: with any delay
 -- `within`, and for receivers that keep or blank the page at a repeat without C4, erase page.
-abbrev pub ReportsAllowedEventsWithin : JudgedValue → OptionsValue → List ℕ → Type 0
-ReportsAllowedEventsWithin judged options bytes =
+abbrev pub TrustedFramesMayStayWithin : JudgedValue → OptionsValue → List ℕ → Type 0
+TrustedFramesMayStayWithin judged options bytes =
     let file = pes_packet_file_of (clock_of options) bytes in
     (from to : ℕ)
     → Contains (all_judged_events judged options bytes) (Trusted from to)
@@ -330,8 +331,8 @@ ReportsAllowedEventsWithin judged options bytes =
 
 -- At each frame that is reported as trusted, and at each of the `within` frames before it that were
 -- read, the expected page is known.
-abbrev pub ReportsKnownEvents : JudgedValue → OptionsValue → List ℕ → Type 0
-ReportsKnownEvents judged options bytes =
+abbrev pub TrustedFramesAreKnown : JudgedValue → OptionsValue → List ℕ → Type 0
+TrustedFramesAreKnown judged options bytes =
     let file = pes_packet_file_of (clock_of options) bytes in
     let read = rising_frames_of (criteria_of_judged judged options file.unread) file.pes_packets in
     (from to : ℕ)
@@ -344,8 +345,8 @@ ReportsKnownEvents judged options bytes =
 
 -- If the source fails after n PES packets, their events are a prefix of all events. So the
 -- properties of trusted frames apply to the frames reported before the failure.
-abbrev pub ReportsPrefixOfEvents : JudgedValue → OptionsValue → List ℕ → Type 0
-ReportsPrefixOfEvents judged options bytes =
+abbrev pub FirstEventsArePrefix : JudgedValue → OptionsValue → List ℕ → Type 0
+FirstEventsArePrefix judged options bytes =
     (n : ℕ)
     → (rest : List Event)
     × (all_judged_events judged options bytes

@@ -2,20 +2,20 @@
 -- definitions.
 use Rattle.std.specs.Prelude.{◌≡◌, ◌||◌, Bool, false, not, Option, Some, None}
 use Rattle.std.specs.Prelude.{if◌then◌else◌}
-use Rattle.sub_rules.specs.Fault.{is_pes_read, is_pes_write, is_subtitle_fault}
+use Rattle.sub_rules.specs.Fault.{is_pes_read_failure, is_pes_write_failure, is_subtitle_fault}
 use Rattle.sub_rules.specs.declared.event.Event.{Event}
 use Rattle.sub_rules.specs.declared.event.Event.TheVariants.{Ended, SkippedUntil, Reported, Trusted}
 use Rattle.sub_rules.specs.declared.fault.CheckFault.{CheckFault}
 
 -- The fault is a broken rule: it is neither a fault of the subtitle file nor a device failure.
 pub record IsRuleFault (f : CheckFault) : Type 0 where
-  pub is_no_read_failure : is_pes_read f ≡ false
-  pub is_no_write_fault : is_pes_write f ≡ false
+  pub is_no_read_failure : is_pes_read_failure f ≡ false
+  pub is_no_write_fault : is_pes_write_failure f ≡ false
   pub is_no_subtitle_fault : is_subtitle_fault f ≡ false
 
 -- The fault is a broken rule: it is neither a fault of the subtitle file nor a device failure.
 abbrev pub is_rule_fault : CheckFault → Bool
-is_rule_fault f = not (is_pes_read f || is_pes_write f || is_subtitle_fault f)
+is_rule_fault f = not (is_pes_read_failure f || is_pes_write_failure f || is_subtitle_fault f)
 
 -- The fault of an event that reports a broken rule; `None` for all other events.
 abbrev pub rule_fault_in_event : Event → Option CheckFault

@@ -4,19 +4,20 @@ ghost use Rattle.std.specs.Prelude.{true};
 ghost use Rattle.sub_io.specs.Device.{CanFail, CountsFailureIf, failed};
 ghost use Rattle.sub_io.specs.Reading.{IfKnown};
 ghost use Rattle.sub_io.specs.Reporting.{ReportsSome};
-ghost use Rattle.ttx_pes.specs.Reader.{FailsAtPacket};
+ghost use Rattle.ttx_pes.specs.Reader.{FailsAfterValidPackets};
 ghost use Rattle.stl_rows.specs.Judged.{known};
 ghost use Rattle.stl_rows.specs.Programme.{IsProgramme, ProgrammeValue};
 ghost use Rattle.sub_plan.specs.FrameTime.{clock_of};
 ghost use Rattle.sub_plan.specs.Options.{IsOptions};
-ghost use Rattle.sub_rules.specs.Fault.{is_pes_read, is_pes_write, is_subtitle_fault};
+ghost use Rattle.sub_rules.specs.Fault.{is_pes_read_failure, is_pes_write_failure};
+ghost use Rattle.sub_rules.specs.Fault.{is_subtitle_fault};
 ghost use Rattle.sub_rules.specs.FrameRules.{criteria_of};
 ghost use Rattle.sub_rules.specs.PesPackets.{FailsAtPesPacket};
 ghost use Rattle.sub_checker.specs.PesFileEvents.{FailsWhileReadingOn, ReportsFile};
-ghost use Rattle.sub_check.specs.CheckedFiles.{ReportsPrefixOfEvents, IsChecked, IsCheckedBy};
-ghost use Rattle.sub_check.specs.CheckedFiles.{ReportsEvents, ReportsKnownEvents};
-ghost use Rattle.sub_check.specs.CheckedFiles.{ReportsAllowedEvents};
-ghost use Rattle.sub_check.specs.CheckedFiles.{ReportsAllowedEventsWithin};
+ghost use Rattle.sub_check.specs.CheckedFiles.{FirstEventsArePrefix, IsChecked, IsCheckedBy};
+ghost use Rattle.sub_check.specs.CheckedFiles.{ReportsEvents, TrustedFramesAreKnown};
+ghost use Rattle.sub_check.specs.CheckedFiles.{TrustedFramesMayStay};
+ghost use Rattle.sub_check.specs.CheckedFiles.{TrustedFramesMayStayWithin};
 ghost use Rattle.sub_check.specs.CheckedFiles.{all_events_of};
 ghost use Rattle.sub_check.specs.CheckedFiles.{first_answer};
 
@@ -51,13 +52,13 @@ pub fn check_pes_packets<P: PesPackets>(
     // A failure of the source is reported at the PES packet that could not be read; the packets
     // before it were consumed.
     ensures read { (pes : ℕ) → result ≡ Err (CheckFault.Pes pes PesFault.Read)
-        → FailsAtPacket pes (P.remaining source.old) (P.left source.new) }
+        → FailsAfterValidPackets pes (P.remaining source.old) (P.left source.new) }
     // No fault of a subtitle file and no `Write` is returned. `Read` is returned exactly if the
     // source failed in this call.
     ensures own { failed is_subtitle_fault result ≡ false }
-    ensures is_no_write_fault { failed is_pes_write result ≡ false }
+    ensures is_no_write_fault { failed is_pes_write_failure result ≡ false }
     ensures device { P.device source.new ≡ P.device source.old }
-    ensures count { CountsFailureIf P.failure_count source.old (failed is_pes_read result)
+    ensures count { CountsFailureIf P.failure_count source.old (failed is_pes_read_failure result)
         source.new }
 {
     let mut first = FirstFault::new();
@@ -87,11 +88,11 @@ fn report_all_faults<P: PesPackets, A: LiveReportSink<Event>>(
     ensures read { (pes : ℕ) → result ≡ Err (CheckFault.Pes pes PesFault.Read)
         → FailsWhileReadingOn (clock_of options.now) pes (P.remaining source.old)
         (P.left source.new) }
-    ensures only { IfErr result (λ f. is_pes_read f ≡ true) }
+    ensures only { IfErr result (λ f. is_pes_read_failure f ≡ true) }
     ensures options { IsOptions options.now }
     ensures programme { IsProgramme programme.now.drawing programme.now.records }
     ensures device { P.device source.new ≡ P.device source.old }
-    ensures count { CountsFailureIf P.failure_count source.old (failed is_pes_read result)
+    ensures count { CountsFailureIf P.failure_count source.old (failed is_pes_read_failure result)
         source.new }
 {
     report_pes_packets(&Judging::known(programme), source, options, report_sink)
@@ -135,17 +136,17 @@ pub fn check_all_pes_packets<P: PesPackets, A: LiveReportSink<Event>>(
     // as trusted need no correction on air, whatever is transmitted in other frames.
     ensures trusted { IsFalse options.now.keeps → options.now.within ≡ 0
         → IfKnown (P.remaining source.old) (λ bytes.
-        ReportsAllowedEvents judging.now options.now bytes) }
+        TrustedFramesMayStay judging.now options.now bytes) }
     // Frames reported as trusted need no correction on air with any options: with any delay, and
     // for receivers that keep or blank the page at a repeat.
-    ensures reports_allowed_within { IfKnown (P.remaining source.old) (λ bytes.
-        ReportsAllowedEventsWithin judging.now options.now bytes) }
+    ensures trusted_within { IfKnown (P.remaining source.old) (λ bytes.
+        TrustedFramesMayStayWithin judging.now options.now bytes) }
     // At frames reported as trusted, the expected page is known.
     ensures known { IfKnown (P.remaining source.old) (λ bytes.
-        ReportsKnownEvents judging.now options.now bytes) }
+        TrustedFramesAreKnown judging.now options.now bytes) }
     // The events reported before a failure of the source are a prefix of all events.
     ensures begins { IfKnown (P.remaining source.old) (λ bytes.
-        ReportsPrefixOfEvents judging.now options.now bytes) }
+        FirstEventsArePrefix judging.now options.now bytes) }
     // The result has no counts exactly if the report sink stopped the check.
     ensures stopped { IfOk result (λ counts. A.has_stopped report_sink.new ≡ is_none counts) }
     // For any source, some list of events was reported; if the source failed, the report sink had
@@ -156,14 +157,14 @@ pub fn check_all_pes_packets<P: PesPackets, A: LiveReportSink<Event>>(
     // before it were consumed. No other `Err` is returned.
     ensures read { (pes : ℕ) → result ≡ Err (CheckFault.Pes pes PesFault.Read)
         → FailsAtPesPacket pes (P.remaining source.old) (P.left source.new) }
-    ensures only { IfErr result (λ f. is_pes_read f ≡ true) }
+    ensures only { IfErr result (λ f. is_pes_read_failure f ≡ true) }
     // All reports are flushed before the source may read from its device, which may fail. So after
     // a failure no report is still buffered.
-    ensures requested { A.buffered report_sink.old ≡ 0 → IfErr result
+    ensures flushed_at_failure { A.buffered report_sink.old ≡ 0 → IfErr result
         (λ _. A.buffered report_sink.new ≡
         0) }
     ensures device { P.device source.new ≡ P.device source.old }
-    ensures count { CountsFailureIf P.failure_count source.old (failed is_pes_read result)
+    ensures count { CountsFailureIf P.failure_count source.old (failed is_pes_read_failure result)
         source.new }
 {
     report_pes_packets(judging, source, options, report_sink)

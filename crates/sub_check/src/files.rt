@@ -2,13 +2,14 @@
 ghost use Rattle.std.specs.Prelude.{◌≡◌, ℕ, ◌<◌, Err, IsFalse, false, true};
 ghost use Rattle.sub_io.specs.Device.{CanFail, CountsFailureIf, failed};
 ghost use Rattle.sub_io.specs.Reading.{IfKnown};
-ghost use Rattle.ttx_pes.specs.Reader.{FailsAtPacket};
+ghost use Rattle.ttx_pes.specs.Reader.{FailsAfterValidPackets};
 ghost use Rattle.stl_rows.specs.Layout.{drawing_within};
 ghost use Rattle.stl_rows.specs.Fault.{is_load_read_failure};
 ghost use Rattle.stl_rows.specs.Loading.{FailsLoading};
 ghost use Rattle.stl_rows.specs.declared.fault.LoadFault.{LoadFault};
 ghost use Rattle.sub_check.specs.CheckedFiles.{AreAccepted, AreAcceptedBy, AreChecked};
-ghost use Rattle.sub_rules.specs.Fault.{is_pes_read, is_pes_write, is_stl_read, is_subtitle_fault};
+ghost use Rattle.sub_rules.specs.Fault.{is_pes_read_failure, is_pes_write_failure};
+ghost use Rattle.sub_rules.specs.Fault.{is_stl_read_failure, is_subtitle_fault};
 
 use crate::checking_file::check;
 use std::alloc::Global;
@@ -66,14 +67,14 @@ pub fn check_files<S: Source, P: Source>(
     // A failed read of the PES file is reported at the PES packet that could not be read.
     ensures pes_read { (index : ℕ)
         → result ≡ Err (CheckFault.Pes index PesFault.Read)
-        → FailsAtPacket index (P.remaining pes.old) (P.remaining pes.new) }
+        → FailsAfterValidPackets index (P.remaining pes.old) (P.remaining pes.new) }
     // If the subtitle file is refused, no byte of the PES file is read. No `Write` is returned.
     ensures before { failed is_subtitle_fault result ≡ true → pes.new ≡ pes.old }
-    ensures is_no_write_fault { failed is_pes_write result ≡ false }
+    ensures is_no_write_fault { failed is_pes_write_failure result ≡ false }
     // For each source, its `Read` is returned exactly if it failed in this call.
-    ensures stl_count { CountsFailureIf S.failure_count stl.old (failed is_stl_read result)
+    ensures stl_count { CountsFailureIf S.failure_count stl.old (failed is_stl_read_failure result)
         stl.new }
-    ensures pes_count { CountsFailureIf P.failure_count pes.old (failed is_pes_read result)
+    ensures pes_count { CountsFailureIf P.failure_count pes.old (failed is_pes_read_failure result)
         pes.new }
 {
     law_of_loading();

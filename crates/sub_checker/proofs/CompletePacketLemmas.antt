@@ -6,7 +6,7 @@ use Rattle.std.proofs.Common.{not, Option, None, is_some, refl}
 use Rattle.std.proofs.Common.{arith, ◌==◌}
 use Rattle.ttx_page.specs.Page.{Rows, cell}
 use Rattle.sub_plan.specs.Schedule.{due_page_in}
-use Rattle.sub_packets.specs.StoredPage.{is_kept_page_open, is_kept_cell_right}
+use Rattle.sub_packets.specs.StoredPage.{is_kept_page_incomplete, is_kept_cell_right}
 use Rattle.sub_packets.specs.StoredPage.{first_unexpected_kept_cell}
 use Rattle.sub_packets.specs.StoredPage.{first_wrong_kept_cell}
 use Rattle.sub_packets.proofs.WrongCellLemmas.{first_cell-none, no_first_cell_fails_each_cell}
@@ -57,7 +57,7 @@ pub correct_frame_has_no_active_fault : (c : CheckerValue)
     → c.listener.comparison.due ≡ due_page_in c.programme c.frame
     → c.active_faults ≡ no_active_faults
     → first_wrong_kept_cell c.listener ≡ None
-    → is_kept_page_open c.listener ≡ false
+    → is_kept_page_incomplete c.listener ≡ false
     → c.frame + 1 < c.repeat_deadline
     → is_silent_for c.pace c.latest_frame c.frame ≡ false
     → is_currently_undecided c ≡ false

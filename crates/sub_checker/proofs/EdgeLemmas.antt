@@ -61,12 +61,12 @@ IsAtFrame-later p every s first latest_frame last frame edge f small is low befo
 
 -- `IsJudged` stays true until the next change of the expected page.
 pub IsJudged-later :
-    (j : JudgedValue) (p : ProgrammeValue) (any_refused : Bool) (first within frame : ℕ)
+    (j : JudgedValue) (p : ProgrammeValue) (any_unreliable : Bool) (first within frame : ℕ)
     (edge : Option ℕ) (first_known_from f : ℕ)
-    → IsJudged j p any_refused first within frame edge first_known_from
+    → IsJudged j p any_unreliable first within frame edge first_known_from
     → frame ≤ f
-    → IsJudged j p any_refused first within f edge first_known_from
-IsJudged-later j p any_refused first within frame edge first_known_from f is low = grind
+    → IsJudged j p any_unreliable first within f edge first_known_from
+IsJudged-later j p any_unreliable first within frame edge first_known_from f is low = grind
     (arith, nat_tests)
 
 pub at_frame-stays :

@@ -12,7 +12,7 @@ use Rattle.sub_checker.specs.Checker.{is_overdue_at, is_due_page_undecided, is_c
 use Rattle.sub_checker.specs.Checker.{is_currently_late}
 use Rattle.sub_checker.specs.Checker.{IsFaultFreeEnd, current_run_start, active_faults_of}
 use Rattle.sub_checker.specs.Checker.{is_currently_undecided, current_unexpected_cell}
-use Rattle.sub_packets.specs.StoredPage.{is_kept_page_open}
+use Rattle.sub_packets.specs.StoredPage.{is_kept_page_incomplete}
 use Rattle.sub_packets.proofs.StoredPageLemmas.{incomplete_heard}
 use Rattle.sub_packets.proofs.StoredPageLemmas.{unexpected_kept_is_that_after_packets, wrong_heard}
 use Rattle.sub_checker.specs.CheckedFrames.{HasStarted, AgreesWithPackets}
@@ -172,7 +172,7 @@ module _ (g : Criteria) (frames : Transmission) (i n f : ℕ) (last : List (List
         (due_page_in c.programme k))) at
         ∙ ap (λ (t : Criteria). wrong_cell t frames n f) (sym known.criteria_are)
 
-    incomplete_test_is_exact : is_kept_page_open c.listener ≡ is_incomplete g frames n
+    incomplete_test_is_exact : is_kept_page_incomplete c.listener ≡ is_incomplete g frames n
     unfolding is_incomplete
     incomplete_test_is_exact =
         incomplete_heard so_far c.listener known.knows.knows

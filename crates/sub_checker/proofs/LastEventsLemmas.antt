@@ -298,16 +298,16 @@ pub closing_steps_agree :
     → AfterEnd g list (length list) last c
     → given ≡ ending_fault pes g.unread
     → left ≡ is_some given
-    → more ≡ (c.any_refused || not (reports_no_event (closing_events_of_checker pes given c)))
+    → more ≡ (c.any_unreliable || not (reports_no_event (closing_events_of_checker pes given c)))
     → Closes left more
     ≡ Closes (is_some g.unread)
-    (g.any_refused || not
+    (g.any_unreliable || not
     (reports_no_event (closing_events_of_pes_packets g list pes (length list))))
 closing_steps_agree g list pes last c given left more follows is left_eq continued_frame_steps =
     ap₂ Closes (left_eq ∙ ap is_some is ∙ some g.unread)
     (continued_frame_steps
     ∙ ap₂ (λ (a b : Bool). a || not b)
-    (sym (ap (λ (t : Criteria). t.any_refused) follows.known.criteria_are))
+    (sym (ap (λ (t : Criteria). t.any_unreliable) follows.known.criteria_are))
     (sym (closing_events_agree g list pes last c given follows is).both_report_nothing))
   where
     some : (u : Option UnreadReason) → is_some (ending_fault pes u) ≡ is_some u

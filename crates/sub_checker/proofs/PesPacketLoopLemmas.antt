@@ -43,7 +43,7 @@ use Rattle.sub_checker.specs.CheckedFrames.{BetweenPesPackets, steps_at_end_of_f
 use Rattle.sub_checker.specs.NextPesPackets.{frame_with_packets, last_packets_after_read}
 use Rattle.sub_checker.specs.NextPesPackets.{frames_after_read, steps_of_read_packet}
 use Rattle.sub_checker.specs.Relay.{initial_relay, relayed_events, relay_after}
-use Rattle.sub_checker.specs.PesFileEvents.{MatchesReadFile, ReportsPesPackets, finished}
+use Rattle.sub_checker.specs.PesFileEvents.{MatchesReadFile, ReportsPesPackets, events_with_run_end}
 use Rattle.sub_checker.specs.LastEvents.{FinishesReporting}
 use Rattle.sub_checker.specs.ReadCounts.{CarryFrames, AreComplete, AreCountsOfFrames}
 use Rattle.sub_checker.specs.declared.reporter.Relay.{Relay}
@@ -183,14 +183,15 @@ module _ (g : Criteria) (all : List PesPacket) where
   abbrev closing : List CheckStep
   closing = steps_at_end_of_file g (frames_sent_by g all) (length all)
 
-  all_events_are_finished_events : all_events_of_pes_packets g all ≡ finished initial_relay
+  all_events_are_finished_events : all_events_of_pes_packets g all
+      ≡ events_with_run_end initial_relay
       (steps_of_all_pes_packets g all ++ closing)
   unfolding all_events_of_pes_packets reported_of_pes_packets relayed_events relay_after
   all_events_are_finished_events = grind (arith, nat_tests, reports_agree, append_assoc)
 
   whole : all_events_of_pes_packets g all
       ≡ events_of_pes_packets g all
-      ++ finished (relay_after initial_relay (steps_of_all_pes_packets g all)) closing
+      ++ events_with_run_end (relay_after initial_relay (steps_of_all_pes_packets g all)) closing
   whole = grind (
     arith,
     nat_tests,
@@ -208,7 +209,7 @@ module _ (g : Criteria) (all : List PesPacket) where
       (a b c : D) (r : Option Accepted) (p : Relay)
       → p ≡ relay_after initial_relay (steps_of_all_pes_packets g all)
       → Reports IsReported a b (events_of_pes_packets g all)
-      → FinishesReporting IsReported b c (finished p closing) r
+      → FinishesReporting IsReported b c (events_with_run_end p closing) r
       → IfSome r (MatchesReadFile g clock bytes all)
       → ReportsPesPackets g clock bytes all IsReported a c (Ok r)
   reporting_ends_with_file {D} {IsReported} clock bytes a b c (Some x) p is first second counts = (
@@ -225,7 +226,8 @@ pub events_of_prefix_are_a_prefix : (g : Criteria) (all done more : List PesPack
 events_of_prefix_are_a_prefix g all done more parts =
     let each = steps_of_all_pes_packets g done in
     let next = steps_of_each g (frames_sent_by g done) (length done) more in
-    let end = finished (relay_after initial_relay (steps_of_all_pes_packets g all)) (closing g all)
+    let end = events_with_run_end (relay_after initial_relay (steps_of_all_pes_packets g all))
+    (closing g all)
     in (
       relayed_events (relay_after initial_relay each) next ++ end,
       whole g all
@@ -388,7 +390,7 @@ module _ (judging : JudgedValue) {options : OptionsValue} {bytes : List ℕ}
           (r : Option Accepted)
           → Reports IsReported a b (events_of_pes_packets g done)
           → FinishesReporting IsReported b d
-          (finished q (steps_at_end_of_file g (frames_sent_by g done) pes)) r
+          (events_with_run_end q (steps_at_end_of_file g (frames_sent_by g done) pes)) r
           → IfSome r (AreCountsOfFrames options.page (frames_sent_by g done))
           → ReportsPesPackets g clock bytes all IsReported a d (Ok r)
       whole_file_is_reported {D} {IsReported} a b d r first second counts =
@@ -399,7 +401,8 @@ module _ (judging : JudgedValue) {options : OptionsValue} {bytes : List ℕ}
           (subst (λ (l : List PesPacket). Reports IsReported a b (events_of_pes_packets g l))
           no_packet_is_left
           first)
-          (subst (λ (l : List CheckStep). FinishesReporting IsReported b d (finished q l) r)
+          (subst (λ (l : List CheckStep). FinishesReporting IsReported b d (events_with_run_end q l)
+          r)
           last_steps_are_closing_steps
           second)
           (accepted_counts_match_read_file r counts)

@@ -21,7 +21,7 @@ use Rattle.ttx_pes.specs.declared.fault.PesFault.TheVariants.{Read}
 use Rattle.sub_rules.specs.declared.fault.CheckFault.TheVariants as fault
 use Rattle.std.proofs.lemmas.List.Folds.{concat-append}
 use Rattle.ttx_pes.specs.PesGrammar.{IsValidPesPacket, IsPesValue, PesValue}
-use Rattle.ttx_pes.specs.Reader.{TakesPackets, TakesValidPesPacket}
+use Rattle.ttx_pes.specs.Reader.{TakesValidPesPackets, TakesValidPesPacket}
 use Rattle.sub_rules.proofs.PacketLists.{Each-push}
 use Rattle.sub_rules.specs.PacketRules.{packets_of_units}
 use Rattle.sub_rules.specs.PesFrames.{IsReadAs}
@@ -123,7 +123,7 @@ pub carried_packets_are_taken : {clock : Clock} (bytes : List ℕ) (frames : Tra
     → length frames ≡ n
     → old ≡ Some bytes
     → new ≡ Some rest
-    → TakesPackets n old new
+    → TakesValidPesPackets n old new
 carried_packets_are_taken {clock} bytes frames rest n old new taken number was is = record {
   packets = taken.packets;
   number =

@@ -134,8 +134,8 @@ module _ (j : JudgedValue) (first within frame : ℕ) (edge : Option ℕ)
   due_known_without_refusals h1 = grind (arith, nat_tests, no_number_is_below_zero, was-none)
 
   module _ (is : has_unreliable_subtitle j ≡ true) where
-    any_refused_eq : (e : ℕ) → is_due_undecided j e ≡ is_undecided_in j e
-    any_refused_eq e = ap (λ b. b && is_undecided_in j e) is
+    any_unreliable_eq : (e : ℕ) → is_due_undecided j e ≡ is_undecided_in j e
+    any_unreliable_eq e = ap (λ b. b && is_undecided_in j e) is
 
     pub due_unknown_after_day : (k : ℕ)
         → day ≤ k
@@ -143,7 +143,7 @@ module _ (j : JudgedValue) (first within frame : ℕ) (edge : Option ℕ)
         → IsKnownFrom (is_due_undecided j) first within frame edge k
     due_unknown_after_day k high here f low small before =
         let there = was-some (is_due_undecided j) first f within f (inr refl) (omega arith)
-        (omega arith) (any_refused_eq f ∙ undecided_is_constant_until_edge j frame f edge reports
+        (omega arith) (any_unreliable_eq f ∙ undecided_is_constant_until_edge j frame f edge reports
         low before ∙ here) in
         rw there (grind (arith, nat_tests))
 
@@ -157,7 +157,7 @@ module _ (j : JudgedValue) (first within frame : ℕ) (edge : Option ℕ)
         f)
       where
         first_unfinished : (e : ℕ) → last < e → e ≤ f → is_due_undecided j e ≡ false
-        first_unfinished e after until = any_refused_eq e ∙ go (cases_lt e frame)
+        first_unfinished e after until = any_unreliable_eq e ∙ go (cases_lt e frame)
           where
             go : (e < frame) ⊎ (frame ≤ e) → is_undecided_in j e ≡ false
             go (inl l) = none e after (omega arith)
@@ -175,7 +175,7 @@ module _ (j : JudgedValue) (first within frame : ℕ) (edge : Option ℕ)
             (grind (arith, nat_tests))
         by (inr l) =
             rw (was-some (is_due_undecided j) first f within last (inl some) l (omega arith)
-            (any_refused_eq last ∙ here))
+            (any_unreliable_eq last ∙ here))
             (grind (arith, nat_tests))
 
     pub unknown_page_is_never_known : (least : ℕ)
@@ -189,7 +189,7 @@ module _ (j : JudgedValue) (first within frame : ℕ) (edge : Option ℕ)
       where
         at : (e : ℕ) → frame ≤ e → e ≤ f → is_due_undecided j e ≡ false
         at e l until =
-            any_refused_eq e
+            any_unreliable_eq e
             ∙ undecided_is_constant_until_edge j frame e edge reports l
             (earlier e f edge until before)
             ∙ here
@@ -198,5 +198,5 @@ module _ (j : JudgedValue) (first within frame : ℕ) (edge : Option ℕ)
         each e m reach until = go (cases_lt e frame)
           where
             go : (e < frame) ⊎ (frame ≤ e) → is_due_undecided j e ≡ false
-            go (inl l) = any_refused_eq e ∙ none e (counts e m (omega arith)) (omega arith)
+            go (inl l) = any_unreliable_eq e ∙ none e (counts e m (omega arith)) (omega arith)
             go (inr l) = at e l until

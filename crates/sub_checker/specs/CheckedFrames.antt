@@ -29,7 +29,7 @@ use Rattle.sub_checker.specs.declared.reporter.Reporter.{Reporter}
 abbrev pub criteria_of_checker : CheckerValue → Option UnreadReason → Criteria
 criteria_of_checker c unread =
     record (criteria_with c.programme c.listener.watched c.every c.within c.pace unread) {
-      any_refused = c.any_refused;
+      any_unreliable = c.any_unreliable;
       undecided = is_due_page_undecided c;
     }
 

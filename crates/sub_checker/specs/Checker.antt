@@ -17,7 +17,7 @@ use Rattle.sub_rules.specs.Trusted.{CheckStep}
 use Rattle.sub_rules.specs.Trusted.CheckStep.{AtEnd, GoesBack, Emits}
 use Rattle.sub_rules.specs.declared.sending.Sending.{Sending}
 use Rattle.sub_rules.specs.declared.active_faults.ActiveFaults.{ActiveFaults}
-use Rattle.sub_packets.specs.StoredPage.{is_kept_page_open, first_unexpected_kept_cell}
+use Rattle.sub_packets.specs.StoredPage.{is_kept_page_incomplete, first_unexpected_kept_cell}
 use Rattle.sub_packets.specs.StoredPage.{first_wrong_kept_cell}
 use Rattle.sub_packets.specs.Listener.{KnowsLast, begins_frame_with_header}
 use Rattle.sub_packets.specs.declared.listener.Listener.{Listener}
@@ -55,8 +55,9 @@ sent_frame_of sending units = record { frame = sending.frame; packets = packets_
 
 -- The state of the checker:
 --
---   programme         the reliable subtitles; `judging` also has the rejected ones
---   any_refused       whether subtitles of the file were rejected
+--   programme         the reliable subtitles
+--   judging           also says between which of them unreliable subtitles were
+--   any_unreliable    whether the file has unreliable subtitles
 --   every             the repeat bound: the most frames from one header of the page to the next
 --   within            the number of frames within which the page must become correct
 --   pace              the longest interval between PES packets in frames, if it is limited
@@ -66,12 +67,12 @@ sent_frame_of sending units = record { frame = sending.frame; packets = packets_
 --   last              the frame that was ended last
 --   active_faults     the faults that were active at its end
 --   first_unfinished  the first frame of the current run of frames with an unfinished page
---   repeat_deadline           the frame after the one at whose end the repeat bound is exceeded
+--   repeat_deadline   the frame after the one at whose end the repeat bound is exceeded
 --   counts            the counts of frames, page headers and packets so far
 pub record CheckerValue : Type 0 where
   pub programme : ProgrammeValue
   pub judging : JudgedValue
-  pub any_refused : Bool
+  pub any_unreliable : Bool
   pub every : ℕ
   pub within : ℕ
   pub pace : Option ℕ
@@ -151,7 +152,7 @@ is_overdue_at programme within first (Some first_unfinished) f =
     (f + 1))
     first first_unfinished
 
--- The expected page of `frame` is unknown, because a subtitle was rejected.
+-- The expected page of `frame` is unknown, because of an unreliable subtitle.
 abbrev pub is_due_page_undecided : CheckerValue → ℕ → Bool
 is_due_page_undecided c frame = is_due_undecided c.judging frame
 
@@ -175,7 +176,7 @@ current_unexpected_cell c =
 -- The page is unfinished at the end of the current frame: a cell is wrong, or complete pages are
 -- required and the page is open.
 abbrev pub is_currently_unfinished : CheckerValue → Bool
-is_currently_unfinished c = is_some (current_wrong_cell c) || is_kept_page_open c.listener
+is_currently_unfinished c = is_some (current_wrong_cell c) || is_kept_page_incomplete c.listener
 
 -- The first frame of the current run of frames with an unfinished page.
 abbrev pub current_run_start : CheckerValue → Option ℕ
@@ -192,14 +193,14 @@ abbrev pub active_faults_of : CheckerValue → ActiveFaults
 active_faults_of c = record {
   content = if is_currently_late c then current_wrong_cell c else current_unexpected_cell c;
   gap = nat_le c.repeat_deadline (c.frame + 1);
-  incomplete = is_currently_late c && is_kept_page_open c.listener;
+  incomplete = is_currently_late c && is_kept_page_incomplete c.listener;
   undecided = is_currently_undecided c;
   silent = is_silent_for c.pace c.latest_frame c.frame;
 }
 
--- The checker needs a `GoesBack` step: subtitles were rejected, and `within` is not 0.
+-- The checker needs a `GoesBack` step: the file has unreliable subtitles, and `within` is not 0.
 abbrev pub needs_back_step : CheckerValue → Bool
-needs_back_step c = c.any_refused && not (c.within == 0)
+needs_back_step c = c.any_unreliable && not (c.within == 0)
 
 -- The `GoesBack` step, if the checker needs one.
 abbrev pub back_steps : CheckerValue → List CheckStep
@@ -249,11 +250,11 @@ IsKnownFrom undecided first within frame edge first_known_from =
 -- The subtitles and `first_known_from` agree with `judging`, up to the next change of the expected
 -- page.
 pub record IsJudged
-    (judging : JudgedValue) (programme : ProgrammeValue) (any_refused : Bool)
+    (judging : JudgedValue) (programme : ProgrammeValue) (any_unreliable : Bool)
     (first within frame : ℕ) (edge : Option ℕ) (first_known_from : ℕ)
     : Type 0 where
   pub programme_eq : programme ≡ judging.programme
-  pub any_refused_eq : any_refused ≡ has_unreliable_subtitle judging
+  pub any_unreliable_eq : any_unreliable ≡ has_unreliable_subtitle judging
   pub known_from_is_exact : IsKnownFrom (is_due_undecided judging) first within frame edge
       first_known_from
 

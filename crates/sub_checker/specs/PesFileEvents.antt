@@ -3,7 +3,7 @@ use Rattle.std.specs.Prelude.{◌≡◌, ℕ, ◌≤◌, List, [], ◌++◌, len
 use Rattle.std.specs.Prelude.{Result, Ok, Err}
 use Rattle.sub_io.specs.Reading.{IfKnown}
 use Rattle.sub_io.specs.Reporting.{Reports, ReportsPrefix}
-use Rattle.ttx_pes.specs.Reader.{FailsAtPacket}
+use Rattle.ttx_pes.specs.Reader.{FailsAfterValidPackets}
 use Rattle.ttx_pes.specs.Reading.{max_pes_packets}
 use Rattle.ttx_pes.specs.declared.fault.PesFault.TheVariants.{Read}
 use Rattle.sub_plan.specs.FrameTime.{Clock}
@@ -68,9 +68,9 @@ FailsWhileReadingOn clock pes known left =
     → IfKnown known (λ bytes.
     ReadsPesPackets clock 0 bytes pes_packets unread
     → length (frames_of (take pes pes_packets)) ≡ pes
-    → FailsAtPacket pes known left))
+    → FailsAfterValidPackets pes known left))
 
 -- The events for a list of steps, followed by the end of the current run of skipped PES packets.
-abbrev pub finished : Relay → List CheckStep → List Event
-finished p steps = relayed_events p steps ++ run_ending_events
+abbrev pub events_with_run_end : Relay → List CheckStep → List Event
+events_with_run_end p steps = relayed_events p steps ++ run_ending_events
     (skipped_run_of (relay_after p steps).run)

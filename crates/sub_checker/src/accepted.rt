@@ -1,6 +1,6 @@
 //! The counts that the checker returns for a PES file.
 ghost use Rattle.std.specs.Prelude.{◌≡◌};
-ghost use Rattle.sub_rules.specs.Fault.{is_pes_read};
+ghost use Rattle.sub_rules.specs.Fault.{is_pes_read_failure};
 
 use sub_rules::CheckFault;
 use ttx_pes::PesFault;
@@ -17,7 +17,7 @@ pub struct Accepted {
 
 /// Returns whether the fault is a failure to read the PES file.
 pub(crate) fn is_source_failure(fault: &CheckFault) -> bool
-    ensures { result ≡ is_pes_read fault.now }
+    ensures { result ≡ is_pes_read_failure fault.now }
 {
     match fault {
         CheckFault::Pes { fault, .. } => *fault == PesFault::Read,

@@ -36,7 +36,7 @@ impl<'a> Checker<'a> {
     )
         requires few { length units.now ≤ max_units }
         requires day { sending.frame < day }
-        requires no_change_holds_for_later_subtitles { pes ≤ max_pes_packets }
+        requires below_limit { pes ≤ max_pes_packets }
         requires room { AreCountsBounded pes self.old.counts }
         ensures room { AreCountsBounded (pes + 1) self.new.counts }
         ensures reported { (g : Criteria) (sent : Transmission) (last : List (List ℕ))
@@ -75,7 +75,7 @@ impl<'a> Checker<'a> {
     )
         requires few { length units.now ≤ max_units }
         requires day { sending.frame < day }
-        requires no_change_holds_for_later_subtitles { pes ≤ max_pes_packets }
+        requires below_limit { pes ≤ max_pes_packets }
         requires room { AreCountsBounded pes self.old.counts }
         requires closed { self.old.counts.is_open ≡ false }
         ensures room { AreCountsBounded (pes + 1) self.new.counts }
@@ -109,7 +109,7 @@ impl<'a> Checker<'a> {
         reporter: &mut Reporter<'_, A>,
     )
         requires few { length units.now ≤ max_units }
-        requires no_change_holds_for_later_subtitles { pes ≤ max_pes_packets }
+        requires below_limit { pes ≤ max_pes_packets }
         requires room { AreCountsBounded pes self.old.counts }
         requires opened { self.old.counts.is_open ≡ true }
         ensures room { AreCountsBounded (pes + 1) self.new.counts }

@@ -64,7 +64,7 @@ impl<'a> Model for Checker<'a> {
     ghost view = { λ c. record {
       programme = c.programme.now;
       judging = c.judging.now;
-      any_refused = c.has_unreliable_subtitle;
+      any_unreliable = c.has_unreliable_subtitle;
       every = c.every;
       within = c.within;
       pace = c.pace;
@@ -230,7 +230,7 @@ impl<'a> Checker<'a> {
     }
 
     /// Returns the counts for the PES packets read so far.
-    pub fn read(&self) -> Accepted
+    pub fn counts_so_far(&self) -> Accepted
         ensures { CountsMatchChecker self.now result }
     {
         Accepted {

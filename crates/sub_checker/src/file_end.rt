@@ -10,7 +10,7 @@ ghost use Rattle.sub_rules.specs.Trusted.{reports_no_event};
 ghost use Rattle.sub_checker.specs.CheckedFrames.{AfterEnd, BetweenPesPackets};
 ghost use Rattle.sub_checker.specs.CheckedFrames.{steps_at_end_of_file};
 ghost use Rattle.sub_checker.specs.Relay.{ReporterRelays};
-ghost use Rattle.sub_checker.specs.PesFileEvents.{finished};
+ghost use Rattle.sub_checker.specs.PesFileEvents.{events_with_run_end};
 ghost use Rattle.sub_checker.specs.LastEvents.{FinishesReporting, closing_events_of_checker};
 ghost use Rattle.sub_checker.specs.LastEvents.{ending_fault};
 ghost use Rattle.sub_checker.specs.ReadCounts.{AreCountsOfFrames};
@@ -41,13 +41,13 @@ pub(crate) fn finish<A: ReportSink<Event>>(
         → fault ≡ ending_fault pes g.unread
         → FinishesReporting A.is_reported reporter.old.fused.device.now
         reporter.new.fused.device.now
-        (finished reporter.old.relay (steps_at_end_of_file g list pes)) result }
+        (events_with_run_end reporter.old.relay (steps_at_end_of_file g list pes)) result }
     ensures counts { (g : Criteria) (list : Transmission) (last : List (List ℕ))
         → BetweenPesPackets g list last checker.old → IfSome result
         (AreCountsOfFrames g.watched.page
         list) }
 {
-    let read = checker.read();
+    let read = checker.counts_so_far();
     end_and_close(checker, pes, fault, reporter);
     report_if_present(reporter.relay.run.ended(), &mut reporter.fused);
     if reporter.fused.stopped {
@@ -100,7 +100,7 @@ fn close<A: ReportSink<Event>>(
 // before: subtitles were rejected, or an event follows at the end of the file.
 fn reports_trusted(checker: &Checker<'_>, pes: u32, fault: Option<CheckFault>) -> bool
     ensures { result
-        ≡ (checker.now.any_refused || not
+        ≡ (checker.now.any_unreliable || not
         (reports_no_event (closing_events_of_checker pes fault checker.now))) }
 {
     checker.has_unreliable_subtitle || checker.reports_closing_events(pes, fault)

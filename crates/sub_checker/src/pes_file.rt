@@ -10,7 +10,7 @@ ghost use Rattle.ttx_pes.specs.Reading.{max_pes_packets};
 ghost use Rattle.stl_rows.specs.Programme.{IsProgramme};
 ghost use Rattle.sub_plan.specs.FrameTime.{clock_of};
 ghost use Rattle.sub_plan.specs.Options.{IsOptions};
-ghost use Rattle.sub_rules.specs.Fault.{is_pes_read};
+ghost use Rattle.sub_rules.specs.Fault.{is_pes_read_failure};
 ghost use Rattle.sub_rules.specs.FrameRules.{Criteria, criteria_of_judged};
 ghost use Rattle.sub_rules.specs.PacketRules.{packets_of_units};
 ghost use Rattle.sub_rules.specs.Transmission.{Transmission};
@@ -66,15 +66,15 @@ pub fn report_pes_packets<P: PesPackets, A: LiveReportSink<Event>>(
     ensures read { (pes : ℕ) → result ≡ Err (CheckFault.Pes pes PesFault.Read)
         → FailsWhileReadingOn (clock_of options.now) pes (P.remaining source.old)
         (P.left source.new) }
-    ensures only { IfErr result (λ f. is_pes_read f ≡ true) }
+    ensures only { IfErr result (λ f. is_pes_read_failure f ≡ true) }
     ensures options { IsOptions options.now }
     ensures programme { IsProgramme judging.now.programme.drawing judging.now.programme.records }
     // If the source fails, all reports have been flushed.
-    ensures requested { A.buffered report_sink.old ≡ 0 → IfErr result
+    ensures flushed_at_failure { A.buffered report_sink.old ≡ 0 → IfErr result
         (λ _. A.buffered report_sink.new ≡
         0) }
     ensures device { P.device source.new ≡ P.device source.old }
-    ensures count { CountsFailureIf P.failure_count source.old (failed is_pes_read result)
+    ensures count { CountsFailureIf P.failure_count source.old (failed is_pes_read_failure result)
         source.new }
 {
     let mut reader = ComparingReader::new();
@@ -131,7 +131,7 @@ fn report_pes_packet<A: ReportSink<Event>>(
 ) -> bool
     requires day { (sending : Sending) → pes_packet ≡ NextPesPacket.Sent sending → sending.frame <
         day }
-    requires no_change_holds_for_later_subtitles { pes ≤ max_pes_packets }
+    requires below_limit { pes ≤ max_pes_packets }
     requires room { AreCountsBounded pes checker.old.counts }
     ensures skipped { result ≡ is_skipped pes_packet }
     ensures frame { (sending : Sending) → pes_packet ≡ NextPesPacket.Sent sending

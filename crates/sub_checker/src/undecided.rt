@@ -14,16 +14,16 @@ use stl_rows::Judging;
 /// is unknown.
 pub(crate) fn first_known_from(
     judging: &Judging<'_>,
-    any_refused: bool,
+    any_unreliable: bool,
     first: u32,
     frame: u32,
     within: u32,
 ) -> u64
-    requires { any_refused ≡ has_unreliable_subtitle judging.now }
+    requires { any_unreliable ≡ has_unreliable_subtitle judging.now }
     ensures { (edge : Option ℕ) → ReportsNextEdge judging.now.programme.records frame edge
         → IsKnownFrom (is_due_undecided judging.now) first within frame edge result }
 {
-    if !any_refused {
+    if !any_unreliable {
         return 0;
     }
     if judging.is_undecided(frame) {

@@ -27,7 +27,7 @@ use Rattle.stl_rows.specs.SubSets.{sub_set}
 use Rattle.stl_rows.specs.TextCode.{cell_of, cell_of_pair, is_common}
 use Rattle.sub_laws.specs.CleanStretch.{IsUnreported}
 use Rattle.sub_examples.specs.Examples.{ExampleOfCleanFrames, closing_header}
-use Rattle.sub_examples.specs.Examples.{transmission_damaged_first, each}
+use Rattle.sub_examples.specs.Examples.{transmission_damaged_first, options_with_bound}
 use Rattle.sub_examples.specs.Examples.{english_header, later_subtitle, row_22}
 use Rattle.sub_rules.specs.FrameRules.{criteria_of}
 use Rattle.sub_rules.specs.Good.{Good}
@@ -36,14 +36,15 @@ use Rattle.sub_laws.proofs.ErasingHeaderLemmas.{law_of_unreported_stretch}
 use Rattle.sub_laws.proofs.StretchLemmas.{law_of_stretch}
 use Rattle.sub_examples.proofs.RobustTests.{listening, unreported_by_test}
 
-refused : Good later_subtitle transmission_damaged_first (each 1) → ⊥
+refused : Good later_subtitle transmission_damaged_first (options_with_bound 1) → ⊥
 unfolding kind address header coded_header decoded_nibble is_near
 refused good =
     let none : SentFrame = record { frame = 0; packets = [] } in
     let control = good.rules.control 0 none (omega arith) 0 [] (omega arith) in
     grind (arith, nat_tests, control _ refl)
 
-clean : IsUnreported (criteria_of later_subtitle (each 1) None) transmission_damaged_first 900001
+clean : IsUnreported (criteria_of later_subtitle (options_with_bound 1) None)
+    transmission_damaged_first 900001
     900002
 unfolding are_code_words is_word_below first_even_parity_byte breaks differing_column_count is_gap
     packet_rules active_faults_at is_late first_wrong_cell_after first_cell is_incomplete
@@ -67,11 +68,13 @@ example_of_clean_frames = record {
   receiver_state = λ got old new near hears.
       let sent : List (List ℕ) = english_header ∷ row_22 ∷ closing_header ∷ [] in
       let enough =
-      law_of_unreported_stretch later_subtitle transmission_damaged_first (each 1) None false
+      law_of_unreported_stretch later_subtitle transmission_damaged_first (options_with_bound 1)
+      None false
       (λ frame. false)
       900001
       900002 refl refl clean in
-      let trusted = law_of_stretch later_subtitle transmission_damaged_first (each 1) 900001 900002
+      let trusted = law_of_stretch later_subtitle transmission_damaged_first (options_with_bound 1)
+      900001 900002
       enough.0 in
       let served =
       trusted.recovers Storing 900001 0 900001 (all_arrive sent) got old new

@@ -31,7 +31,8 @@ use Rattle.sub_rules.specs.declared.packet_rule.PacketRule.{PacketRule}
 use Rattle.sub_laws.specs.CleanStretch.{HoldsAtFrameEnds, HoldsAtPackets, IsUnreported}
 use Rattle.sub_laws.specs.CleanStretch.{is_needed_by_receivers}
 use Rattle.sub_laws.specs.Robust.{IsListening, Robust}
-use Rattle.sub_examples.specs.Examples.{IsRuleNeeded, IsUnreportedExcept, each, no_subtitles}
+use Rattle.sub_examples.specs.Examples.{IsRuleNeeded, IsUnreportedExcept, options_with_bound}
+use Rattle.sub_examples.specs.Examples.{no_subtitles}
 use Rattle.sub_examples.specs.Examples.{number_of}
 use Rattle.sub_rules.proofs.TestLemmas.{passes_all_below, at_most, passing_all_below_passes_each}
 use Rattle.sub_rules.proofs.TestLemmas.{each_of, fails, holds}
@@ -250,7 +251,7 @@ unreported_but number g frames a b e =
     frames a b)
     _
     packets.1 in
-    let each =
+    let options_with_bound =
     holds_for_each_packet_rule (λ r. PacketsPass r ≡ true)
     (recursion_from_All (λ r. PacketsPass r ≡ true) packet_rules
     ((each_of PacketsPass (λ r. PacketsPass r ≡ true) (λ r. holds (PacketsPass r)) packet_rules).0
@@ -260,7 +261,7 @@ unreported_but number g frames a b e =
       packets = λ r needed other.
           none_breaks r g frames a b
           ((implied _ _ (holds (is_needed_by_receivers r)) (holds _)).0
-          (value_unless_error number (number_of r) _ (each r) other) needed);
+          (value_unless_error number (number_of r) _ (options_with_bound r) other) needed);
       content = λ other n f end low high.
           absent_test_means_none _
           (at_ends (λ n f. is_none (active_faults_at g frames n f).content) frames a b
@@ -273,25 +274,26 @@ unreported_but number g frames a b e =
 
 pub needed :
     (number : ℕ) (frames : Transmission) (every g j f : ℕ) (got : List (List ℕ))
-    → reports_only_rule number (criteria_of no_subtitles (each every) None) frames
+    → reports_only_rule number (criteria_of no_subtitles (options_with_bound every) None) frames
     (first_frame frames)
     (last_frame frames)
-    && has_counterexample no_subtitles frames (each every) g j f got
+    && has_counterexample no_subtitles frames (options_with_bound every) g j f got
     ≡ true
     → IsRuleNeeded number frames every
 needed number frames every g j f got e =
-    let criteria : Criteria = criteria_of no_subtitles (each every) None in
+    let criteria : Criteria = criteria_of no_subtitles (options_with_bound every) None in
     let tests =
     and_parts (reports_only_rule number criteria frames (first_frame frames) (last_frame frames))
     _ e
     in
-    let not_robust = refuted no_subtitles frames (each every) g j f got tests.1 in
+    let not_robust = refuted no_subtitles frames (options_with_bound every) g j f got tests.1 in
     record {
       others = unreported_but number criteria frames (first_frame frames) (last_frame frames)
           tests.0;
       not_robust = not_robust;
       not_trusted = λ trusted.
-          not_robust (recovering_transmission_is_robust no_subtitles frames (each every) trusted);
+          not_robust (recovering_transmission_is_robust no_subtitles frames
+          (options_with_bound every) trusted);
     }
 
 no_frame_is_undecided : (g : Criteria) (frames : Transmission) → ((f : ℕ) → g.undecided f ≡ false)

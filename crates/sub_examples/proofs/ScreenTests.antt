@@ -30,7 +30,8 @@ use Rattle.ttx_page.specs.Screen.{Display, ShowsAt}
 use Rattle.ttx_page.specs.Span.{has_page_header, has_no_page_end}
 use Rattle.ttx_page.proofs.NoiseLaws.{AreNear-themselves}
 use Rattle.sub_plan.specs.Examples.{page_888}
-use Rattle.sub_examples.specs.Examples.{english_header, row_22, closing_header, one_frame, each}
+use Rattle.sub_examples.specs.Examples.{english_header, row_22, closing_header, one_frame}
+use Rattle.sub_examples.specs.Examples.{options_with_bound}
 use Rattle.sub_examples.specs.Examples.{no_subtitles}
 use Rattle.sub_rules.specs.Good.{Good}
 use Rattle.stl_rows.specs.DuePage.{due}
@@ -128,7 +129,7 @@ example_of_restarted_page = record {
 abbrev header_without_end : Transmission
 header_without_end = one_frame (english_header ∷ [])
 
-no_end_is_good : Good no_subtitles header_without_end (each 1)
+no_end_is_good : Good no_subtitles header_without_end (options_with_bound 1)
 unfolding events events_of_first_frames frame_events order_events gap_events gap_length
     numbered_packet_events broken_rule_events broken_rules packet_rules breaks first_header_events
     active_faults_at

@@ -68,7 +68,8 @@ closing_header = header_of_coded_bytes (0x15 ∷ 0x15 ∷ 0xEA ∷ 0xEA ∷ 0xEA
 abbrev pub row_1 : ℕ → List ℕ
 row_1 byte = 0xD0 ∷ 0x15 ∷ byte ∷ replicate 39 0x20
 
--- Packet 8/22, row 22 of magazine 8: `Hi` in a box in the middle, with each box code sent twice.
+-- Packet 8/22, row 22 of magazine 8: `Hi` in a box in the middle, with options_with_bound box code
+-- sent twice.
 abbrev pub row_22 : List ℕ
 row_22 =
     (0x15 ∷ 0x9B ∷ [])
@@ -88,8 +89,8 @@ two_frames first second =
     record { frame = 900000; packets = first } ∷ record { frame = 900001; packets = second } ∷ []
 
 -- Options for page 888 with this repeat bound, and PTS 0 for frame 0.
-abbrev pub each : ℕ → OptionsValue
-each every =
+abbrev pub options_with_bound : ℕ → OptionsValue
+options_with_bound every =
     record {
       page = page_888;
       every = every;
@@ -136,7 +137,7 @@ ExampleOfGoodTransmission =
     Good (one_subtitle (0x48 ∷ 0x69 ∷ []))
     (two_frames (english_header ∷ row_22 ∷ closing_header ∷ []) (english_header ∷ closing_header ∷
     []))
-    (each 1)
+    (options_with_bound 1)
 
 -- ---- for each fault that matters to receivers, a transmission that fails at a receiver
 
@@ -164,11 +165,13 @@ pub record IsUnreportedExcept (number : ℕ) (g : Criteria) (frames : Transmissi
 -- number, and a receiver of the transmission has a wrong page.
 pub record IsRuleNeeded (number : ℕ) (transmission : Transmission) (every : ℕ) : Type 0 where
   pub others :
-      IsUnreportedExcept number (criteria_of no_subtitles (each every) None) transmission
+      IsUnreportedExcept number (criteria_of no_subtitles (options_with_bound every) None)
+      transmission
       (first_frame transmission) (last_frame transmission)
-  pub not_robust : Robust no_subtitles transmission (each every) → ⊥
+  pub not_robust : Robust no_subtitles transmission (options_with_bound every) → ⊥
   pub not_trusted :
-      RecoversWithin Storing no_subtitles transmission (each every) (first_frame transmission)
+      RecoversWithin Storing no_subtitles transmission (options_with_bound every)
+      (first_frame transmission)
       (last_frame transmission)
       → ⊥
 
@@ -243,8 +246,9 @@ transmission_damaged_first =
 -- frame 900001, with at most one wrong bit in each byte and any earlier state, has the code of `H`
 -- in the right cell, or a space if its byte was received wrong.
 pub record ExampleOfCleanFrames : Type 0 where
-  pub refused : Good later_subtitle transmission_damaged_first (each 1) → ⊥
-  pub clean : IsUnreported (criteria_of later_subtitle (each 1) None) transmission_damaged_first
+  pub refused : Good later_subtitle transmission_damaged_first (options_with_bound 1) → ⊥
+  pub clean : IsUnreported (criteria_of later_subtitle (options_with_bound 1) None)
+      transmission_damaged_first
       900001 900002
   pub receiver_state :
       (got : List (List ℕ)) (old new : State)

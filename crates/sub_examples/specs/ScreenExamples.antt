@@ -7,7 +7,8 @@ use Rattle.ttx_page.specs.Screen.{Display, Shows}
 use Rattle.stl_rows.specs.Programme.{ProgrammeValue}
 use Rattle.sub_plan.specs.Options.{OptionsValue}
 use Rattle.sub_plan.specs.Examples.{page_888}
-use Rattle.sub_examples.specs.Examples.{english_header, row_22, closing_header, one_frame, each}
+use Rattle.sub_examples.specs.Examples.{english_header, row_22, closing_header, one_frame}
+use Rattle.sub_examples.specs.Examples.{options_with_bound}
 use Rattle.sub_examples.specs.Examples.{no_subtitles}
 use Rattle.sub_rules.specs.Good.{Good}
 use Rattle.sub_laws.specs.OnScreen.{Complete, ShownWithin}
@@ -62,4 +63,5 @@ pub record IsReceivedButNotShown
 -- A header without packets after it is a good transmission, but some receivers do not show its
 -- page.
 abbrev pub ExampleOfUnendedPage : Type 0
-ExampleOfUnendedPage = IsReceivedButNotShown no_subtitles (one_frame (english_header ∷ [])) (each 1)
+ExampleOfUnendedPage =
+    IsReceivedButNotShown no_subtitles (one_frame (english_header ∷ [])) (options_with_bound 1)

@@ -1,4 +1,4 @@
--- Examples of clean frames: which frames are reported as `trusted`, and before which events. The
+-- Examples of trusted frames: which frames are reported as `trusted`, and before which events. The
 -- files have PES packets for frames 0 and 50.
 use Rattle.std.specs.Prelude.{◌≡◌, ℕ, ◌++◌, true, false, List, [], ◌∷◌, Some, None}
 use Rattle.ttx_pes.specs.declared.fault.PesFault.TheVariants.{DataId, Truncated}
@@ -21,7 +21,7 @@ steps_of_good_frame pes f = AtPes pes ∷ Begins f ∷ Ends f true true ∷ []
 abbrev pub over : ℕ → List CheckStep
 over pes = AtPes pes ∷ Closes false false ∷ []
 
--- One example for each kind of event: the steps, and the reported events with the clean frames.
+-- One example for each kind of event: the steps, and the reported events with the trusted frames.
 pub record ExamplesOfTrustedFrames : Type 0 where
   -- If there are no faults, no frame is reported as `trusted`, since nothing is reported.
   pub nothing : AreReportedEvents [] (steps_of_good_frame 0 0 ++ steps_of_good_frame 1 50 ++ over 2)

@@ -25,7 +25,7 @@ pub fn example_of_clean_frames()
     ensures { ExampleOfCleanFrames }
 {}
 
-/// Examples of clean frames: which frames are reported as `trusted`, and before which events.
+/// Examples of trusted frames: which frames are reported as `trusted`, and before which events.
 #[tactic(auto, using(crate::proofs::TrustedFramesExample::examples_of_trusted_frames))]
 pub fn examples_of_trusted_frames()
     ensures { ExamplesOfTrustedFrames }

@@ -3,6 +3,8 @@
 //! No contract covers the messages; they do not affect any result.
 ghost use Rattle.std.specs.Prelude.{None};
 
+use crate::input_kind::{InputKind, input_kind_of};
+use std::cell::Cell;
 use std::fs::{Metadata, OpenFile};
 use std::io;
 use std::io::{ErrorKind, Read, Write};
@@ -14,6 +16,8 @@ pub struct ErrorReporter<'a, T, E> {
     name: &'a str,
     errors: &'a E,
     is_standard_output: bool,
+    // Receives the format of the file at the first read.
+    kind: Option<&'a Cell<InputKind>>,
 }
 
 impl<'a, T, E: Eprint> ErrorReporter<'a, T, E> {
@@ -24,6 +28,19 @@ impl<'a, T, E: Eprint> ErrorReporter<'a, T, E> {
             name,
             errors,
             is_standard_output: false,
+            kind: None,
+        }
+    }
+
+    /// Creates a reporter for an input, and stores its format in `kind` when the first bytes are
+    /// read.
+    pub fn input(inner: T, name: &'a str, errors: &'a E, kind: &'a Cell<InputKind>) -> Self {
+        ErrorReporter {
+            inner,
+            name,
+            errors,
+            is_standard_output: false,
+            kind: Some(kind),
         }
     }
 
@@ -32,17 +49,28 @@ impl<'a, T, E: Eprint> ErrorReporter<'a, T, E> {
     pub fn standard_output(inner: T, errors: &'a E) -> Self {
         ErrorReporter {
             inner,
-            name: "standard output",
+            name: "",
             errors,
             is_standard_output: true,
+            kind: None,
         }
     }
 
     // Prints which operation of the device failed, and the reason.
     fn explain(&self, what: &str, error: &io::Error) {
-        if !self.is_standard_output || error.kind() != ErrorKind::BrokenPipe {
+        if !self.is_standard_output {
             explain(self.errors, what, self.name, error);
+        } else if error.kind() != ErrorKind::BrokenPipe {
+            let _ = eprintln!(self.errors; "subttx: cannot {what} standard output: {error}");
         }
+    }
+}
+
+// Returns the first bytes of a buffer; all bytes if it has fewer.
+fn first_bytes(bytes: &[u8], count: usize) -> &[u8] {
+    match bytes.split_at_checked(count) {
+        Some((first, _)) => first,
+        None => bytes,
     }
 }
 
@@ -56,8 +84,13 @@ impl<T: Read, E: Eprint> Read for ErrorReporter<'_, T, E> {
 
     fn read(&mut self, to: &mut [u8]) -> io::Result<usize> {
         let answer = self.inner.read(to);
-        if let Err(error) = &answer {
-            self.explain("read", error);
+        match &answer {
+            Ok(count) => {
+                if let Some(kind) = self.kind.take() {
+                    kind.set(input_kind_of(first_bytes(to, *count)));
+                }
+            }
+            Err(error) => self.explain("read", error),
         }
         answer
     }

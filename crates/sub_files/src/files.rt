@@ -110,6 +110,19 @@ pub struct LookupResults {
     pub standard_output: LookupResult,
 }
 
+// Returns the reason why an output that may be the input is not created. `None` if a file could not
+// be looked up, since the reason was already printed.
+fn reason_for_refusal(found: LookupResults) -> Option<&'static str> {
+    match found.output {
+        LookupResult::Unknown => None,
+        LookupResult::Nothing | LookupResult::At(..) => match found.input {
+            LookupResult::Unknown => None,
+            LookupResult::Nothing => Some("the file that is read was removed"),
+            LookupResult::At(..) => Some("it is the file that is read"),
+        },
+    }
+}
+
 /// Creates a file for writing, if the lookups show that this empties neither the input nor the file
 /// that receives standard output. Otherwise returns `None` without a call.
 pub fn create_distinct_file<D: FileSystem>(
@@ -124,7 +137,9 @@ pub fn create_distinct_file<D: FileSystem>(
         → (result ≡ None) × (files.new ≡ files.old) }
 {
     if !differs_from_input(found.input, found.output) {
-        files.refuse(output.name(), "it is the file that is read");
+        if let Some(reason) = reason_for_refusal(found) {
+            files.refuse(output.name(), reason);
+        }
         return None;
     }
     if !differs_from_standard_output(found.standard_output, found.output) {

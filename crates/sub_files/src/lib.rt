@@ -5,7 +5,7 @@
 //! writes the opened files.
 //!
 //! ```text
-//! open(&mut SystemFiles::new(rt, &mut names), &request.files()); // Opened::ReadStl: film.stl
+//! open(&mut SystemFiles::new(rt, &mut names, ..), &request.files()); // Opened::ReadStl: film.stl
 //! ```
 #![tactic(auto)]
 
@@ -14,8 +14,10 @@ mod distinct_files;
 mod error_reporter;
 mod file_system;
 mod files;
+mod input_kind;
 mod memory;
 mod opening;
+mod standard_streams;
 mod system;
 
 pub use checked_file::{CheckedFile, SizeLookup};
@@ -23,6 +25,8 @@ pub use distinct_files::LookupResult;
 pub use error_reporter::ErrorReporter;
 pub use file_system::FileSystem;
 pub use files::{CreatedFile, PesFile, StlFile};
+pub use input_kind::{InputKind, InputKinds, explain_refusal, input_kind_of};
 pub use memory::{MemFile, MemFiles};
 pub use opening::{BUFFER_SIZE, OpenedFiles, open, required_buffer_size, room};
+pub use standard_streams::{StreamInPlace, occupy_closed_stream};
 pub use system::{NAMES_CAPACITY, SystemFiles};

@@ -7,9 +7,11 @@ use crate::checked_file::{CheckedFile, SizeLookup};
 use crate::distinct_files::LookupResult;
 use crate::error_reporter::{ErrorReporter, explain};
 use crate::file_system::FileSystem;
+use crate::input_kind::{InputKind, InputKinds};
+use std::cell::Cell;
 use std::fs::{Metadata, OpenFile};
 use std::io::{ErrorKind, Write};
-use std::os::unix::fs::MetadataExt;
+use std::os::unix::fs::{FileTypeExt, MetadataExt};
 use std::path::Path;
 use std::rt::Files;
 use std::{fs, io, str};
@@ -30,15 +32,51 @@ pub struct SystemFiles<'a, R> {
     rt: &'a R,
     // The memory in which the names of open files are stored.
     names: Option<&'a mut [u8]>,
+    // Receives the formats of the opened files.
+    kinds: &'a InputKinds,
+    // The number of opened files.
+    opened: u8,
+    // The folder in the place of closed standard streams; `Nothing` if none is closed.
+    closed_stream: LookupResult,
 }
 
 impl<'a, R: Files + Eprint> SystemFiles<'a, R> {
     /// Creates a device for the files that this runtime opens. `names` provides `NAMES_CAPACITY`
-    /// bytes for the names of the files.
-    pub fn new(rt: &'a R, names: &'a mut [u8]) -> Self {
+    /// bytes for the names of the files, and `kinds` receives their formats. A name that leads to
+    /// `closed_stream`, the folder in the place of closed standard streams, is not opened.
+    pub fn new(
+        rt: &'a R,
+        names: &'a mut [u8],
+        kinds: &'a InputKinds,
+        closed_stream: LookupResult,
+    ) -> Self {
         SystemFiles {
             rt,
             names: Some(names),
+            kinds,
+            opened: 0,
+            closed_stream,
+        }
+    }
+
+    // Returns whether a name leads to a standard stream that is closed.
+    fn is_closed_stream(&self, name: &str) -> bool {
+        match self.closed_stream {
+            LookupResult::At(device, inode) => match fs::metadata(self.rt, name) {
+                Ok(found_file) => found_file.dev() == device && found_file.ino() == inode,
+                Err(_) => false,
+            },
+            LookupResult::Nothing | LookupResult::Unknown => false,
+        }
+    }
+
+    // Returns where the format of the next opened file is stored.
+    fn next_kind(&mut self) -> &'a Cell<InputKind> {
+        self.opened = self.opened.saturating_add(1);
+        if self.opened == 1 {
+            &self.kinds.first
+        } else {
+            &self.kinds.second
         }
     }
 
@@ -74,7 +112,7 @@ impl<'a, R: Files + Eprint> FileSystem for SystemFiles<'a, R> {
 
     fn look_up_standard_output(&mut self) -> LookupResult {
         match fs::metadata(self.rt, STANDARD_OUTPUT) {
-            Ok(found_file) if found_file.is_file() => LookupResult::At(
+            Ok(found_file) if !is_memory_device(&found_file) => LookupResult::At(
                 found_file.dev(),
                 found_file.ino(),
             ),
@@ -83,11 +121,16 @@ impl<'a, R: Files + Eprint> FileSystem for SystemFiles<'a, R> {
     }
 
     fn open(&mut self, name: &str) -> Option<FromRead<ErrorReporter<'a, R::File, R>>> {
+        if self.is_closed_stream(name) {
+            let _ = eprintln!(self.rt; "subttx: cannot open {name:?}: the stream is closed");
+            return None;
+        }
         match fs::open(self.rt, name) {
             Ok(file) => {
                 let name = self.keep(name)?;
+                let kind = self.next_kind();
                 let rt = self.rt;
-                Some(FromRead::new(ErrorReporter::new(file, name, rt)))
+                Some(FromRead::new(ErrorReporter::input(file, name, rt, kind)))
             }
             Err(error) => {
                 explain(self.rt, "open", name, &error);
@@ -133,6 +176,13 @@ impl<'a, R: Files + Eprint> FileSystem for SystemFiles<'a, R> {
     }
 }
 
+// Returns whether a file is a device of the main memory, such as `/dev/null`: it keeps nothing, so
+// standard output and an output file may share it.
+fn is_memory_device(file: &Metadata) -> bool {
+    // The lowest 8 bits are the minor number, and Linux gives the major number 1 to these devices.
+    file.file_type().is_char_device() && file.rdev() >> 8 == 1
+}
+
 // Converts the result of a lookup. Only the error `NotFound` means that no file has this name.
 fn lookup_result_from_metadata(looked_up: io::Result<Metadata>) -> LookupResult
     ensures found_file { IfOk looked_up (λ _. is_file_found result ≡ true) }
@@ -169,7 +219,7 @@ impl<R: Files + Eprint> SizeLookup for SystemSizeLookup<'_, R> {
             return true;
         }
         match file_length(self.rt, self.name) {
-            Ok(found) if found == length => is_folder_stored(self.rt, self.name),
+            Ok(found) if found == length => store_folder(self.rt, self.name),
             Ok(found) => {
                 let name = self.name;
                 let _ = eprintln!(self.rt;
@@ -203,7 +253,7 @@ fn file_length<R: Files>(rt: &R, name: &str) -> io::Result<u64> {
 
 // Synchronises the folder of a file to disk. Returns `true` if the folder can't be opened for lack
 // of permission, because it can't be synchronised then.
-fn is_folder_stored<R: Files + Eprint>(rt: &R, name: &str) -> bool {
+fn store_folder<R: Files + Eprint>(rt: &R, name: &str) -> bool {
     let folder = match Path::new(name).parent() {
         Some(folder) if !folder.as_str().is_empty() => folder.as_str(),
         _ => ".",

@@ -36,7 +36,7 @@ use Rattle.sub_words.specs.Version.{requests_version}
 use Rattle.sub_headline.specs.PlainOptions.{CheckOption, LawOfChosenArguments, with_check_option}
 use Rattle.sub_headline.specs.PlainOptions.{arguments_of_check_option}
 use Rattle.sub_headline.specs.RecordingOptions.{LawOfPartArguments, RecordingOption, Reading}
-use Rattle.sub_headline.specs.RecordingOptions.{read_by}
+use Rattle.sub_headline.specs.RecordingOptions.{with_recording_option}
 use Rattle.sub_headline.specs.RecordingOptions.{reading_of}
 use Rattle.sub_headline.specs.DrawnOptions.{LawOfDisplayArguments, DisplayOption, DisplayOptions}
 use Rattle.sub_headline.specs.DrawnOptions.{with_display_option, display_options_of}
@@ -725,9 +725,11 @@ arguments_of_parts (part ∷ parts) = ap (λ (ws : List Text). arguments_of_reco
     (arguments_of_parts parts)
 
 pub display_of_parts : (l : DisplayOptions) (parts : List RecordingOption)
-    → fold with_display_option l (map Of parts) ≡ with_reading l (fold read_by l.reading parts)
+    → fold with_display_option l (map Of parts)
+    ≡ with_reading l (fold with_recording_option l.reading parts)
 display_of_parts l [] = refl
-display_of_parts l (part ∷ parts) = display_of_parts (with_reading l (read_by l.reading part)) parts
+display_of_parts l (part ∷ parts) =
+    display_of_parts (with_reading l (with_recording_option l.reading part)) parts
 
 pub law_of_part_arguments : LawOfPartArguments
 law_of_part_arguments program stl pes parts request is_stl is_pes asks =
@@ -756,7 +758,8 @@ choices_keep_arguments (choice ∷ choices) =
     ap (λ (ws : List Text). arguments_of_check_option choice ++ ws) (choices_keep_arguments choices)
 
 pub choices_keep_reading : (r : Reading) (choices : List CheckOption)
-    → fold read_by r (map Any choices) ≡ with_options r (fold with_check_option r.options choices)
+    → fold with_recording_option r (map Any choices)
+    ≡ with_options r (fold with_check_option r.options choices)
 choices_keep_reading r [] = refl
 choices_keep_reading r (choice ∷ choices) = choices_keep_reading
     (with_options r (with_check_option r.options choice)) choices

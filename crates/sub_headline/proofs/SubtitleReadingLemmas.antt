@@ -15,7 +15,7 @@ use Rattle.stl_file.specs.SubtitleBlocks.{AreBlocksOf, AreLinked, AreOutside, Is
 use Rattle.stl_file.specs.TimeCode.{frame_from_bytes, is_valid_time_field}
 use Rattle.stl_file.specs.Tti.{cf, ebn, is_subtitle_block, tci, text_of_block}
 use Rattle.stl_file.proofs.ScopeLemmas.{whole_scope_keeps_all_groups}
-use Rattle.sub_headline.specs.PlainReading.{groups_of_blocks, is_subtitle_load_fault}
+use Rattle.sub_headline.specs.PlainReading.{groups_of_blocks, belongs_to_subtitle}
 use Rattle.sub_headline.specs.PlainReading.{chunks_of_size, subtitle_of_blocks}
 use Rattle.sub_headline.specs.PlainReading.{begins_in, subtitles_by_place, subtitles_within}
 use Rattle.sub_headline.specs.PlainReading.{frame_of_time_code}
@@ -49,7 +49,7 @@ filters_agree_by_test : (is : Bool) (b : List ℕ) (bs : List (List ℕ))
     → is_subtitle_block b ≡ is
     → AllByRecursion IsNoComment (if is then b ∷ filter is_subtitle_block bs else filter
     is_subtitle_block bs)
-    → (is_subtitle_load_fault b ≡ is) × AllByRecursion IsNoComment (filter is_subtitle_block bs)
+    → (belongs_to_subtitle b ≡ is) × AllByRecursion IsNoComment (filter is_subtitle_block bs)
 filters_agree_by_test true b bs is none = (
   kept_block_is_of_subtitle (ebn b) (cf b) none.0 is,
   none.1,
@@ -61,7 +61,7 @@ filters_agree_by_test false b bs is none = (
 
 filters_agree_without_comments : (bs : List (List ℕ))
     → AllByRecursion IsNoComment (filter is_subtitle_block bs)
-    → filter is_subtitle_load_fault bs ≡ filter is_subtitle_block bs
+    → filter belongs_to_subtitle bs ≡ filter is_subtitle_block bs
 filters_agree_without_comments [] none = refl
 filters_agree_without_comments (b ∷ bs) none =
     let by = filters_agree_by_test (is_subtitle_block b) b bs refl none in rw

@@ -11,7 +11,8 @@ use Rattle.stl_rows.specs.declared.national.National.TheVariants.{English}
 use Rattle.sub_request.specs.declared.request.Request.{Request}
 use Rattle.sub_words.specs.Requests.{Requested, IsRequestOf, value_of_request}
 use Rattle.sub_headline.specs.PlainArguments.{IsName}
-use Rattle.sub_headline.specs.RecordingOptions.{RecordingOption, Reading, read_by, reading_of}
+use Rattle.sub_headline.specs.RecordingOptions.{RecordingOption, Reading, with_recording_option}
+use Rattle.sub_headline.specs.RecordingOptions.{reading_of}
 use Rattle.sub_headline.specs.RecordingOptions.{requested_recording}
 use Rattle.sub_headline.specs.RecordingOptions.{arguments_of_recording_option}
 
@@ -45,7 +46,7 @@ pub record DisplayOptions : Type 0 where
 abbrev pub with_display_option : DisplayOptions → DisplayOption → DisplayOptions
 with_display_option l (Letters text national name is) = record l { national = national }
 with_display_option l (Lines text layout name is) = record l { layout = layout }
-with_display_option l (Of part) = record l { reading = read_by l.reading part }
+with_display_option l (Of part) = record l { reading = with_recording_option l.reading part }
 
 -- The settings for a list of options. By default, subtitles are drawn with the English national
 -- option and the default layout.

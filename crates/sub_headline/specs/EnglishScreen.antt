@@ -19,7 +19,8 @@ space_character = 0x20
 
 -- The character of a cell with this code (EN 300 706, Latin G0 set, Table 35, with the English
 -- national option sub-set, Table 36): the same number, except at the places of the sub-set. A
--- spacing attribute is shown as a space.
+-- spacing attribute is shown as a space. Receivers that are set to region 0000 or 0010 have this
+-- sub-set for C12, C13 and C14 clear; in another region, some of these codes are other characters.
 unfoldable pub english_character : ℕ → ℕ
 english_character code =
     if nat_lt code 0x20 then space_character

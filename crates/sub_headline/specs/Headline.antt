@@ -139,7 +139,8 @@ ImpliesRecordingHeadline given files code =
     (frames_by_place r.options.origin (bytes_selected r bytes)))
 
 -- Further receivers also have the expected page: receivers that drop damaged rows, and receivers
--- that wait for complete pages; and the screens of all receivers show its characters.
+-- that wait for complete pages; and the screens of all receivers that are set to region 0000 or
+-- 0010 show its characters.
 pub record ServesOtherReceivers
     (o : OptionsValue) (subtitles : List SubtitleValue) (transmission : Transmission)
     : Type 0 where

@@ -71,8 +71,8 @@ frames_by_place origin bytes = map (frame_of_pes_packet origin) (packets_by_size
 
 -- The block belongs to a subtitle (EBU Tech 3264, TTI block): it is not user data (EBN, byte 3, is
 -- FE) and not a comment (CF, byte 15, is 01).
-abbrev pub is_subtitle_load_fault : List ℕ → Bool
-is_subtitle_load_fault b = not ((slice_index b 3 == 0xFE) || (slice_index b 15 == 0x01))
+abbrev pub belongs_to_subtitle : List ℕ → Bool
+belongs_to_subtitle b = not ((slice_index b 3 == 0xFE) || (slice_index b 15 == 0x01))
 
 -- The blocks grouped by subtitle: EBN, byte 3, is FF in the last block of each subtitle.
 abbrev pub groups_of_blocks : List (List ℕ) → List (List (List ℕ))
@@ -108,7 +108,7 @@ subtitle_of_blocks group =
 abbrev pub subtitles_by_place : List ℕ → List SubtitleValue
 subtitles_by_place bytes =
     map subtitle_of_blocks
-    (groups_of_blocks (filter is_subtitle_load_fault (chunks_of_size 128 (drop 1024 bytes))))
+    (groups_of_blocks (filter belongs_to_subtitle (chunks_of_size 128 (drop 1024 bytes))))
 
 -- The TCI of the subtitle is in the selected part of the file.
 abbrev pub begins_in : Scope → SubtitleValue → Bool

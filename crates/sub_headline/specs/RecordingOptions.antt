@@ -9,7 +9,7 @@ use Rattle.mpeg_ts.specs.CarriedPackets.{carried_bytes}
 use Rattle.mpeg_ts.specs.PacketSize.{bytes_of}
 use Rattle.mpeg_ts.specs.declared.packet_size.PacketSize.{PacketSize}
 use Rattle.mpeg_ts.specs.declared.packet_size.PacketSize.TheVariants as packet_size
-use Rattle.ttx_pes.specs.PesPacketRange.{PesPacketRangeValue, in_range}
+use Rattle.ttx_pes.specs.PesPacketRange.{PesPacketRangeValue, range_bytes}
 use Rattle.stl_file.specs.Scope.{whole}
 use Rattle.stl_file.specs.declared.scope.Scope.{Scope}
 use Rattle.stl_rows.specs.Layout.{default_layout}
@@ -60,26 +60,26 @@ pub record Reading : Type 0 where
   pub scope : Scope
 
 -- The settings after one more option.
-abbrev pub read_by : Reading → RecordingOption → Reading
-read_by r (Pid text pid is) = record r { pid = Some pid }
-read_by r (Size text size is) = record r { size = size }
-read_by r (Numbers text range is) = record r { range = Some range }
-read_by r (From text frame name is) = record r {
+abbrev pub with_recording_option : Reading → RecordingOption → Reading
+with_recording_option r (Pid text pid is) = record r { pid = Some pid }
+with_recording_option r (Size text size is) = record r { size = size }
+with_recording_option r (Numbers text range is) = record r { range = Some range }
+with_recording_option r (From text frame name is) = record r {
   scope = record { takes_open = r.scope.takes_open; from = frame; to = r.scope.to };
 }
-read_by r (To text frame name is) = record r {
+with_recording_option r (To text frame name is) = record r {
   scope = record { takes_open = r.scope.takes_open; from = r.scope.from; to = frame };
 }
-read_by r IncludeOpen = record r {
+with_recording_option r IncludeOpen = record r {
   scope = record { takes_open = true; from = r.scope.from; to = r.scope.to };
 }
-read_by r (Any choice) = record r { options = with_check_option r.options choice }
+with_recording_option r (Any choice) = record r { options = with_check_option r.options choice }
 
 -- The settings for a list of options. By default, a complete PES file and a complete subtitle file
 -- are read with the default options.
 abbrev pub reading_of : List RecordingOption → Reading
 reading_of parts =
-    fold read_by
+    fold with_recording_option
     (record {
       options = default_options;
       pid = None;
@@ -98,7 +98,7 @@ bytes_carried_in_pid (Some pid) size bytes = carried_bytes pid (bytes_of size) b
 -- The bytes of the PES packets in a range, or all bytes if no range is given.
 abbrev pub pes_packets_in_range : Option PesPacketRangeValue → List ℕ → List ℕ
 pes_packets_in_range None bytes = bytes
-pes_packets_in_range (Some range) bytes = in_range range bytes
+pes_packets_in_range (Some range) bytes = range_bytes range bytes
 
 -- The bytes of the selected PES packets of a recording.
 abbrev pub bytes_selected : Reading → List ℕ → List ℕ

@@ -11,7 +11,7 @@ use Rattle.std.proofs.lemmas.List.{take-take, take_rest}
 use Rattle.std.proofs.Math.Seq.{take-append-add, take-length}
 use Rattle.std.proofs.lemmas.Option.{same_Some}
 use lib.Seq.{take-add, take-append-le, take-append_seam}
-use Rattle.sub_io.specs.Device.{AppendsPrefix, Fills, SkipsOver, Told, Writes}
+use Rattle.sub_io.specs.Device.{AppendsPrefix, Fills, SkipsOver, FillsFromKnown, Writes}
 use Rattle.sub_io.specs.Reading.{AreNextBytes, IfKnown}
 use Rattle.sub_io.specs.declared.source.Failed.{Failed}
 
@@ -66,12 +66,12 @@ Appends-more x y z a m n xs e p q =
 
 -- If the bytes of a source are known, filling a buffer from the source determines which bytes the
 -- source has left.
-pub Told-from_fills : (old new : Option (List ℕ)) (n : ℕ) (buffer : List ℕ)
+pub FillsFromKnown-from_fills : (old new : Option (List ℕ)) (n : ℕ) (buffer : List ℕ)
     → Fills old n new buffer
-    → IfKnown old (λ bytes. Told bytes n new buffer)
-Told-from_fills None new n buffer f bytes e = absurd cc
-Told-from_fills (Some xs) None n buffer f bytes e = absurd f.bytes
-Told-from_fills (Some xs) (Some ys) n buffer f bytes e =
+    → IfKnown old (λ bytes. FillsFromKnown bytes n new buffer)
+FillsFromKnown-from_fills None new n buffer f bytes e = absurd cc
+FillsFromKnown-from_fills (Some xs) None n buffer f bytes e = absurd f.bytes
+FillsFromKnown-from_fills (Some xs) (Some ys) n buffer f bytes e =
     record {
       rest = ys;
       parts = sym (same_Some xs bytes e) ∙ f.bytes;
@@ -79,11 +79,11 @@ Told-from_fills (Some xs) (Some ys) n buffer f bytes e =
       ended = f.end;
     }
 
-pub Told-from_result : (old new : Option (List ℕ)) (buffer : List ℕ) (r : Result ℕ Failed)
+pub FillsFromKnown-from_result : (old new : Option (List ℕ)) (buffer : List ℕ) (r : Result ℕ Failed)
     → IfOk r (λ n. Fills old n new buffer)
-    → IfKnown old (λ bytes. IfOk r (λ n. Told bytes n new buffer))
-Told-from_result old new buffer (Ok n) f = Told-from_fills old new n buffer f
-Told-from_result old new buffer (Err e) f = λ bytes is. tt
+    → IfKnown old (λ bytes. IfOk r (λ n. FillsFromKnown bytes n new buffer))
+FillsFromKnown-from_result old new buffer (Ok n) f = FillsFromKnown-from_fills old new n buffer f
+FillsFromKnown-from_result old new buffer (Err e) f = λ bytes is. tt
 
 -- If the first of two writes fails, the sink has taken a prefix of the bytes of both.
 pub AppendsPrefix-first : (old new : Option (List ℕ)) (xs ys : List ℕ)

@@ -4,7 +4,7 @@ use Rattle.std.proofs.Common.{Option, Some, None, refl, sym, ap, ◌∙◌}
 use Rattle.std.proofs.lemmas.List.{take-take}
 use Rattle.std.proofs.Math.Seq.{take-append_seam}
 use Rattle.std.specs.Io.KnownBytes.{Consumes}
-use Rattle.sub_io.specs.Requesting.{Requests, IsRequestAfterReading, requests_nothing}
+use Rattle.sub_io.specs.Requesting.{Requests, IsEnoughAfterReading, requests_nothing}
 use Rattle.sub_io.specs.Device.{SkipsOver}
 use Rattle.sub_io.specs.Reading.{AreNextBytes}
 
@@ -17,7 +17,7 @@ empty_read_requests_nothing IsPull borrowed remaining is_enough source =
 
 pub requests_shift_past_read_bytes : (taken : List ℕ) (old new : List ℕ → Bool)
     → ((bytes : List ℕ) → new bytes ≡ old (taken ++ bytes))
-    → IsRequestAfterReading taken old new
+    → IsEnoughAfterReading taken old new
 requests_shift_past_read_bytes taken old new same bytes is = same bytes ∙ is
 
 pub skipping_consumes_borrowed_prefix : (x y : Option (List ℕ)) (borrowed : List ℕ) (count : ℕ)

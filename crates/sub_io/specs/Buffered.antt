@@ -22,7 +22,8 @@ pub record BufferState (D : Type 0) : Type 0 where
 abbrev pub failures_with_refused_writes : ℕ → ℕ → ℕ
 failures_with_refused_writes failures refused = min (failures + refused) 0xFFFF_FFFF_FFFF_FFFF
 
--- A successful flush: the buffer is written to the inner sink, and no call fails.
+-- A successful flush: the buffer is empty afterwards, and the failure count is the same. Another
+-- clause of `flush` says that its bytes were written.
 pub record Flushes {D : Type 0} (failure_count : D → ℕ) (old new : BufferState D) : Type 0 where
   pub none : new.buffered ≡ []
   pub count :

@@ -14,7 +14,7 @@ call_answer (Err _) = None
 
 -- The default of `is_pull` and `is_push`: any effect of a call is allowed.
 abbrev pub unrestricted_call : {D L : Type 0} → D → L → Option ℕ → D → Type 0
-unrestricted_call old borrowed answer new = Unit {0}
+unrestricted_call old call_argument answer new = Unit {0}
 
 -- ---- the calls of `fill`
 
@@ -81,32 +81,32 @@ pub record PutsByPushes
 -- device, and every other call is forwarded unchanged.
 pub record Forwards
     {D L : Type 0} (IsCall : D → L → Option ℕ → D → Type 0)
-    (old : CountingDown D) (borrowed : L) (answer : Option ℕ) (new : CountingDown D)
+    (old : CountingDown D) (call_argument : L) (answer : Option ℕ) (new : CountingDown D)
     : Type 0 where
   pub fails : fails_next old.left ≡ true → (answer ≡ None) × (new.device ≡ old.device)
-  pub skipped : fails_next old.left ≡ false → IsCall old.device borrowed answer new.device
+  pub forwarded : fails_next old.left ≡ false → IsCall old.device call_argument answer new.device
   pub left : new.left ≡ countdown_after old.left
 
--- A pull of `borrowed` bytes from a buffered source.
+-- A pull of `count` bytes from a buffered source.
 pub record ReadsAhead
     {D : Type 0} (IsPull : D → ℕ → Option ℕ → D → Type 0)
-    (old : ReadAhead D) (borrowed : ℕ) (answer : Option ℕ) (new : ReadAhead D)
+    (old : ReadAhead D) (count : ℕ) (answer : Option ℕ) (new : ReadAhead D)
     : Type 0 where
   -- If bytes are buffered, the pull does not call the inner source.
   pub buffered : old.buffered ≢ [] → new.device ≡ old.device
   -- If no bytes are buffered, a pull of at least the buffer's size is forwarded to the inner
   -- source.
-  pub reads_device_directly : old.buffered ≡ [] → old.room ≤ borrowed → IsPull old.device borrowed
+  pub reads_device_directly : old.buffered ≡ [] → old.room ≤ count → IsPull old.device count
       answer
       new.device
   -- If no bytes are buffered, a pull shorter than the buffer requests as many bytes as the buffer
   -- holds from the inner source, once.
   pub ahead :
       old.buffered ≡ []
-      → borrowed < old.room
+      → count < old.room
       → (got : Option ℕ)
       × IsPull old.device old.room got new.device
-      × (answer ≡ option_map (λ n. min n borrowed) got)
+      × (answer ≡ option_map (λ n. min n count) got)
 
 -- `left` is `bytes` without some prefix.
 abbrev pub AreRemainderOf : List ℕ → List ℕ → Type 0
@@ -129,7 +129,7 @@ pub record FlushesFull
   pub flushed : PutsByPushes IsPush old.device old.buffered ok mid
   pub failed :
       ok ≡ false → (answer ≡ None) × (new.device ≡ mid) × AreRemainderOf old.buffered new.buffered
-  pub reads_device_directly :
+  pub writes_device_directly :
       ok ≡ true
       → old.room ≤ length bytes
       → IsPush mid bytes answer new.device × (new.buffered ≡ [])
@@ -155,7 +155,7 @@ pub record PushesBuffered
       → length old.buffered < old.room
       → (old.buffered ≢ []) ⊎ (length bytes < old.room)
       → (new.device ≡ old.device) × (new.buffered ≡ old.buffered ++ accepted_prefix bytes answer)
-  pub reads_device_directly :
+  pub writes_device_directly :
       old.failed ≡ false
       → old.buffered ≡ []
       → old.room ≤ length bytes

@@ -65,7 +65,7 @@ pub record Fills
 
 -- The first n of the known bytes of a source are at the front of the buffer, and the other bytes
 -- remain in the source.
-pub record Told
+pub record FillsFromKnown
     (bytes : List ℕ) (n : ℕ) (new : Option (List ℕ)) (buffer : List ℕ) : Type 0 where
   pub rest : List ℕ
   pub parts : bytes ≡ take n buffer ++ rest

@@ -14,8 +14,8 @@ MayRequest is_enough borrowed count =
 
 -- How the predicate `is_enough` changes when the reader consumes the bytes `taken`: the new
 -- predicate is true for some bytes if the old one is true for `taken` followed by these bytes.
-abbrev pub IsRequestAfterReading : List ℕ → (List ℕ → Bool) → (List ℕ → Bool) → Type 0
-IsRequestAfterReading taken old new =
+abbrev pub IsEnoughAfterReading : List ℕ → (List ℕ → Bool) → (List ℕ → Bool) → Type 0
+IsEnoughAfterReading taken old new =
     (bytes : List ℕ) → old (taken ++ bytes) ≡ true → new bytes ≡ true
 
 -- Calls of a source that request no more bytes than the reader needs. The arguments are the
@@ -27,7 +27,7 @@ pub data Requests {D : Type 0} (IsPull : D → ℕ → Option ℕ → D → Type
   -- No call was made.
   requests_nothing :
       (old new : List ℕ → Bool) (source : D)
-      → IsRequestAfterReading [] old new
+      → IsEnoughAfterReading [] old new
       → Requests IsPull borrowed remaining old source true new source
   -- One call was made, and returned the bytes `taken`.
   requests_once :
@@ -35,7 +35,7 @@ pub data Requests {D : Type 0} (IsPull : D → ℕ → Option ℕ → D → Type
       → MayRequest old (borrowed before) count
       → IsPull before count (Some (length taken)) after
       → Consumes (remaining before) (remaining after) taken
-      → IsRequestAfterReading taken old new
+      → IsEnoughAfterReading taken old new
       → Requests IsPull borrowed remaining old before true new after
   -- One call was made, and failed.
   requests_in_vain :

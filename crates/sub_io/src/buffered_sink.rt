@@ -153,7 +153,7 @@ impl<K: Sink> Sink for BufferedSink<'_, K> {
         ensures refused { self.old.failed ≡ true → IsErr result
             × (self.new ≡ record self.old { refused = self.old.refused + 1 }) }
         // Until the inner sink fails, no call is refused, so only its failures are counted.
-        ensures requested { self.old.failed ≡ false → (self.new.refused ≡ self.old.refused)
+        ensures inner_failures { self.old.failed ≡ false → (self.new.refused ≡ self.old.refused)
             × CountsFailure
             (K.failure_count self.old.device) result (K.failure_count self.new.device) }
         ensures failed { IsErr result ↔ (self.new.failed ≡ true) }
@@ -166,7 +166,7 @@ impl<K: Sink> Sink for BufferedSink<'_, K> {
             × IfOk result (λ n. self.new.buffered ≡ self.old.buffered ++ take n from.now) }
         // A push of at least the buffer's size goes directly to the inner sink if the buffer is
         // empty.
-        ensures reads_device_directly { self.old.failed ≡ false
+        ensures writes_device_directly { self.old.failed ≡ false
             → self.old.buffered ≡ []
             → self.old.room ≤ length from.now
             → (self.new.buffered ≡ [])
@@ -221,7 +221,7 @@ impl<K: Sink> Flush for BufferedSink<'_, K> {
         ensures refused { self.old.failed ≡ true → IsErr result
             × (self.new ≡ record self.old { refused = self.old.refused + 1 }) }
         // Until the inner sink fails, no call is refused, so only its failures are counted.
-        ensures requested { self.old.failed ≡ false → (self.new.refused ≡ self.old.refused)
+        ensures inner_failures { self.old.failed ≡ false → (self.new.refused ≡ self.old.refused)
             × CountsFailure
             (K.failure_count self.old.device) result (K.failure_count self.new.device) }
         ensures failed { IsErr result ↔ (self.new.failed ≡ true) }

@@ -142,7 +142,7 @@ impl<S: Source> Source for BufferedSource<'_, S> {
             × IfOk result (λ n. self.old.buffered ≡ take n to.new ++ self.new.buffered) }
         // If the buffer is empty, the bytes that the inner source returns are returned or buffered.
         // After a failure the buffer is empty.
-        ensures requested { self.old.buffered ≡ [] → IfOk result (λ n. Consumes
+        ensures consumes_inner { self.old.buffered ≡ [] → IfOk result (λ n. Consumes
             (S.remaining self.old.device) (S.remaining self.new.device)
             (take n to.new ++ self.new.buffered)) }
         ensures err { OnErr result ((self.old.buffered ≡ []) × (self.new.buffered ≡ [])) }

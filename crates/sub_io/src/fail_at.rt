@@ -91,7 +91,7 @@ impl<S: Source> Source for FailAt<S> {
         // The failing call does nothing, every other call is forwarded, and all calls are counted.
         ensures fails { fails_next self.old.left ≡ true →
             IsErr result × (self.new.device ≡ self.old.device) × (to.new ≡ to.old) }
-        ensures skipped { fails_next self.old.left ≡ false → CountsFailure
+        ensures forwarded { fails_next self.old.left ≡ false → CountsFailure
             (S.failure_count self.old.device) result (S.failure_count self.new.device) }
         ensures left { self.new.left ≡ countdown_after self.old.left }
 
@@ -141,7 +141,7 @@ impl<K: Sink> Sink for FailAt<K> {
         // The failing call does nothing, every other call is forwarded, and all calls are counted.
         ensures fails { fails_next self.old.left ≡ true →
             IsErr result × (self.new.device ≡ self.old.device) }
-        ensures skipped { fails_next self.old.left ≡ false → CountsFailure
+        ensures forwarded { fails_next self.old.left ≡ false → CountsFailure
             (K.failure_count self.old.device) result (K.failure_count self.new.device) }
         ensures left { self.new.left ≡ countdown_after self.old.left }
 
@@ -182,7 +182,7 @@ impl<K: Flush> Flush for FailAt<K> {
         // The failing call does nothing, every other call is forwarded, and all calls are counted.
         ensures fails { fails_next self.old.left ≡ true →
             IsErr result × (self.new.device ≡ self.old.device) }
-        ensures skipped { fails_next self.old.left ≡ false → CountsFailure
+        ensures forwarded { fails_next self.old.left ≡ false → CountsFailure
             (K.failure_count self.old.device) result (K.failure_count self.new.device) }
         ensures left { self.new.left ≡ countdown_after self.old.left }
 
@@ -220,7 +220,7 @@ impl<K: Close> Close for FailAt<K> {
         // The failing call does nothing, every other call is forwarded, and all calls are counted.
         ensures fails { fails_next self.old.left ≡ true →
             IsErr result × (self.new.device ≡ self.old.device) }
-        ensures skipped { fails_next self.old.left ≡ false → CountsFailure
+        ensures forwarded { fails_next self.old.left ≡ false → CountsFailure
             (K.failure_count self.old.device) result (K.failure_count self.new.device) }
         ensures left { self.new.left ≡ countdown_after self.old.left }
 

@@ -5,7 +5,8 @@ ghost use Rattle.std.specs.Prelude.{IfOk, OnErr, Some, false, is_ok, true};
 ghost use Rattle.std.specs.Io.{ReadsAtMost};
 ghost use Rattle.std.specs.Io.KnownBytes.{Consumes, IsAtEnd, Keeps};
 ghost use Rattle.sub_io.specs.Calls.{FillsByPulls, call_answer, unrestricted_call};
-ghost use Rattle.sub_io.specs.Device.{CanFail, CountsFailure, Fills, SkipsOver, Pulls, Told};
+ghost use Rattle.sub_io.specs.Device.{CanFail, CountsFailure, Fills, SkipsOver, Pulls};
+ghost use Rattle.sub_io.specs.Device.{FillsFromKnown};
 ghost use Rattle.sub_io.specs.Borrowed.{AreBorrowedPrefix, PullsBorrowed, no_borrowed_bytes};
 ghost use Rattle.sub_io.specs.Reading.{AreBytes, AreNextBytes, IfKnown};
 
@@ -107,7 +108,7 @@ pub fn fill<S: Source>(source: &mut S, to: &mut [u8]) -> Result<usize, Failed>
     ensures fills { IfOk result (λ n.
         Fills (S.remaining source.old) n (S.remaining source.new) to.new) }
     ensures told { IfKnown (S.remaining source.old) (λ bytes.
-        IfOk result (λ n. Told bytes n (S.remaining source.new) to.new)) }
+        IfOk result (λ n. FillsFromKnown bytes n (S.remaining source.new) to.new)) }
     ensures fit { AreBytes to.new }
     ensures calls { FillsByPulls S.is_pull source.old (length to.old) (is_ok result) source.new }
     ensures err { OnErr result ((bytes : List ℕ) × (length bytes < length to.new)

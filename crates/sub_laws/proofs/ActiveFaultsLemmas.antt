@@ -25,7 +25,8 @@ use Rattle.sub_rules.specs.Events.{is_silent_for, latest_frame, is_undecided_wit
 use Rattle.sub_rules.specs.Events.{first_unexpected_cell_after}
 use Rattle.sub_rules.specs.Events.{unexpected_cell}
 use Rattle.sub_rules.specs.Events.{was_undecided}
-use Rattle.sub_rules.specs.FrameRules.{Criteria, HasHeader, HasRecentPageHeader, HasNoOpenPage}
+use Rattle.sub_rules.specs.FrameRules.{Criteria, HasHeader, HasRecentPageHeader}
+use Rattle.sub_rules.specs.FrameRules.{IsCompleteIfRequired}
 use Rattle.sub_rules.specs.FrameRules.{HasRecentPesPacket, ShowsDue}
 use Rattle.sub_rules.specs.FrameRules.{frame_at, packets_before}
 use Rattle.sub_rules.specs.Transmission.{SentFrame, Transmission}
@@ -302,7 +303,7 @@ module _ (g : Criteria) (frames : Transmission) (n f : ℕ) where
   unexpected_cell_of_decided_page known = rw known refl
 
   pub incomplete_test_is_exact_for_page : Decides (not (is_incomplete g frames n))
-      (HasNoOpenPage g frames n)
+      (IsCompleteIfRequired g frames n)
   unfolding is_incomplete
   incomplete_test_is_exact_for_page = grind (arith, nat_tests)
 

@@ -30,7 +30,7 @@ use Rattle.sub_rules.specs.Transmission.{Transmission, on_air_until}
 use Rattle.sub_rules.specs.WrongContent.{AreReadUpTo, IsWrongEverywhere}
 use Rattle.sub_rules.specs.declared.packet_rule.Watched.{Watched}
 use Rattle.sub_rules.proofs.PrefixEventLemmas.{is_late-prefix}
-use Rattle.sub_laws.specs.UnexpectedContent.{IsDifferentEverywhere}
+use Rattle.sub_laws.specs.UnexpectedContent.{IsNotRightOnAir}
 use Rattle.sub_laws.proofs.DelayLemmas.{law_of_right_cells}
 use Rattle.sub_laws.proofs.DueCodeLemmas.{MayShow, unexpected_cell_shows_no_expected_code}
 use Rattle.sub_laws.proofs.FrameByFrame.{IsReadTo}
@@ -194,7 +194,7 @@ module _ (programme : ProgrammeValue) (options : OptionsValue) (unread : Option 
         options.within x.0 x.1
     code_due_within_may_show h1 = grind (arith, nat_tests, first-same, frame_at-take)
 
-    pub content_fault_differs_everywhere : IsDifferentEverywhere programme options frames f x.0 x.1
+    pub content_fault_differs_everywhere : IsNotRightOnAir programme options frames f x.0 x.1
     content_fault_differs_everywhere = record {
       read = read;
       are_read = are_read;
@@ -224,7 +224,7 @@ module _ (programme : ProgrammeValue) (options : OptionsValue) (unread : Option 
 
 module _ (programme : ProgrammeValue) (options : OptionsValue) (frames : Transmission)
     (f row column : ℕ) (none : options.keeps ≡ false)
-    (different : IsDifferentEverywhere programme options frames f row column) where
+    (different : IsNotRightOnAir programme options frames f row column) where
   abbrev sent : List (List ℕ)
   sent = on_air_until different.read f
 

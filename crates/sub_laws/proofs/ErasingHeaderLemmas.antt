@@ -40,18 +40,18 @@ sufficient_of programme transmission options a b none at_once enough =
 -- complete.
 pub complete_unreported :
     (programme : ProgrammeValue) (transmission : Transmission) (options : OptionsValue)
-    → (unread : Option UnreadReason) (any_refused : Bool) (undecided : ℕ → Bool) (a b : ℕ)
+    → (unread : Option UnreadReason) (any_unreliable : Bool) (undecided : ℕ → Bool) (a b : ℕ)
     → options.within ≡ 0
-    → IsUnreported (criteria_with_refusals programme options unread any_refused undecided)
+    → IsUnreported (criteria_with_refusals programme options unread any_unreliable undecided)
     transmission a b
     → IsTrue options.asks_complete
-    → HasNoOpenEnd (criteria_with_refusals programme options unread any_refused undecided)
+    → HasNoOpenEnd (criteria_with_refusals programme options unread any_unreliable undecided)
     transmission a b
     → CompleteWithin transmission options a b
-complete_unreported programme transmission options unread any_refused undecided a b at_once
+complete_unreported programme transmission options unread any_unreliable undecided a b at_once
     unreported asks
     closed f low high holds =
-    let g = criteria_with_refusals programme options unread any_refused undecided in
+    let g = criteria_with_refusals programme options unread any_unreliable undecided in
     let end = frame_has_an_end transmission a b unreported.stretch unreported.rising f low high in
     let shut =
     ((active_faults_are_exact g transmission end.0 f at_once end.1.1).rules Incomplete).0
@@ -60,14 +60,14 @@ complete_unreported programme transmission options unread any_refused undecided 
     grind (arith, nat_tests)
 
 pub law_of_unreported_stretch : LawOfUnreportedStretch
-law_of_unreported_stretch programme transmission options unread any_refused undecided a b none
+law_of_unreported_stretch programme transmission options unread any_unreliable undecided a b none
     at_once
     unreported
     = (
       sufficient_of programme transmission options a b none at_once
-          (unreported_repeats_are_sufficient programme options unread any_refused undecided
+          (unreported_repeats_are_sufficient programme options unread any_unreliable undecided
           transmission a b
           unreported),
-      complete_unreported programme transmission options unread any_refused undecided a b at_once
+      complete_unreported programme transmission options unread any_unreliable undecided a b at_once
           unreported,
     )

@@ -34,10 +34,10 @@ pub absent_option_equals_none : {A : Type 0} (o : Option A) → is_some o ≡ fa
 absent_option_equals_none o e = grind (arith, nat_tests)
 
 module _ (programme : ProgrammeValue) (options : OptionsValue) (unread : Option UnreadReason)
-    (any_refused : Bool) (undecided : ℕ → Bool) (t : Transmission)
+    (any_unreliable : Bool) (undecided : ℕ → Bool) (t : Transmission)
     (rises : RiseTo t (length t)) where
   abbrev g : Criteria
-  g = criteria_with_refusals programme options unread any_refused undecided
+  g = criteria_with_refusals programme options unread any_unreliable undecided
 
   abbrev first : ℕ
   first = frame_at t 0

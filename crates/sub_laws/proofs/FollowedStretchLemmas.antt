@@ -13,7 +13,7 @@ use Rattle.ttx_page.proofs.TextStart.{sends-joined}
 use Rattle.sub_rules.specs.FrameRules.{frame_at, packets_before, packets_of_frame}
 use Rattle.sub_rules.specs.Transmission.{IsRising, Transmission, first_frame, on_air_until}
 use Rattle.sub_rules.specs.Transmission.{packets_between}
-use Rattle.sub_laws.specs.CleanStretch.{IsEnd, IsIntervalOfOnePage}
+use Rattle.sub_laws.specs.CleanStretch.{IsEnd, IsWithinTransmission}
 use Rattle.sub_laws.specs.Repeats.{LawOfFollowedStretch}
 use Rattle.sub_rules.proofs.FrameLists.{packets_before_appends_next_frame}
 use Rattle.sub_laws.proofs.GoodLemmas.{rising_frames_rise_at_each_index}
@@ -28,7 +28,7 @@ no_packets_send_no_text : (keeps : Bool) (page : PageIdValue) (text : ℕ → �
     page [] text
 no_packets_send_no_text keeps page text = grind (arith, nat_tests)
 
-module _ (transmission : Transmission) (a b : ℕ) (stretch : IsIntervalOfOnePage transmission a b)
+module _ (transmission : Transmission) (a b : ℕ) (stretch : IsWithinTransmission transmission a b)
     (rises : IsRising transmission) where
   pub rising : RiseTo transmission (length transmission)
   rising = rising_frames_rise_at_each_index transmission rises

@@ -119,7 +119,7 @@ judging_needs_used_blocks_only law drawing gsi blocks size each read =
 
 -- Functions with equal values are equal, so the criteria are equal.
 pub law_of_equal_reports : LawOfEqualReports
-law_of_equal_reports one other options unread pes_packets programme any_refused undecided =
+law_of_equal_reports one other options unread pes_packets programme any_unreliable undecided =
     ap
     (λ (p : ProgrammeValue).
     all_events_of_pes_packets (criteria_with_refusals p options unread (has_unreliable_subtitle one)
@@ -131,7 +131,7 @@ law_of_equal_reports one other options unread pes_packets programme any_refused 
     all_events_of_pes_packets (criteria_with_refusals other.programme options unread b
     (is_due_undecided one))
     pes_packets)
-    any_refused
+    any_unreliable
     ∙ ap
     (λ (u : ℕ → Bool).
     all_events_of_pes_packets

@@ -17,7 +17,7 @@ use Rattle.ttx_packet.specs.PageHeader.{c11, header, HasExactCodeWords}
 use Rattle.ttx_packet.specs.PageId.{PageIdValue}
 use Rattle.ttx_packet.specs.RowPacket.{HasOddText}
 use Rattle.ttx_page.specs.Page.{Rows, cell, IsCell, IsPage}
-use Rattle.ttx_page.specs.Noise.{IsOddRow, IsSameRow}
+use Rattle.ttx_page.specs.Noise.{IsOddRow, AreEqualInRow}
 use Rattle.ttx_page.specs.declared.packet_kind.PacketKind.TheVariants.{Row}
 use Rattle.ttx_page.specs.PacketKind.{kind}
 use Rattle.ttx_page.specs.Span.{has_page_header, has_no_page_end, span}
@@ -74,7 +74,7 @@ module _ (w : PageIdValue) (ok : IsWatchable w) where
 
   rows_are_the_same : (page : Rows) → IsPage page → (p q : List ℕ) → IsRowOf w page p → IsRowOf w
       page q
-      → IsSameRow w p q
+      → AreEqualInRow w p q
   rows_are_the_same page shape p q one other row k l =
       grind (
         arith,

@@ -32,7 +32,7 @@ abbrev Any : CheckFault → Type 0
 Any f = Unit {0}
 
 pub no_fault_means_no_broken_place : (g : Criteria) (frames : Transmission) → g.within ≡ 0
-    → (IsFalse g.any_refused
+    → (IsFalse g.any_unreliable
     → EachPacket IsPacket frames
     → first_reported_fault (all_events_of_pes_packets g (map Sent frames)) ≡ None
     → all_events_of_pes_packets g (map Sent frames) ≡ [])

@@ -37,13 +37,13 @@ not_false_is_true : (b : Bool) → not b ≡ false → b ≡ true
 not_false_is_true b h1 = grind (arith, nat_tests)
 
 module _ (programme : ProgrammeValue) (transmission : Transmission) (options : OptionsValue)
-    (unread : Option UnreadReason) (any_refused : Bool) (undecided : ℕ → Bool) (a b : ℕ)
+    (unread : Option UnreadReason) (any_unreliable : Bool) (undecided : ℕ → Bool) (a b : ℕ)
     (unreported :
-    IsUnreported (criteria_with_refusals programme options unread any_refused undecided)
+    IsUnreported (criteria_with_refusals programme options unread any_unreliable undecided)
     transmission a
     b) where
   abbrev g : Criteria
-  g = criteria_with_refusals programme options unread any_refused undecided
+  g = criteria_with_refusals programme options unread any_unreliable undecided
 
   kept : (r : PacketRule) → IsTrue (is_needed_by_receivers r) → (r ≡ rule.RowChanged → ⊥)
       → HoldsAtPackets (KeepsRule r g.watched) transmission a b

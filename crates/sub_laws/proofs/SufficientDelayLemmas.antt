@@ -63,12 +63,12 @@ pub record MeetsRequirementsAtEnds (g : Criteria) (t : Transmission) (a b : ℕ)
       → (is_late g t n f && is_incomplete g t n) ≡ false
 
 module _ (programme : ProgrammeValue) (options : OptionsValue) (unread : Option UnreadReason)
-    (any_refused : Bool) (undecided : ℕ → Bool) (t : Transmission) (a b : ℕ)
-    (still : IsFaultFreeBetween (criteria_with_refusals programme options unread any_refused
+    (any_unreliable : Bool) (undecided : ℕ → Bool) (t : Transmission) (a b : ℕ)
+    (still : IsFaultFreeBetween (criteria_with_refusals programme options unread any_unreliable
     undecided) t a b)
   where
     abbrev requested : Criteria
-    requested = criteria_with_refusals programme options unread any_refused undecided
+    requested = criteria_with_refusals programme options unread any_unreliable undecided
 
     pub known : (n f : ℕ) → IsEnd t n f → a ≤ f → f ≤ b → undecided f ≡ false
     known n f end low high = decided_range_includes_frame requested t n f (still.parts n f end low
@@ -80,7 +80,7 @@ module _ (programme : ProgrammeValue) (options : OptionsValue) (unread : Option 
         let first = still.from in
         let last = still.to in
         let (n, end) =
-        frame_end programme options unread any_refused undecided t still.up f still.some
+        frame_end programme options unread any_unreliable undecided t still.up f still.some
         (omega arith)
         (omega arith) in
         (n, end, end_is_on_air t still.up n f end)
@@ -145,12 +145,12 @@ module _ (programme : ProgrammeValue) (options : OptionsValue) (unread : Option 
         none) row column named)
 
 module _ (programme : ProgrammeValue) (options : OptionsValue) (unread : Option UnreadReason)
-    (any_refused : Bool) (undecided : ℕ → Bool) (t : Transmission) (a b : ℕ)
-    (holds : MeetsRequirementsAtEnds (criteria_with_refusals programme options unread any_refused
+    (any_unreliable : Bool) (undecided : ℕ → Bool) (t : Transmission) (a b : ℕ)
+    (holds : MeetsRequirementsAtEnds (criteria_with_refusals programme options unread any_unreliable
     undecided) t a b)
   where
     abbrev criteria : Criteria
-    criteria = criteria_with_refusals programme options unread any_refused undecided
+    criteria = criteria_with_refusals programme options unread any_unreliable undecided
 
     abbrev start : ℕ
     start = frame_at t 0
@@ -159,7 +159,7 @@ module _ (programme : ProgrammeValue) (options : OptionsValue) (unread : Option 
     up = holds.still.up
 
     due_known_at_end : (n f : ℕ) → IsEnd t n f → a ≤ f → f ≤ b → undecided f ≡ false
-    due_known_at_end = known programme options unread any_refused undecided t a b holds.still
+    due_known_at_end = known programme options unread any_unreliable undecided t a b holds.still
 
     pub calm : (n f : ℕ) → IsEnd t n f → a ≤ f → f ≤ b → is_late criteria t n f ≡ true
         → is_unfinished criteria t n f ≡ false
@@ -188,10 +188,10 @@ module _ (programme : ProgrammeValue) (options : OptionsValue) (unread : Option 
         let first = holds.still.from in
         let last = holds.still.to in
         let (n, end) =
-        frame_end programme options unread any_refused undecided t up e holds.still.some
+        frame_end programme options unread any_unreliable undecided t up e holds.still.some
         (omega arith)
         (omega arith) in
-        finished_frame_has_finished_page programme options unread any_refused undecided t up e
+        finished_frame_has_finished_page programme options unread any_unreliable undecided t up e
         holds.still.some
         (omega arith)
         (omega arith) (due_known_at_end n e end low high) finished
@@ -208,12 +208,13 @@ module _ (programme : ProgrammeValue) (options : OptionsValue) (unread : Option 
         let first = holds.still.from in
         let last = holds.still.to in
         let (n, end) =
-        frame_end programme options unread any_refused undecided t up f holds.still.some
+        frame_end programme options unread any_unreliable undecided t up f holds.still.some
         (omega arith)
         (omega arith) in
         let k : ℕ = f - start in
         let at : start + k ≡ f = omega arith in
-        let first_unfinished = first_unfinished_eq programme options unread any_refused undecided t
+        let first_unfinished =
+        first_unfinished_eq programme options unread any_unreliable undecided t
         up n f end in
         let (e, after, before, finished) =
         later_run_start_leaves_finished_frame (unfinished_at criteria t up) start from k
@@ -302,13 +303,13 @@ module _ (programme : ProgrammeValue) (options : OptionsValue) (unread : Option 
       }
 
 module _ (programme : ProgrammeValue) (options : OptionsValue) (unread : Option UnreadReason)
-    (any_refused : Bool) (undecided : ℕ → Bool) (t : Transmission) (a b : ℕ)
-    (unreported : IsUnreported (criteria_with_refusals programme options unread any_refused
+    (any_unreliable : Bool) (undecided : ℕ → Bool) (t : Transmission) (a b : ℕ)
+    (unreported : IsUnreported (criteria_with_refusals programme options unread any_unreliable
     undecided) t a
     b)
   where
     unreported_stretch_is_fault_free : IsFaultFreeBetween (criteria_with_refusals programme options
-        unread any_refused undecided) t a
+        unread any_unreliable undecided) t a
         b
     unfolding active_faults_at
     unreported_stretch_is_fault_free = record {
@@ -323,20 +324,21 @@ module _ (programme : ProgrammeValue) (options : OptionsValue) (unread : Option 
     pub unreported_repeats_are_sufficient : IsSufficientRepeats options.keeps programme t options a
         b
     unreported_repeats_are_sufficient = record {
-      stretch = unreported_stretch_is_repeated programme t options unread any_refused undecided a b
+      stretch = unreported_stretch_is_repeated programme t options unread any_unreliable undecided a
+          b
           unreported;
-      codes = codes programme options unread any_refused undecided t a b
+      codes = codes programme options unread any_unreliable undecided t a b
           unreported_stretch_is_fault_free;
-      whole = same_at_once programme options unread any_refused undecided t a b
+      whole = same_at_once programme options unread any_unreliable undecided t a b
           unreported_stretch_is_fault_free;
     }
 
-    module _ (closed : HasNoOpenEnd (criteria_with_refusals programme options unread any_refused
+    module _ (closed : HasNoOpenEnd (criteria_with_refusals programme options unread any_unreliable
         undecided) t a
         b)
       where
         unreported_stretch_meets_requirements : MeetsRequirementsAtEnds
-            (criteria_with_refusals programme options unread any_refused
+            (criteria_with_refusals programme options unread any_unreliable
             undecided)
             t a b
         unfolding active_faults_at
@@ -348,16 +350,17 @@ module _ (programme : ProgrammeValue) (options : OptionsValue) (unread : Option 
         pub unreported_stretch_finishes_in_time : IsProgramme programme.drawing programme.records
             → FinishesInTime options.keeps programme t options a b
         unreported_stretch_finishes_in_time is =
-            stretch_finishes_in_time programme options unread any_refused undecided t a b
+            stretch_finishes_in_time programme options unread any_unreliable undecided t a b
             unreported_stretch_meets_requirements is
 
 pub law_of_unreported_repeats : LawOfUnreportedRepeats
-law_of_unreported_repeats programme transmission options unread any_refused undecided a b
+law_of_unreported_repeats programme transmission options unread any_unreliable undecided a b
     unreported = (
-      unreported_repeats_are_sufficient programme options unread any_refused undecided transmission
+      unreported_repeats_are_sufficient programme options unread any_unreliable undecided
+          transmission
           a b unreported,
       λ is closed.
-          unreported_stretch_finishes_in_time programme options unread any_refused undecided
+          unreported_stretch_finishes_in_time programme options unread any_unreliable undecided
           transmission a
           b unreported
           closed

@@ -110,19 +110,19 @@ silent t (Emits x ∷ ms) still none =
 silent t (Closes are_left more ∷ ms) still none = cc
 silent t (m ∷ ms) still none = silent (m ∷ t) ms still none
 
-empty_closing_reports_nothing : (t : List CheckStep) (pes : ℕ) (are_left any_refused : Bool)
+empty_closing_reports_nothing : (t : List CheckStep) (pes : ℕ) (are_left any_unreliable : Bool)
     (es : List Event)
-    → any_refused ≡ false
+    → any_unreliable ≡ false
     → es ≡ []
     → list_any is_emitted t ≡ false
     → events_reported_after t
-    (AtPes pes ∷ Closes are_left (any_refused || not (reports_no_event es)) ∷ map
+    (AtPes pes ∷ Closes are_left (any_unreliable || not (reports_no_event es)) ∷ map
     Emits es)
     ≡ []
 unfolding events_reported_after events_reported_at_step run_of
-empty_closing_reports_nothing t pes are_left any_refused [] alone none reported = rw
+empty_closing_reports_nothing t pes are_left any_unreliable [] alone none reported = rw
     (alone, reported) refl
-empty_closing_reports_nothing t pes are_left any_refused (e ∷ es) alone none reported = cc
+empty_closing_reports_nothing t pes are_left any_unreliable (e ∷ es) alone none reported = cc
 
 module _ (g : Criteria) where
   pub steps_before_closing_do_not_close : (pes_packets : List PesPacket)
@@ -172,7 +172,7 @@ module _ (g : Criteria) where
     emitted_events-emits,
   )
 
-  reported_none : (pes_packets : List PesPacket) → g.any_refused ≡ false
+  reported_none : (pes_packets : List PesPacket) → g.any_unreliable ≡ false
       → (reported_of_pes_packets g pes_packets ≡ []) ↔
       (emitted_events (steps_of_pes_packets g pes_packets)
       ≡ [])
@@ -199,7 +199,7 @@ module _ (g : Criteria) where
           (steps_of_closing g frames (length pes_packets) (length frames))
           ∙ rw so_far.0
           (empty_closing_reports_nothing (history_after [] before) (length pes_packets)
-          _ g.any_refused closing
+          _ g.any_unreliable closing
           alone parts.1
           so_far.1)
 
@@ -246,7 +246,7 @@ module _ (g : Criteria) where
 
   -- If no subtitle was rejected, PES packets have no events if and only if none is skipped and
   -- their frames have no events.
-  pub no_event_means_all_sent : (pes_packets : List PesPacket) → g.any_refused ≡ false
+  pub no_event_means_all_sent : (pes_packets : List PesPacket) → g.any_unreliable ≡ false
       → (all_events_of_pes_packets g pes_packets ≡ [])
       ↔ ((length (frames_of pes_packets) ≡ length pes_packets) ×
       (events g (sent_by_pes_packets g pes_packets) ≡ []))

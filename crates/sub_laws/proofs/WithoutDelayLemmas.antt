@@ -9,7 +9,7 @@ use Rattle.sub_plan.specs.Schedule.{due_page_in}
 use Rattle.ttx_page.specs.Page.{IsCell}
 use Rattle.ttx_page.specs.Shown.{shown}
 use Rattle.sub_rules.specs.Events.{broken_cell, is_incomplete, is_late, is_pending}
-use Rattle.sub_rules.specs.FrameRules.{Criteria, HasNoOpenPage, UnreadReason, criteria_of}
+use Rattle.sub_rules.specs.FrameRules.{Criteria, IsCompleteIfRequired, UnreadReason, criteria_of}
 use Rattle.sub_rules.specs.FrameRules.{packets_before}
 use Rattle.sub_rules.specs.Good.{Good}
 use Rattle.sub_rules.specs.Kept.{IsRight}
@@ -112,7 +112,7 @@ module _ (programme : ProgrammeValue) (options : OptionsValue) (t : Transmission
   ended : (n f : ℕ) → IsEnd t n f → IsFalse (is_late g t n f && is_incomplete g t n)
   ended n f end =
       let on = end_is_on_air t in_order n f end in
-      let shut : HasNoOpenPage g t n =
+      let shut : IsCompleteIfRequired g t n =
       λ asks. let whole = complete asks f (from n f end) (to n f end) in grind arith in
       let is = undelayed_incomplete_is_late g t n f at_once in
       let decided = (incomplete_test_is_exact_for_page g t n f).1 shut in

@@ -9,7 +9,8 @@ use Rattle.sub_plan.specs.Options.{OptionsValue}
 use Rattle.sub_rules.specs.Events.{place_of_broken_rule, first_header_events, first_reported_fault}
 use Rattle.sub_rules.specs.Events.{late_events}
 use Rattle.sub_rules.specs.Events.{order_events, active_faults_at}
-use Rattle.sub_rules.specs.FrameRules.{Criteria, HasHeader, HasRecentPageHeader, HasNoOpenPage}
+use Rattle.sub_rules.specs.FrameRules.{Criteria, HasHeader, HasRecentPageHeader}
+use Rattle.sub_rules.specs.FrameRules.{IsCompleteIfRequired}
 use Rattle.sub_rules.specs.FrameRules.{HasRecentPesPacket, ShowsDue}
 use Rattle.sub_rules.specs.FrameRules.{UnreadReason, criteria_of, end_frame, frame_at}
 use Rattle.sub_rules.specs.Good.{Good}
@@ -44,7 +45,7 @@ IsKept end.Content g frames n f =
     → IsCell row column
     → ShowsDue g frames n f row column
 IsKept end.Gap g frames n f = HasRecentPageHeader g frames n f
-IsKept end.Incomplete g frames n f = HasNoOpenPage g frames n
+IsKept end.Incomplete g frames n f = IsCompleteIfRequired g frames n
 IsKept end.Undecided g frames n f = IsFalse (g.undecided f)
 IsKept end.Silent g frames n f = HasRecentPesPacket g frames n f
 
@@ -94,7 +95,7 @@ pub record ReportsBrokenPlaces (g : Criteria) (frames : Transmission) : Type 0 w
   -- If there is any event, there is a fault, unless subtitles were rejected: then trusted frames
   -- are reported even without a fault.
   pub first :
-      IsFalse g.any_refused
+      IsFalse g.any_unreliable
       → EachPacket IsPacket frames
       → first_reported_fault (all_events_of_pes_packets g (map Sent frames)) ≡ None
       → all_events_of_pes_packets g (map Sent frames) ≡ []

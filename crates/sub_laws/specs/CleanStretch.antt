@@ -47,7 +47,7 @@ abbrev pub HoldsAtFrameEnds : (ℕ → ℕ → Type 0) → Transmission → ℕ 
 HoldsAtFrameEnds Holds frames a b = (n f : ℕ) → IsEnd frames n f → a ≤ f → f ≤ b → Holds n f
 
 -- The frames from a to b lie within the transmission.
-pub record IsIntervalOfOnePage (frames : Transmission) (a b : ℕ) : Type 0 where
+pub record IsWithinTransmission (frames : Transmission) (a b : ℕ) : Type 0 where
   pub not_empty : 0 < length frames
   pub from : first_frame frames ≤ a
   pub in_order : a ≤ b
@@ -64,7 +64,7 @@ is_needed_by_receivers r = (fault_row (packet_fault r 0 0)).invalidates
 -- missing header is active at the end of any of its frames; and the expected page of each frame,
 -- and of the `within` frames before it, is known.
 pub record IsUnreported (g : Criteria) (frames : Transmission) (a b : ℕ) : Type 0 where
-  pub stretch : IsIntervalOfOnePage frames a b
+  pub stretch : IsWithinTransmission frames a b
   pub rising : IsRising frames
   pub packets :
       (r : PacketRule)
@@ -84,9 +84,9 @@ HasNoOpenEnd g frames a b =
 -- `undecided` are the frames with an unknown expected page.
 abbrev pub criteria_with_refusals :
     ProgrammeValue → OptionsValue → Option UnreadReason → Bool → (ℕ → Bool) → Criteria
-criteria_with_refusals programme options unread any_refused undecided =
+criteria_with_refusals programme options unread any_unreliable undecided =
     record (criteria_of programme options unread)
-    { any_refused = any_refused; undecided = undecided }
+    { any_unreliable = any_unreliable; undecided = undecided }
 
 -- If each header must have C4 (erase page) set and `within` is 0, a range of frames without faults
 -- that affect receivers meets the sufficient conditions (`LawOfStretch`). If its pages have ended
@@ -95,13 +95,13 @@ criteria_with_refusals programme options unread any_refused undecided =
 abbrev pub LawOfUnreportedStretch : Type 0
 LawOfUnreportedStretch =
     (programme : ProgrammeValue) (transmission : Transmission) (options : OptionsValue)
-    → (unread : Option UnreadReason) (any_refused : Bool) (undecided : ℕ → Bool) (a b : ℕ)
+    → (unread : Option UnreadReason) (any_unreliable : Bool) (undecided : ℕ → Bool) (a b : ℕ)
     → IsFalse options.keeps
     → options.within ≡ 0
-    → IsUnreported (criteria_with_refusals programme options unread any_refused undecided)
+    → IsUnreported (criteria_with_refusals programme options unread any_unreliable undecided)
     transmission a b
     → IsSufficient programme transmission options a b
     × (IsTrue options.asks_complete
-    → HasNoOpenEnd (criteria_with_refusals programme options unread any_refused undecided)
+    → HasNoOpenEnd (criteria_with_refusals programme options unread any_unreliable undecided)
     transmission a b
     → CompleteWithin transmission options a b)

@@ -21,7 +21,7 @@ use Rattle.sub_rules.specs.Repeats.{IsCorrectPage, KeepsDueCodes, KeepsRulesWith
 use Rattle.sub_rules.specs.Repeats.{HasFinishedFrame}
 use Rattle.sub_rules.specs.Transmission.{IsRising, Transmission, first_frame, last_frame, on_air}
 use Rattle.sub_rules.specs.Transmission.{on_air_until}
-use Rattle.sub_laws.specs.CleanStretch.{HoldsAtPackets, IsIntervalOfOnePage}
+use Rattle.sub_laws.specs.CleanStretch.{HoldsAtPackets, IsWithinTransmission}
 use Rattle.sub_laws.specs.LostRows.{IsReceivedWithLosses}
 use Rattle.sub_laws.specs.Planned.{planned}
 use Rattle.sub_laws.specs.Robust.{HoldsDuePage}
@@ -205,7 +205,7 @@ pub record IsRepeatedStretch
 pub record IsFollowedStretch
     (keeps : Bool) (transmission : Transmission) (options : OptionsValue) (a b : ℕ)
     : Type 0 where
-  pub stretch : IsIntervalOfOnePage transmission a b
+  pub stretch : IsWithinTransmission transmission a b
   pub rising : IsRising transmission
   pub packets : HoldsAtPackets (MayFollow keeps options.page) transmission a b
   pub repeats :

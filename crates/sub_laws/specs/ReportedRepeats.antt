@@ -34,11 +34,11 @@ pub record IsSufficientRepeats
 abbrev pub LawOfUnreportedRepeats : Type 0
 LawOfUnreportedRepeats =
     (programme : ProgrammeValue) (transmission : Transmission) (options : OptionsValue)
-    → (unread : Option UnreadReason) (any_refused : Bool) (undecided : ℕ → Bool) (a b : ℕ)
-    → IsUnreported (criteria_with_refusals programme options unread any_refused undecided)
+    → (unread : Option UnreadReason) (any_unreliable : Bool) (undecided : ℕ → Bool) (a b : ℕ)
+    → IsUnreported (criteria_with_refusals programme options unread any_unreliable undecided)
     transmission a b
     → IsSufficientRepeats options.keeps programme transmission options a b
     × (IsProgramme programme.drawing programme.records
-    → HasNoOpenEnd (criteria_with_refusals programme options unread any_refused undecided)
+    → HasNoOpenEnd (criteria_with_refusals programme options unread any_unreliable undecided)
     transmission a b
     → FinishesInTime options.keeps programme transmission options a b)

@@ -20,7 +20,7 @@ use Rattle.sub_rules.specs.WrongContent.{AreReadUpTo}
 -- page) clear, and started with a blank page or has erased it since, has the code `kept` in that
 -- cell; if each header must have C4 set, every receiver has. So either this is not the expected
 -- code, or the row was not sent again.
-pub record IsDifferentEverywhere
+pub record IsNotRightOnAir
     (programme : ProgrammeValue) (options : OptionsValue) (frames : Transmission)
     (f row column : ℕ)
     : Type 0 where

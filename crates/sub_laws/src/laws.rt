@@ -109,7 +109,7 @@ pub fn law_of_lossless_reception()
 {}
 
 /// The schedule of a subtitle file with at least one subtitle is a good transmission, in serial and
-/// parallel mode and for both national options.
+/// parallel mode and for every national option.
 pub fn law_of_plan()
     ensures { LawOfPlan }
 {}

@@ -12,9 +12,9 @@ use Rattle.ttx_page.specs.Screen.{Display}
 use Rattle.ttx_page.proofs.RunLemmas.{RunsBy-append}
 use Rattle.ttx_pes.specs.DataUnit.{UnitValue}
 use Rattle.ttx_pes.specs.PesGrammar.{PesValue}
-use Rattle.ttx_pes.specs.Reader.{FailsWithinPacket, TakesPackets}
+use Rattle.ttx_pes.specs.Reader.{FailsWithinPacket, TakesValidPesPackets}
 use Rattle.ttx_pes.specs.PesPackets.{rest_after_pes_packet}
-use Rattle.sub_rules.specs.Fault.{is_pes_read}
+use Rattle.sub_rules.specs.Fault.{is_pes_read_failure}
 use Rattle.sub_rules.specs.Events.{unread_fault}
 use Rattle.sub_plan.specs.FrameTime.{clock_of}
 use Rattle.sub_rules.specs.FrameRules.{UnreadReason, frame_at, packets_before, packets_of_frame}
@@ -83,13 +83,13 @@ sent_next within frames n before packets before_eq packets_are =
 
 pub failed_read_ends_listening : (l : Listening) (n : ℕ) (f : CheckFault)
     (old mid new : Option (List ℕ))
-    → TakesPackets n old mid
-    → (is_pes_read f ≡ true → f ≡ check.Pes n pes.Read)
-    → (is_pes_read f ≡ true → FailsWithinPacket mid new)
+    → TakesValidPesPackets n old mid
+    → (is_pes_read_failure f ≡ true → f ≡ check.Pes n pes.Read)
+    → (is_pes_read_failure f ≡ true → FailsWithinPacket mid new)
     → ((frames : Transmission) (unread : Option UnreadReason)
     → IfKnown old (λ bytes.
     ReadsAs (clock_of l.options) 0 bytes frames unread → AreReceivedPesPackets l frames n))
-    → is_pes_read f ≡ true
+    → is_pes_read_failure f ≡ true
     → FailsListening l old new (fault.File f)
 failed_read_ends_listening l n f old mid new taken place within heard is =
     grind arith
@@ -107,7 +107,7 @@ module _
             (result : Result (Unit {0}) ListenFault)
             → MatchResult result (λ _. EndsAfterPesPacket l frames unread n)
             (RefusesAfterPesPacket l frames unread n)
-            → (n < length frames → TakesPackets (n + 1) reported left)
+            → (n < length frames → TakesValidPesPackets (n + 1) reported left)
             → ReceivesFile leaves l frames unread reported left w old now result
         reception_ends result ends stops = record {
           runs = record { n = n; heard = reached.heard; run = reached.run; ends = ends };
@@ -150,7 +150,7 @@ module _
         module _
             (v : PesValue) (sending : Sending)
             (is : ReportsNext (clock_of l.options) n reached.rest v (Ok (Some (Sent sending))))
-            (taken : TakesPackets (n + 1) reported left)
+            (taken : TakesValidPesPackets (n + 1) reported left)
           where
             abbrev frame : ℕ
             frame = sending.frame

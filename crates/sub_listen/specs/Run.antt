@@ -9,10 +9,10 @@ use Rattle.std.specs.Prelude.{List, MatchResult}
 use Rattle.sub_io.specs.Reading.{IfKnown}
 use Rattle.ttx_packet.specs.PageId.{PageIdValue}
 use Rattle.ttx_page.specs.Screen.{Display}
-use Rattle.ttx_pes.specs.Reader.{FailsAtPacket, TakesPackets}
+use Rattle.ttx_pes.specs.Reader.{FailsAfterValidPackets, TakesValidPesPackets}
 use Rattle.ttx_pes.specs.declared.fault.PesFault.TheVariants.{Read}
 use Rattle.sub_plan.specs.FrameTime.{clock_of}
-use Rattle.sub_rules.specs.Fault.{is_pes_read, is_subtitle_fault}
+use Rattle.sub_rules.specs.Fault.{is_pes_read_failure, is_subtitle_fault}
 use Rattle.sub_rules.specs.Events.{unread_fault}
 use Rattle.sub_rules.specs.FrameRules.{UnreadReason, frame_at, packets_before, packets_of_frame}
 use Rattle.sub_rules.specs.PesReading.{ReadsAs}
@@ -28,7 +28,7 @@ use Rattle.sub_request.specs.declared.listening.Listening.{Listening}
 
 -- The fault is a failed read of the source.
 abbrev pub is_failed_read : ListenFault → Bool
-is_failed_read (fault.File f) = is_pes_read f
+is_failed_read (fault.File f) = is_pes_read_failure f
 is_failed_read (fault.LostHeader frame packet) = false
 
 -- The fault is in a subtitle file, which `listen` does not read.
@@ -125,7 +125,7 @@ pub record FailsListening (l : Listening) (known left : Option (List ℕ)) (f : 
   where
     pub index : ℕ
     pub is : f ≡ fault.File (check.Pes index Read)
-    pub place : FailsAtPacket index known left
+    pub place : FailsAfterValidPackets index known left
     pub heard :
         (frames : Transmission) (unread : Option UnreadReason)
         → IfKnown known (λ bytes.
@@ -157,4 +157,4 @@ pub record ReceivesFile
     : Type 0 where
   pub runs : RunsPesPackets leaves l frames unread w old new result
   -- If a PES packet follows the received ones, nothing was read after it.
-  pub stops : runs.n < length frames → TakesPackets (runs.n + 1) known left
+  pub stops : runs.n < length frames → TakesValidPesPackets (runs.n + 1) known left

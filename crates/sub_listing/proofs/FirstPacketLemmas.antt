@@ -6,7 +6,7 @@ use Rattle.std.proofs.Common.{Option, Some, None}
 use Rattle.std.specs.Io.KnownBytes.{Consumes, Keeps}
 use Rattle.ttx_pes.specs.Outcome.{PesOutcome, ReadsPackets, ends, fails, gives}
 use Rattle.ttx_pes.specs.PesGrammar.{PesValue}
-use Rattle.ttx_pes.specs.Reader.{FailsAtPacket, FailsWithinPacket, TakesPackets}
+use Rattle.ttx_pes.specs.Reader.{FailsAfterValidPackets, FailsWithinPacket, TakesValidPesPackets}
 use Rattle.ttx_pes.specs.Reader.{TakesValidPesPacket}
 use Rattle.ttx_pes.specs.Reader.{ConsumesRefusedPacket}
 use Rattle.ttx_pes.specs.declared.fault.PesFault.{PesFault}
@@ -66,15 +66,15 @@ keeping_preserves_refusal old mid new f kept t = grind
 
 pub keeping_preserves_packets : (n : ℕ) (old mid new : Option (List ℕ))
     → Keeps old mid
-    → TakesPackets n mid new
-    → TakesPackets n old new
+    → TakesValidPesPackets n mid new
+    → TakesValidPesPackets n old new
 keeping_preserves_packets n old mid new kept t = grind
     (arith, nat_tests, keeping_then_consuming_consumes)
 
 pub keeping_preserves_packet_failure : (n : ℕ) (old mid new : Option (List ℕ))
     → Keeps old mid
-    → FailsAtPacket n mid new
-    → FailsAtPacket n old new
+    → FailsAfterValidPackets n mid new
+    → FailsAfterValidPackets n old new
 keeping_preserves_packet_failure n old mid new kept f = grind
     (arith, nat_tests, keeping_preserves_packets)
 
@@ -90,7 +90,7 @@ pub unchanged_bytes_allow_failure : (old new : Option (List ℕ)) → Keeps old 
 unchanged_bytes_allow_failure old new kept = grind (arith, nat_tests, keeping_consumes_nothing)
 
 pub unchanged_bytes_allow_packet_failure : (old new : Option (List ℕ)) → Keeps old new →
-    FailsAtPacket 0 old new
+    FailsAfterValidPackets 0 old new
 unchanged_bytes_allow_packet_failure old new kept = grind
     (arith, nat_tests, keeping_consumes_nothing, unchanged_bytes_allow_failure)
 

@@ -33,7 +33,7 @@ use Rattle.sub_listing.specs.Listing.{YieldsResults, IsEndless, ListingRelation,
 use Rattle.sub_listing.specs.Listing.{PrintsListing}
 use Rattle.sub_listing.specs.Listing.{PrintsOrFails, followed, has_failed}
 use Rattle.sub_listing.specs.Lines.{number_in_file}
-use Rattle.sub_listing.specs.PacketsListing.{frame_lines, pes_listing}
+use Rattle.sub_listing.specs.PacketsListing.{pes_packet_lines, pes_listing}
 use Rattle.sub_listing.specs.ShowListing.{ListsFrom, ReadsFile, ReadsSubtitles, subtitles_listing}
 use Rattle.sub_listing.specs.FaultLine.{text_of_fault_line, status_of}
 use Rattle.sub_listing.specs.declared.status.Status.{Status}
@@ -240,7 +240,7 @@ pub gives-packet :
     (first index : ℕ) (v : PesValue) (reported left : Option (List ℕ)) (text : List ℕ)
     → index ≤ max_pes_packets
     → ReportsPacket (Reading index) reported left (Ok (Some v))
-    → text ≡ frame_lines (number_in_file first index) v
+    → text ≡ pes_packet_lines (number_in_file first index) v
     → YieldsResults (Lists (pes_listing first index) (outcome_after index) ReadsPackets)
     (Lists (pes_listing first (index + 1)) (outcome_after (index + 1)) ReadsPackets) reported left
     text

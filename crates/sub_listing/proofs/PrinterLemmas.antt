@@ -35,13 +35,13 @@ pub counted-few : (r m : ℕ) → counted r m ≤ max_fault_count
 unfolding counted
 counted-few r m = grind (arith, nat_tests)
 
-prints-none : (p : PrinterValue) → p.failed ≡ false → p.refused ≤ max_fault_count
+prints-none : (p : PrinterValue) → p.failed ≡ false → p.fault_count ≤ max_fault_count
     → PrintsEvents p [] p
 prints-none p goes few = record {
   keeps_first_number = refl;
   put = λ holds. Appends-nil p.contents;
   keeps_failure_count = λ holds. refl;
-  counts_faults = λ holds. sym (counted-none p.refused few);
+  counts_faults = λ holds. sym (counted-none p.fault_count few);
   cut = λ failing. absurd (true≢false (sym failing ∙ goes));
   counts_failure = λ failing. absurd (true≢false (sym failing ∙ goes));
 }
@@ -61,7 +61,7 @@ prints-more a b c e events one goes more = record {
   counts_faults = λ holds.
       more.counts_faults holds
       ∙ ap (λ r. counted r (fault_count_of_events events)) (one.counts_faults goes)
-      ∙ counted-twice a.refused (fault_count_of_event e) (fault_count_of_events events);
+      ∙ counted-twice a.fault_count (fault_count_of_event e) (fault_count_of_events events);
   cut = λ failing.
       AppendsPrefix-second a.contents b.contents c.contents (event_line a.first e)
       (event_lines a.first events) (one.put goes)
@@ -132,8 +132,8 @@ prints-two a b c xs ys some goes more =
       counts_faults = λ holds.
           more.counts_faults holds
           ∙ ap (λ r. counted r (fault_count_of_events ys)) (some.counts_faults goes)
-          ∙ counted-twice a.refused (fault_count_of_events xs) (fault_count_of_events ys)
-          ∙ ap (counted a.refused) (sym (fault_count_of_events-append xs ys));
+          ∙ counted-twice a.fault_count (fault_count_of_events xs) (fault_count_of_events ys)
+          ∙ ap (counted a.fault_count) (sym (fault_count_of_events-append xs ys));
       cut = λ failing.
           subst (AppendsPrefix a.contents c.contents) (sym lines)
           (AppendsPrefix-second a.contents b.contents c.contents (event_lines a.first xs)
@@ -203,22 +203,22 @@ module _ {A D : Type 0} (IsReported : D → A → D → Type 0) (value : D → P
   step : (old mid new : D) (x : A) (xs : List A) (b : Bool) → (value mid).failed ≡ b
       → PrintsEvent (value old) (event x) (value mid)
       → ReportsInOrder IsReported mid new xs
-      → ((value mid).failed ≡ false → (value mid).refused ≤ max_fault_count
+      → ((value mid).failed ≡ false → (value mid).fault_count ≤ max_fault_count
       → PrintsEvents (value mid) (map event xs) (value new))
       → PrintsEvents (value old) (map event (x ∷ xs)) (value new)
   step old mid new x xs true failing here rest more =
       let end = failed_printer_reports_nothing mid new xs rest failing in
       rw (end.0, end.1) (prints-cut (value old) (value mid) (event x) [] here failing)
   step old mid new x xs false holds here rest more =
-      let bound : (value mid).refused ≤ max_fault_count =
+      let bound : (value mid).fault_count ≤ max_fault_count =
       rw (here.counts_faults holds)
-      (counted-few (value old).refused (fault_count_of_event (event x))) in
+      (counted-few (value old).fault_count (fault_count_of_event (event x))) in
       prints-more (value old) (value mid) (value new) (event x) (map event xs) here holds
       (more holds bound)
 
   one_by_one : (old new : D) (items : List A)
       → (value old).failed ≡ false
-      → (value old).refused ≤ max_fault_count
+      → (value old).fault_count ≤ max_fault_count
       → ReportsInOrder IsReported old new items
       → PrintsEvents (value old) (map event items) (value new)
   one_by_one old new [] goes few reported = rw reported (prints-none (value old) goes
@@ -230,7 +230,7 @@ module _ {A D : Type 0} (IsReported : D → A → D → Type 0) (value : D → P
   -- A printer prints exactly the lines of the events that are reported to it.
   pub reported_items_are_printed : (old new : D) (items : List A)
       → (value old).failed ≡ false
-      → (value old).refused ≤ max_fault_count
+      → (value old).fault_count ≤ max_fault_count
       → Reports IsReported old new items
       → PrintsEvents (value old) (map event items) (value new)
   reported_items_are_printed old new items goes few reported = one_by_one old new items

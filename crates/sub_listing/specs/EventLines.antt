@@ -18,15 +18,15 @@ abbrev pub fault_end_line : EndRule → ℕ → List ℕ
 fault_end_line rule frame =
     codes "ended " ++ code_text (code_of_end_rule rule) ++ frame_text frame ++ codes "\n"
 
--- The line for the end of skipped PES packets: the fault names the packet after them.
+-- The line for the end of skipped PES packets: the fault names the last of them.
 abbrev pub skipped_packets_line : ℕ → CheckFault → List ℕ
 skipped_packets_line first f =
     codes "ended " ++ code_text (code_of_check_fault f) ++ place_text first (place_of_fault f) ++
     codes "\n"
 
--- The line for a range of clean frames.
-abbrev pub clean_frames_line : ℕ → ℕ → List ℕ
-clean_frames_line from to =
+-- The line for a range of trusted frames.
+abbrev pub trusted_frames_line : ℕ → ℕ → List ℕ
+trusted_frames_line from to =
     codes "trusted frames " ++ frame_time_text from ++ codes " " ++ frame_time_text to ++ codes "\n"
 
 -- The line that `check --all` prints for an event.
@@ -34,7 +34,7 @@ abbrev pub event_line : ℕ → Event → List ℕ
 event_line first (Reported f) = text_of_fault_line (counted_from first (check_line f))
 event_line first (Ended rule frame) = fault_end_line rule frame
 event_line first (SkippedUntil f) = skipped_packets_line first f
-event_line first (Trusted from to) = clean_frames_line from to
+event_line first (Trusted from to) = trusted_frames_line from to
 
 -- The lines that `check --all` prints for a list of events.
 abbrev pub event_lines : ℕ → List Event → List ℕ

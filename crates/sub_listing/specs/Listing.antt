@@ -120,11 +120,11 @@ pub record PrintsListing
 -- these lines.
 abbrev pub YieldsResults : ListingRelation → ListingRelation
     → Option (List ℕ) → Option (List ℕ) → List ℕ → Option Status → Type 0
-YieldsResults Before PreviousPes known left text None =
+YieldsResults Before After known left text None =
     ((end : Option (List ℕ)) (ending : Option Status) (more : Listing)
-    → PreviousPes left end ending more → Before known end ending (followed text more))
-    × ((more : Listing) × PreviousPes left left None more)
-YieldsResults Before PreviousPes known left text (Some status) =
+    → After left end ending more → Before known end ending (followed text more))
+    × ((more : Listing) × After left left None more)
+YieldsResults Before After known left text (Some status) =
     Before known left (Some status) (record { text = text; status = status })
 
 -- The sink failed before the next PES packet or subtitle was read, so the listing has no end.

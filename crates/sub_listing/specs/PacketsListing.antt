@@ -16,8 +16,8 @@ unit_lines number [] = []
 unit_lines number (u ∷ units) = unit_line number u ++ unit_lines (number + 1) units
 
 -- The lines of a PES packet, with its number in the file, and of its Teletext units.
-abbrev pub frame_lines : ℕ → PesValue → List ℕ
-frame_lines number v = pes_line number v.pts ++ unit_lines 0 v.units
+abbrev pub pes_packet_lines : ℕ → PesValue → List ℕ
+pes_packet_lines number v = pes_line number v.pts ++ unit_lines 0 v.units
 
 -- The output of `packets` after `index` PES packets: the lines of each further PES packet, and
 -- finally the number of listed packets. The first PES packet that is read has the number `first` in
@@ -26,7 +26,7 @@ abbrev pub pes_listing : ℕ → ℕ → PesOutcome → Listing
 pes_listing first index ends = done (decimal index ++ codes " pes\n")
 pes_listing first index (fails f) = fault_listing (counted_from first (check_line (Pes index f)))
 pes_listing first index (gives v more) =
-    followed (frame_lines (number_in_file first index) v) (pes_listing first (index + 1) more)
+    followed (pes_packet_lines (number_in_file first index) v) (pes_listing first (index + 1) more)
 
 -- The PES packets of a source are listed. The first PES packet that is read has the number `first`
 -- in its file.

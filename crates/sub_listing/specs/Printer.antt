@@ -13,16 +13,16 @@ use Rattle.sub_listing.specs.EventLines.{fault_count_of_event, fault_count_of_ev
 pub record PrinterValue : Type 0 where
   pub contents : Option (List ℕ)
   pub count : ℕ
-  pub refused : ℕ
+  pub fault_count : ℕ
   pub failed : Bool
   pub first : ℕ
 
 -- The state of the printer, from its parts.
 abbrev pub printer_value : Option (List ℕ) → ℕ → ℕ → Bool → ℕ → PrinterValue
-printer_value contents count refused failed first = record {
+printer_value contents count fault_count failed first = record {
   contents = contents;
   count = count;
-  refused = refused;
+  fault_count = fault_count;
   failed = failed;
   first = first;
 }
@@ -33,7 +33,7 @@ can_fail count = nat_lt count 0xFFFF_FFFF_FFFF_FFFF
 
 -- The number of faults after `more` further faults. A number above 2^64 - 1 is counted as 2^64 - 1.
 unfoldable pub counted : ℕ → ℕ → ℕ
-counted refused more = min (refused + more) max_fault_count
+counted fault_count more = min (fault_count + more) max_fault_count
 
 -- An event was reported to a printer whose sink had not failed. Its line was written, and a fault
 -- was counted; or the sink failed once, and received a prefix of the line.
@@ -42,7 +42,7 @@ pub record PrintsEvent (old : PrinterValue) (event : Event) (new : PrinterValue)
   pub keeps_first_number : new.first ≡ old.first
   pub put : new.failed ≡ false → Appends old.contents new.contents (event_line old.first event)
   pub keeps_failure_count : new.failed ≡ false → new.count ≡ old.count
-  pub counts_faults : new.failed ≡ false → new.refused ≡ counted old.refused
+  pub counts_faults : new.failed ≡ false → new.fault_count ≡ counted old.fault_count
       (fault_count_of_event event)
   pub cut :
       new.failed ≡ true → AppendsPrefix old.contents new.contents (event_line old.first event)
@@ -56,7 +56,7 @@ pub record PrintsEvents (old : PrinterValue) (events : List Event) (new : Printe
     pub put :
         new.failed ≡ false → Appends old.contents new.contents (event_lines old.first events)
     pub keeps_failure_count : new.failed ≡ false → new.count ≡ old.count
-    pub counts_faults : new.failed ≡ false → new.refused ≡ counted old.refused
+    pub counts_faults : new.failed ≡ false → new.fault_count ≡ counted old.fault_count
         (fault_count_of_events events)
     pub cut :
         new.failed ≡ true
@@ -66,7 +66,7 @@ pub record PrintsEvents (old : PrinterValue) (events : List Event) (new : Printe
 -- The printed lines remain after the printer was flushed. If flushing failed, the sink failed once.
 pub record StaysPrinted (old new : PrinterValue) : Type 0 where
   pub kept : Keeps old.contents new.contents
-  pub refused : new.refused ≡ old.refused
+  pub fault_count : new.fault_count ≡ old.fault_count
   pub keeps_first_number : new.first ≡ old.first
   pub same : new.failed ≡ old.failed → new.count ≡ old.count
   pub risen : new.failed ≢ old.failed → (new.failed ≡ true) × (new.count ≡ old.count + 1)

@@ -47,7 +47,7 @@ printed_line_remains a b c e one on =
       put = λ holds. Appends-kept _ _ _ _ (one.put (before holds)) on.kept;
       keeps_failure_count = λ holds. on.same (holds ∙ sym (before holds)) ∙ one.keeps_failure_count
           (before holds);
-      counts_faults = λ holds. on.refused ∙ one.counts_faults (before holds);
+      counts_faults = λ holds. on.fault_count ∙ one.counts_faults (before holds);
       cut = λ fails. (cut_line_is_prefix a b c e b.failed refl one on fails).0;
       counts_failure = λ fails. (cut_line_is_prefix a b c e b.failed refl one on fails).1;
     }

@@ -8,7 +8,7 @@ use Rattle.stl_file.specs.Fault.{is_normal_write_failure}
 use Rattle.stl_file.specs.NormalForm.{NormalAnswers}
 use Rattle.stl_file.specs.Reader.{block_of_byte}
 use Rattle.stl_rows.specs.Fault as load_fault
-use Rattle.stl_rows.specs.Loading.{EndsFaultlessSubtitle, FailsLoading, ReportsFault}
+use Rattle.stl_rows.specs.Loading.{EndsFaultlessSubtitle, FailsLoading, IsErrorOfLoad}
 use Rattle.stl_rows.specs.Loading.{loaded_programme}
 use Rattle.stl_rows.specs.Programme.{ProgrammeValue}
 use Rattle.stl_rows.specs.declared.fault.LoadFaultKind.TheVariants.{Memory}
@@ -99,7 +99,7 @@ Schedules drawing o serial known left old new (Err (write.Plan f)) =
     IfKnown known (λ bytes. IsOkAnd (loaded_programme drawing bytes) (λ programme.
     WritesSchedule programme o serial old new (Err f)))
 Schedules drawing o serial known left old new (Err (write.Load f)) =
-    IfKnown known (λ bytes. ReportsFault drawing bytes f.block f.kind)
+    IfKnown known (λ bytes. IsErrorOfLoad drawing bytes f.block f.kind)
     × (load_fault.is_load_read_failure f ≡ true → FailsLoading drawing known left f.block)
     × Keeps old new
 Schedules drawing o serial known left old new answer = ⊥

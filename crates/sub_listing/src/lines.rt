@@ -8,7 +8,7 @@ ghost use Rattle.arrayvec.specs.ArrayVec.{array_vec_len};
 ghost use Rattle.hex.specs.Hex.{encode_lower};
 ghost use Rattle.stl_file.specs.TimeCode.{day};
 ghost use Rattle.sub_listing.specs.EventLines.{fault_end_line, event_line, skipped_packets_line};
-ghost use Rattle.sub_listing.specs.EventLines.{clean_frames_line};
+ghost use Rattle.sub_listing.specs.EventLines.{trusted_frames_line};
 ghost use Rattle.sub_listing.specs.Lines.{printed_character, number_in_file, text_digits};
 ghost use Rattle.sub_listing.specs.Lines.{time_text};
 ghost use Rattle.sub_listing.specs.Lines.{two_digits};
@@ -165,8 +165,8 @@ pub fn push_fault_line<const N: usize>(line: &mut ArrayVec<u8, N>, reported: &Fa
     push_text(line, b"\n");
 }
 
-/// Appends the line of an event: a fault, the end of a fault, skipped PES packets, or clean frames.
-/// The first PES packet that is read has the number `first` in its file.
+/// Appends the line of an event: a fault, the end of a fault, skipped PES packets, or trusted
+/// frames. The first PES packet that is read has the number `first` in its file.
 pub fn push_event<const N: usize>(line: &mut ArrayVec<u8, N>, event: Event, first: u64)
     requires { array_vec_len line.old + LINE_CAPACITY ≤ N }
     ensures { line.new.items ≡ line.old.items ++ event_line first event }
@@ -178,7 +178,7 @@ pub fn push_event<const N: usize>(line: &mut ArrayVec<u8, N>, event: Event, firs
         ),
         Event::Ended { rule, frame } => push_fault_end(line, rule, frame),
         Event::SkippedUntil(fault) => push_skipped_packets(line, fault, first),
-        Event::Trusted { from, to } => push_clean_frames(line, from, to),
+        Event::Trusted { from, to } => push_trusted_frames(line, from, to),
     }
 }
 
@@ -204,9 +204,9 @@ fn push_skipped_packets<const N: usize>(line: &mut ArrayVec<u8, N>, fault: Check
     push_text(line, b"\n");
 }
 
-fn push_clean_frames<const N: usize>(line: &mut ArrayVec<u8, N>, from: u32, to: u32)
+fn push_trusted_frames<const N: usize>(line: &mut ArrayVec<u8, N>, from: u32, to: u32)
     requires { array_vec_len line.old + LINE_CAPACITY ≤ N }
-    ensures { line.new.items ≡ line.old.items ++ clean_frames_line from to }
+    ensures { line.new.items ≡ line.old.items ++ trusted_frames_line from to }
 {
     push_text(line, b"trusted frames ");
     push_frame_time(line, from);

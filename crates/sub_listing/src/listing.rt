@@ -72,15 +72,15 @@ pub trait Lister<I> {
         ensures same { printer.new.out.ghost_name ≡ printer.old.out.ghost_name }
         ensures stays { StaysPrinted
             (printer_value (K.contents printer.old.out.now) (K.failure_count printer.old.out.now)
-            printer.old.refused printer.old.failed printer.old.first)
+            printer.old.fault_count printer.old.failed printer.old.first)
             (printer_value (K.contents printer.new.out.now) (K.failure_count printer.new.out.now)
-            printer.new.refused printer.new.failed printer.new.first) }
+            printer.new.fault_count printer.new.failed printer.new.first) }
         ensures gives { printer.new.failed ≡ false → YieldsResults (lists self.old) (lists self.new)
             (known input.old) (left input.new) text.new.items result }
         ensures settled { printer.new.failed ≡ false → result ≡ None
             → left input.new ≡ known input.new }
         ensures ready { printer.new.failed ≡ false → result ≡ None → ready self.new }
-        ensures pes_packets_decrease { printer.new.failed ≡ false → result ≡ None
+        ensures items_decrease { printer.new.failed ≡ false → result ≡ None
             → pes_packets self.new < pes_packets self.old }
         ensures count { printer.new.failed ≡ false
             → CountsFailureIf failure_count input.old (has_failed result) input.new }
@@ -88,7 +88,7 @@ pub trait Lister<I> {
             → IsEndless (lists self.old) (known input.old) (left input.new) }
         ensures counts_failure { printer.new.failed ≡ true
             → failure_count input.new ≡ failure_count input.old }
-        ensures buffered { device input.new ≡ device input.old }
+        ensures device { device input.new ≡ device input.old }
         ensures followed { can_be_followed ≡ true
             → (printer.old.pending ≡ false → K.buffered printer.old.out.now ≡ 0)
             → has_failed result ≡ true → printer.new.failed ≡ false
@@ -107,7 +107,7 @@ pub fn list<I, L: Lister<I>, K: Flush>(lister: &mut L, input: &mut I, out: &mut 
         (read_call L.known L.left L.failure_count input.old input.new)
         (sink_call K.contents K.failure_count out.old out.new) result }
     ensures input_count { CountsFault L.failure_count input.old result input.new }
-    ensures buffered { L.device input.new ≡ L.device input.old }
+    ensures device { L.device input.new ≡ L.device input.old }
     ensures out_count { CountsFault K.failure_count out.old result out.new }
     ensures fault { result ≡ Status.Fault
         → L.failure_count input.old + K.failure_count out.old
@@ -119,7 +119,7 @@ pub fn list<I, L: Lister<I>, K: Flush>(lister: &mut L, input: &mut I, out: &mut 
 {
     let mut printer = Printer {
         out,
-        refused: 0,
+        fault_count: 0,
         failed: false,
         pending: false,
         first: 0,
@@ -142,7 +142,7 @@ fn list_to<I, L: Lister<I>, K: Flush>(
         (read_call L.known L.left L.failure_count input.old input.new)
         (sink_call K.contents K.failure_count printer.old.out.now printer.new.out.now) result }
     ensures input_count { CountsFault L.failure_count input.old result input.new }
-    ensures buffered { L.device input.new ≡ L.device input.old }
+    ensures device { L.device input.new ≡ L.device input.old }
     ensures out_count { CountsFault K.failure_count printer.old.out.now result
         printer.new.out.now }
     ensures fault { result ≡ Status.Fault
@@ -154,7 +154,7 @@ fn list_to<I, L: Lister<I>, K: Flush>(
         → BuffersLastLineOnly K.contents K.buffered K.is_push printer.new.out.now }
 {
     let mut text = Text::new();
-    'pes_packets: loop {
+    'items: loop {
         text.clear();
         let end = lister.next(input, printer, &mut text);
         if printer.failed {

@@ -127,7 +127,7 @@ pub fn read_input<A: Allocator + Drop, S: Source>(
 {
     let mut bytes = Vec::new(alloc);
     let mut room = [0; PULL_CAPACITY];
-    'pes_packets: while bytes.len() < READ_LIMIT {
+    'chunks: while bytes.len() < READ_LIMIT {
         let pes_packet = &mut room[..PULL_CAPACITY.min(READ_LIMIT - bytes.len())];
         match input.pull(pes_packet) {
             Ok(0) => return Ok(bytes),

@@ -12,7 +12,7 @@ ghost use Rattle.sub_listing.specs.Lines.{number_in_file, unit_line};
 ghost use Rattle.sub_listing.specs.DeviceCall.{CountsFault, read_call, sink_call};
 ghost use Rattle.sub_listing.specs.LastLine.{BuffersLastLineOnly};
 ghost use Rattle.sub_listing.specs.Listing.{Lists};
-ghost use Rattle.sub_listing.specs.PacketsListing.{ListsPackets, frame_lines, pes_listing};
+ghost use Rattle.sub_listing.specs.PacketsListing.{ListsPackets, pes_packet_lines, pes_listing};
 ghost use Rattle.sub_listing.specs.Printer.{StaysPrinted, printer_value};
 
 use crate::faults::{fault_line_of_check, fault_line_of_failed_read};
@@ -84,13 +84,14 @@ impl PacketLister {
         requires few { self.old.index < max_pes_packets }
         requires empty { text.old.items ≡ [] }
         ensures lines { text.new.items
-            ≡ frame_lines (number_in_file self.old.first self.old.index) self.old.reader.frame }
+            ≡ pes_packet_lines (number_in_file self.old.first self.old.index)
+            self.old.reader.frame }
         ensures index { self.new.index ≡ self.old.index + 1 }
         ensures first { self.new.first ≡ self.old.first }
         ensures reader { self.new.reader ≡ self.old.reader }
         ensures more { result ≡ None }
     {
-        push_frame(text, number_in_file(self.first, self.index), &self.reader);
+        push_pes_packet(text, number_in_file(self.first, self.index), &self.reader);
         self.index += 1;
         None
     }
@@ -145,9 +146,9 @@ fn flush_lines<P: PesPackets, K: Flush>(
     ensures same { printer.new.out.ghost_name ≡ printer.old.out.ghost_name }
     ensures stays { StaysPrinted
         (printer_value (K.contents printer.old.out.now) (K.failure_count printer.old.out.now)
-        printer.old.refused printer.old.failed printer.old.first)
+        printer.old.fault_count printer.old.failed printer.old.first)
         (printer_value (K.contents printer.new.out.now) (K.failure_count printer.new.out.now)
-        printer.new.refused printer.new.failed printer.new.first) }
+        printer.new.fault_count printer.new.failed printer.new.first) }
     ensures failed { printer.new.failed ≡ is_err result }
     ensures settled { OnOk result (NothingIsPending printer.new.pending (P.ready pes_packets.now)) }
     ensures holds { (printer.old.pending ≡ false → K.buffered printer.old.out.now ≡ 0)
@@ -166,9 +167,9 @@ const UNIT_LINE_CAPACITY: usize = 192;
 const _: () = prove!(PES_LINE_CAPACITY + MAX_UNITS * UNIT_LINE_CAPACITY <= LINES_CAPACITY);
 
 // Appends the lines of a PES packet, with its number in its file, and of its Teletext units.
-fn push_frame(text: &mut Text, number: u64, reader: &ComparingReader)
+fn push_pes_packet(text: &mut Text, number: u64, reader: &ComparingReader)
     requires { text.old.items ≡ [] }
-    ensures { text.new.items ≡ frame_lines number reader.now.frame }
+    ensures { text.new.items ≡ pes_packet_lines number reader.now.frame }
 {
     push_number(text, b"pes ", number);
     push_number(text, b" pts ", reader.pts());

@@ -22,7 +22,7 @@ pub struct Printer<'a, K> {
     /// The sink to which the printer writes its lines.
     pub out: &'a mut K,
     /// The number of faults so far, at most 2^64 - 1.
-    pub refused: u64,
+    pub fault_count: u64,
     /// Whether the sink failed.
     pub failed: bool,
     /// Whether lines were written that are possibly still in the sink's buffer.
@@ -41,12 +41,12 @@ impl<'a, K: Flush> Printer<'a, K> {
         ensures same { self.new.out.ghost_name ≡ self.old.out.ghost_name }
         ensures lines { FlushesLines
             (printer_value (K.contents self.old.out.now) (K.failure_count self.old.out.now)
-            self.old.refused self.old.failed self.old.first) (is_ok result)
+            self.old.fault_count self.old.failed self.old.first) (is_ok result)
             (printer_value (K.contents self.new.out.now) (K.failure_count self.new.out.now)
-            self.new.refused self.new.failed self.new.first) }
+            self.new.fault_count self.new.failed self.new.first) }
         ensures still { OnOk result (self.new.pending ≡ false) }
         ensures buffered { OnOk result (K.buffered self.new.out.now ≡ 0) }
-        ensures has_pending { OnErr result (self.new.pending ≡ self.old.pending) }
+        ensures keeps_pending { OnErr result (self.new.pending ≡ self.old.pending) }
     {
         if self.failed || self.out.failures() == u64::MAX {
             return Err(Stopped);
@@ -69,7 +69,7 @@ impl<'a, K: Sink> Printer<'a, K> {
     pub fn put(&mut self, lines: &[u8]) -> Result<(), Stopped>
         requires { CanFail (K.failure_count self.old.out.now) }
         ensures same { self.new.out.ghost_name ≡ self.old.out.ghost_name }
-        ensures refused { self.new.refused ≡ self.old.refused }
+        ensures fault_count { self.new.fault_count ≡ self.old.fault_count }
         ensures first { self.new.first ≡ self.old.first }
         ensures ok { OnOk result (Appends
             (K.contents self.old.out.now) (K.contents self.new.out.now) lines.now) }
@@ -100,9 +100,9 @@ impl<'a, K: Sink> Printer<'a, K> {
         ensures same { self.new.out.ghost_name ≡ self.old.out.ghost_name }
         ensures prints { PrintsEvent
             (printer_value (K.contents self.old.out.now) (K.failure_count self.old.out.now)
-            self.old.refused self.old.failed self.old.first) event
+            self.old.fault_count self.old.failed self.old.first) event
             (printer_value (K.contents self.new.out.now) (K.failure_count self.new.out.now)
-            self.new.refused self.new.failed self.new.first) }
+            self.new.fault_count self.new.failed self.new.first) }
         ensures stopped { self.new.failed ≡ is_err result }
         ensures has_pending { self.new.pending ≡ true }
     {
@@ -117,10 +117,10 @@ impl<'a, K: Sink> Printer<'a, K> {
     #[tactic(auto, unfolding(crate::specs::Printer::counted))]
     fn count(&mut self, event: Event)
         ensures { self.new ≡ record self.old {
-          refused = counted self.old.refused (fault_count_of_event event);
+          fault_count = counted self.old.fault_count (fault_count_of_event event);
         } }
     {
-        self.refused = self.refused.saturating_add(fault_count_of_event(event));
+        self.fault_count = self.fault_count.saturating_add(fault_count_of_event(event));
     }
 }
 

@@ -11,7 +11,7 @@ use Rattle.ttx_packet.specs.declared.header.Header.{Header}
 use Rattle.ttx_page.specs.PacketKind.{is_this_page, kind}
 use Rattle.ttx_page.specs.Span.{text_span}
 use Rattle.ttx_page.specs.declared.packet_kind.PacketKind.TheVariants.{EndsPage, Other, Row}
-use Rattle.sub_packets.specs.Listener.{IsSkipped, Knows, is_skipped_header, rule_set}
+use Rattle.sub_packets.specs.Listener.{CanBeSkipped, Knows, can_skip_header, rule_set}
 use Rattle.sub_packets.specs.declared.listener.Listener.{Listener}
 use Rattle.sub_packets.proofs.ListenerLemmas.{other_packet_keeps_knowledge}
 use Rattle.sub_packets.proofs.PacketRuleLemmas.{closing_header_breaks_no_later_rule}
@@ -38,7 +38,7 @@ module _ (p : List ℕ) (s : Listener) (a : PacketAddress) (at : address p ≡ S
 
   pub skipped_header_is_of_another_page : (h : Header) → a.packet_number ≡ 0 → coded_header p ≡ Some
       h
-      → is_skipped_header a.magazine h s ≡ true
+      → can_skip_header a.magazine h s ≡ true
       → is_this_page (kind s.watched.page p) ≡ false
   unfolding kind header
   skipped_header_is_of_another_page h none says passes = grind (arith, nat_tests)
@@ -89,7 +89,7 @@ module _
           ∙ rw ((address_test_is_exact p).1 exact, at, is.0, missing_mode_is_no_other_mode s.serial)
           (grind (arith, nat_tests, plain_packet_breaks_no_later_rule))
 
-      pub packet_of_other_page_is_skipped : IsSkipped heard p s
+      pub packet_of_other_page_is_skipped : CanBeSkipped heard p s
       packet_of_other_page_is_skipped =
           let is = kind_of_packet_without_header some in
           record {
@@ -105,7 +105,7 @@ module _
     -- the page.
     module _ (none : a.packet_number ≡ 0) (coded : HasExactHeader p) (h : Header)
         (says : coded_header p ≡ Some h)
-        (passes : is_skipped_header a.magazine h s ≡ true) where
+        (passes : can_skip_header a.magazine h s ≡ true) where
       header_eq : header p ≡ Some h
       unfolding header
       header_eq = grind (arith, nat_tests)
@@ -130,7 +130,7 @@ module _
           ∙ rw ((address_test_is_exact p).1 exact, (header_test_is_exact p).1 coded, at, header_eq)
           (grind (arith, nat_tests, skipped_header_breaks_no_later_rule, mode_is_the_same))
 
-      pub header_of_other_page_is_skipped : IsSkipped heard p s
+      pub header_of_other_page_is_skipped : CanBeSkipped heard p s
       header_of_other_page_is_skipped =
           let is = header_kind in
           record {

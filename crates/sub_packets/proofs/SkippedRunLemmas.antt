@@ -8,7 +8,7 @@ use Rattle.std.proofs.Common.{get_or, take, refl, ◌∙◌, arith, append_assoc
 use Rattle.ttx_page.specs.PacketKind.{is_this_page, kind}
 use Rattle.ttx_page.specs.Span.{has_text_beginning}
 use Rattle.sub_packets.proofs.KeptLemmas.{beginning-more, other_packet_begins_no_text}
-use Rattle.sub_packets.specs.Listener.{BreakNoRule, IsAlwaysSkipped, Knows, rule_set}
+use Rattle.sub_packets.specs.Listener.{BreakNoRule, CanAlwaysBeSkipped, Knows, rule_set}
 use Rattle.sub_rules.specs.PacketTests.{breaks, packet_rules}
 use Rattle.sub_packets.specs.declared.listener.Listener.{Listener}
 use Rattle.sub_packets.proofs.PacketEventLemmas.{clean_packet_keeps_run_clean}
@@ -30,9 +30,9 @@ pub record SkippedRunHolds
     pub clean : BreakNoRule w heard ps start → BreakNoRule w heard ps n
 
 pub skipped_packet_extends_run : (a b : ℕ) (ps : List (List ℕ)) (s : Listener)
-    → IsAlwaysSkipped (get_or ps a []) s
-    → ((k : ℕ) → a + 1 ≤ k → k < b → IsAlwaysSkipped (get_or ps k []) s)
-    → (k : ℕ) → a ≤ k → k < b → IsAlwaysSkipped (get_or ps k []) s
+    → CanAlwaysBeSkipped (get_or ps a []) s
+    → ((k : ℕ) → a + 1 ≤ k → k < b → CanAlwaysBeSkipped (get_or ps k []) s)
+    → (k : ℕ) → a ≤ k → k < b → CanAlwaysBeSkipped (get_or ps k []) s
 skipped_packet_extends_run a b ps s first later k low high =
     elim (cases_lt a k) [
       | inl after ↦ later k (omega arith) high
@@ -41,7 +41,7 @@ skipped_packet_extends_run a b ps s first later k low high =
 
 module _ (w : Watched) (ps : List (List ℕ)) (s : Listener) (same : s.watched ≡ w) (a : ℕ) where
   skipped_run_adds_no_header : (n : ℕ) → n + a ≤ length ps
-      → ((k : ℕ) → a ≤ k → k < n + a → IsAlwaysSkipped (get_or ps k []) s)
+      → ((k : ℕ) → a ≤ k → k < n + a → CanAlwaysBeSkipped (get_or ps k []) s)
       → header_count w.page (take (n + a) ps) ≡ header_count w.page (take a ps)
   skipped_run_adds_no_header zero l passes =
       let none : 0 + a ≡ a = omega arith in ap (λ k. header_count w.page (take k ps)) none
@@ -62,7 +62,7 @@ module _ (w : Watched) (ps : List (List ℕ)) (s : Listener) (same : s.watched �
       ap (λ k. header_count w.page (take k ps)) (sym next) ∙ step
 
   skipped_run_adds_no_beginning : (n : ℕ) → n + a ≤ length ps
-      → ((k : ℕ) → a ≤ k → k < n + a → IsAlwaysSkipped (get_or ps k []) s)
+      → ((k : ℕ) → a ≤ k → k < n + a → CanAlwaysBeSkipped (get_or ps k []) s)
       → has_text_beginning w.keeps (kind w.page) (take (n + a) ps)
       ≡ has_text_beginning w.keeps (kind w.page) (take a ps)
   skipped_run_adds_no_beginning zero l passes =
@@ -86,7 +86,8 @@ module _ (w : Watched) (ps : List (List ℕ)) (s : Listener) (same : s.watched �
       ap (λ k. has_text_beginning w.keeps (kind w.page) (take k ps)) (sym next) ∙ step
 
   module _ (frame from : ℕ) (heard : List (List ℕ)) where
-    skipping_one_packet_extends_run : (k : ℕ) → k < length ps → IsAlwaysSkipped (get_or ps k []) s
+    skipping_one_packet_extends_run : (k : ℕ) → k < length ps
+        → CanAlwaysBeSkipped (get_or ps k []) s
         → SkippedRunHolds w frame from heard ps s a k
         → SkippedRunHolds w frame from heard ps s a (k + 1)
     skipping_one_packet_extends_run k l passes before =
@@ -106,7 +107,7 @@ module _ (w : Watched) (ps : List (List ℕ)) (s : Listener) (same : s.watched �
         }
 
     skipping_each_packet_skips_the_run : (n : ℕ) → n + a ≤ length ps
-        → ((k : ℕ) → a ≤ k → k < n + a → IsAlwaysSkipped (get_or ps k []) s)
+        → ((k : ℕ) → a ≤ k → k < n + a → CanAlwaysBeSkipped (get_or ps k []) s)
         → Knows (heard ++ take a ps) s
         → SkippedRunHolds w frame from heard ps s a (n + a)
     skipping_each_packet_skips_the_run zero l passes known =
@@ -123,7 +124,7 @@ module _ (w : Watched) (ps : List (List ℕ)) (s : Listener) (same : s.watched �
         (omega arith)) before)
 
   module _ (b : ℕ) (low : a ≤ b) (high : b ≤ length ps)
-      (passes : (k : ℕ) → a ≤ k → k < b → IsAlwaysSkipped (get_or ps k []) s) where
+      (passes : (k : ℕ) → a ≤ k → k < b → CanAlwaysBeSkipped (get_or ps k []) s) where
     pub skipped_run_keeps_header_count : header_count w.page (take b ps) ≡ header_count w.page
         (take a ps)
     skipped_run_keeps_header_count =

@@ -6,7 +6,7 @@ use Rattle.ttx_page.specs.Page.{Rows}
 use Rattle.ttx_page.specs.PacketKind.{kind}
 use Rattle.ttx_page.specs.Span.{is_open_after}
 use Rattle.sub_rules.specs.Events.{first_unexpected_cell_after, first_wrong_cell_after}
-use Rattle.sub_packets.specs.StoredPage.{is_kept_page_open, first_unexpected_kept_cell}
+use Rattle.sub_packets.specs.StoredPage.{is_kept_page_incomplete, first_unexpected_kept_cell}
 use Rattle.sub_packets.specs.StoredPage.{first_wrong_kept_cell}
 use Rattle.sub_packets.specs.Listener.{Knows}
 use Rattle.sub_packets.specs.declared.listener.Listener.{Listener}
@@ -35,5 +35,5 @@ module _ (heard : List (List ℕ)) (s : Listener) (known : Knows heard s) where
       (λ row column is. let kept_eq = shown_is heard s known row column is in rw kept_eq refl)
 
   pub incomplete_heard :
-      is_kept_page_open s ≡ (s.watched.complete && is_open_after (kind s.watched.page) heard)
+      is_kept_page_incomplete s ≡ (s.watched.complete && is_open_after (kind s.watched.page) heard)
   incomplete_heard = ap (λ (opened : Bool). s.watched.complete && opened) known.open_eq

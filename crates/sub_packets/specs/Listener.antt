@@ -93,19 +93,19 @@ has_serial_mode (Some first) serial = is_same_bit first serial
 
 -- A page header can be skipped: it has the C11 of the first page header, is no header of the page,
 -- and does not end the open page.
-abbrev pub is_skipped_header : ℕ → Header → Listener → Bool
-is_skipped_header magazine h s =
+abbrev pub can_skip_header : ℕ → Header → Listener → Bool
+can_skip_header magazine h s =
     has_serial_mode s.serial (c11 h)
     && (if s.is_open then not (magazine == s.watched.page.magazine) && not (c11 h)
     else not (magazine == s.watched.page.magazine && h.page == s.watched.page.page))
 
 -- The packet p, received after `heard`, breaks no rule and does not change the listener's state.
-pub record IsSkipped (heard : List (List ℕ)) (p : List ℕ) (s : Listener) : Type 0 where
+pub record CanBeSkipped (heard : List (List ℕ)) (p : List ℕ) (s : Listener) : Type 0 where
   pub breaks_none : rule_set (λ r. breaks r s.watched heard p) packet_rules ≡ 0
   pub knows : Knows (heard ++ p ∷ []) s
 
 -- The packet p can always be skipped in state s: it is no header of the page, breaks no rule, and
 -- does not change the state.
-pub record IsAlwaysSkipped (p : List ℕ) (s : Listener) : Type 0 where
+pub record CanAlwaysBeSkipped (p : List ℕ) (s : Listener) : Type 0 where
   pub no_header : is_this_page (kind s.watched.page p) ≡ false
-  pub skipped : (heard : List (List ℕ)) → Knows heard s → IsSkipped heard p s
+  pub skipped : (heard : List (List ℕ)) → Knows heard s → CanBeSkipped heard p s

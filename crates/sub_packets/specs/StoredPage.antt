@@ -27,5 +27,5 @@ first_unexpected_kept_cell s due first f n =
     && not (was_due due first f n row column (cell s.comparison.page row column)))
 
 -- Complete pages are required, and the stored page is open.
-abbrev pub is_kept_page_open : Listener → Bool
-is_kept_page_open s = s.watched.complete && s.is_open
+abbrev pub is_kept_page_incomplete : Listener → Bool
+is_kept_page_incomplete s = s.watched.complete && s.is_open

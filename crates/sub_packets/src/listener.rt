@@ -74,10 +74,11 @@ struct HeardPacket {
 }
 
 impl Listener {
-    ghost use Rattle.sub_packets.specs.StoredPage.{is_kept_page_open};
-    ghost use Rattle.sub_packets.specs.Listener.{IsSkipped, Knows, KnowsLast, IsAlwaysSkipped};
+    ghost use Rattle.sub_packets.specs.StoredPage.{is_kept_page_incomplete};
+    ghost use Rattle.sub_packets.specs.Listener.{CanBeSkipped, Knows, KnowsLast};
+    ghost use Rattle.sub_packets.specs.Listener.{CanAlwaysBeSkipped};
     ghost use Rattle.sub_packets.specs.Listener.{begins_frame_with_header};
-    ghost use Rattle.sub_packets.specs.Listener.{is_skipped_header, rule_set};
+    ghost use Rattle.sub_packets.specs.Listener.{can_skip_header, rule_set};
 
     /// Returns the state before the first packet, with the expected page `due`.
     pub fn new(watched: Watched, due: Page) -> Self
@@ -116,7 +117,7 @@ impl Listener {
 
     /// Returns whether complete pages are required and the page is open.
     pub fn is_incomplete(&self) -> bool
-        ensures { result ≡ is_kept_page_open self.now }
+        ensures { result ≡ is_kept_page_incomplete self.now }
     {
         self.watched.complete && self.is_open
     }
@@ -188,7 +189,7 @@ impl Listener {
         let mut k = 0;
         while k < units.len() {
             let sent = units.packet(k);
-            if self.is_skipped(self.is_open, &sent) {
+            if self.can_be_skipped(self.is_open, &sent) {
                 k = self.next_examined_packet(units, k + 1);
             } else {
                 let heard = self.judge(&sent.packet(), frame, from + k as u32, taker);
@@ -215,11 +216,11 @@ impl Listener {
         ensures from { from ≤ result }
         ensures within { result ≤ length units.now }
         ensures skipped { (k : ℕ) → from ≤ k → k < result
-            → IsAlwaysSkipped (slice_index_or (packets_of_units units.now) k []) self.now }
+            → CanAlwaysBeSkipped (slice_index_or (packets_of_units units.now) k []) self.now }
     {
         let is_open = self.is_open;
         for k in from..units.len() {
-            if !self.is_skipped(is_open, &units.packet(k)) {
+            if !self.can_be_skipped(is_open, &units.packet(k)) {
                 return k;
             }
         }
@@ -229,12 +230,12 @@ impl Listener {
     // Returns whether a packet can be skipped because it breaks no rule and changes nothing. The
     // first two bytes show this, or the first ten bytes of a page header.
     #[inline(always)]
-    fn is_skipped(&self, is_open: bool, packet: &SentPacket<'_>) -> bool
+    fn can_be_skipped(&self, is_open: bool, packet: &SentPacket<'_>) -> bool
         requires { is_open ≡ self.now.is_open }
         ensures no_header { IsTrue result
             → is_this_page (kind self.now.watched.page packet.now) ≡ false }
         ensures skipped { (heard : List (List ℕ)) → Knows heard self.now → IsTrue result
-            → IsSkipped heard packet.now self.now }
+            → CanBeSkipped heard packet.now self.now }
     {
         let Some((magazine, packet_number)) = packet.exact_address() else {
             return false;
@@ -274,10 +275,10 @@ impl Listener {
     fn skips_header(&self, magazine: u8, packet: &SentPacket<'_>) -> bool
         ensures { IsTrue result → HasExactHeader packet.now × ((h : Header)
             × (coded_header packet.now ≡ Some h)
-            × (is_skipped_header magazine h self.now ≡ true)) }
+            × (can_skip_header magazine h self.now ≡ true)) }
     {
         match packet.exact_header() {
-            Some(header) => self.is_skipped_header(magazine, &header),
+            Some(header) => self.can_skip_header(magazine, &header),
             None => false,
         }
     }
@@ -285,8 +286,8 @@ impl Listener {
     // Returns whether a page header without coding errors can be skipped because it breaks no rule
     // and changes nothing.
     #[inline(always)]
-    fn is_skipped_header(&self, magazine: u8, header: &Header) -> bool
-        ensures { result ≡ is_skipped_header magazine header.now self.now }
+    fn can_skip_header(&self, magazine: u8, header: &Header) -> bool
+        ensures { result ≡ can_skip_header magazine header.now self.now }
     {
         let is_serial = is_serial(header);
         if !has_serial_mode(self.serial, is_serial) {

@@ -4,7 +4,9 @@ use Rattle.ttx_packet.specs.PageHeader.{header_packet}
 use Rattle.ttx_packet.specs.PageId.{PageIdValue}
 use Rattle.stl_rows.specs.declared.national.National.{National}
 use Rattle.stl_rows.specs.declared.national.National.TheVariants.{English, German, Swedish, Italian}
-use Rattle.stl_rows.specs.declared.national.National.TheVariants.{French, Spanish, Czech}
+use Rattle.stl_rows.specs.declared.national.National.TheVariants.{French, Spanish, Czech, Polish}
+use Rattle.stl_rows.specs.declared.national.National.TheVariants.{Turkish, Croatian, Romanian}
+use Rattle.stl_rows.specs.declared.national.National.TheVariants.{Estonian, Lithuanian}
 use Rattle.sub_plan.specs.Sending.{watched_header, closing_header}
 
 -- Page 888, whose magazine 8 is sent as 0.
@@ -33,6 +35,12 @@ ExampleOfWatchedHeaders =
     × HasLastHeaderBytes French 0x49 0x5E
     × HasLastHeaderBytes Spanish 0x8C 0x9B
     × HasLastHeaderBytes Czech 0x38 0x2F
+    × HasLastHeaderBytes Polish 0x15 0x02
+    × HasLastHeaderBytes Turkish 0x38 0x2F
+    × HasLastHeaderBytes Croatian 0x8C 0x9B
+    × HasLastHeaderBytes Romanian 0xFD 0xEA
+    × HasLastHeaderBytes Estonian 0x64 0x73
+    × HasLastHeaderBytes Lithuanian 0xA1 0xB6
 
 -- The closing header of magazine 8, in parallel and in serial mode.
 abbrev pub ExampleOfClosingHeaders : Type 0

@@ -76,14 +76,14 @@ first_cell test =
     (λ above. option_map (λ column. (above + 1, column)) (first_below 40 (test (above + 1))))
     (first_below 24 (λ above. is_some (first_below 40 (test (above + 1)))))
 
--- After these packets, the cell has the code of the expected page: `IsRight` as a test.
+-- After these packets, the cell is right: `IsRight` as a test. A cell with the expected printing
+-- code is wrong if its row was not sent since the last header.
 abbrev pub is_right_cell : Bool → PageIdValue → List (List ℕ) → Rows → ℕ → ℕ → Bool
 is_right_cell keeps page packets due row column =
     kept keeps page packets row column == cell due row column
     && (cell due row column == space || has_row page packets row)
 
--- The first cell that differs from the expected page after these packets; `None` if no cell
--- differs.
+-- The first cell that is not right after these packets; `None` if all cells are right.
 unfoldable pub first_wrong_cell_after : Bool → PageIdValue → List (List ℕ) → Rows → Option (ℕ × ℕ)
 first_wrong_cell_after keeps page packets due =
     first_cell (λ row column. not (is_right_cell keeps page packets due row column))

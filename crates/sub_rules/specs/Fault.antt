@@ -108,19 +108,19 @@ fault_with_pes_number pes refusal = refusal
 -- ---- causes of faults
 
 -- The PES file could not be read.
-abbrev pub is_pes_read : CheckFault → Bool
-is_pes_read (fault.Pes index f) = pes.is_read_fault f
-is_pes_read _ = false
+abbrev pub is_pes_read_failure : CheckFault → Bool
+is_pes_read_failure (fault.Pes index f) = pes.is_read_fault f
+is_pes_read_failure _ = false
 
 -- A PES packet could not be written. The checker never reports this fault.
-abbrev pub is_pes_write : CheckFault → Bool
-is_pes_write (fault.Pes index f) = pes.is_write_fault f
-is_pes_write _ = false
+abbrev pub is_pes_write_failure : CheckFault → Bool
+is_pes_write_failure (fault.Pes index f) = pes.is_write_fault f
+is_pes_write_failure _ = false
 
 -- The subtitle file could not be read.
-abbrev pub is_stl_read : CheckFault → Bool
-is_stl_read (fault.Subtitles f) = load.is_load_read_failure f
-is_stl_read _ = false
+abbrev pub is_stl_read_failure : CheckFault → Bool
+is_stl_read_failure (fault.Subtitles f) = load.is_load_read_failure f
+is_stl_read_failure _ = false
 
 -- The fault is in the subtitle file.
 abbrev pub is_subtitle_fault : CheckFault → Bool

@@ -23,17 +23,17 @@ pub data UnreadReason : Type 0 where
 
 -- The criteria of a check:
 --
---   watched      the page, its national option, and the requirements on its headers
---   every        the repeat bound in frames
---   within       the number of frames within which the page must become correct
---   pace         the longest interval between PES packets in frames, if it is limited
---   due          the expected page at each frame
---   ending       for a TCO, the TCI of its subtitle
---   first_tci    the first TCI
---   last_tco     the last TCO
---   any_refused  whether subtitles of the file were rejected
---   undecided    the frames with an unknown expected page, because of rejected subtitles
---   unread       why the rest of the PES file could not be read, if it could not
+--   watched         the page, its national option, and the requirements on its headers
+--   every           the repeat bound in frames
+--   within          the number of frames within which the page must become correct
+--   pace            the longest interval between PES packets in frames, if it is limited
+--   due             the expected page at each frame
+--   ending          for a TCO, the TCI of its subtitle
+--   first_tci       the first TCI
+--   last_tco        the last TCO
+--   any_unreliable  whether the file has unreliable subtitles: rejected, faulty or out of order
+--   undecided       the frames with an unknown expected page, because of unreliable subtitles
+--   unread          why the rest of the PES file could not be read, if it could not
 pub record Criteria : Type 0 where
   pub watched : Watched
   pub every : ℕ
@@ -43,7 +43,7 @@ pub record Criteria : Type 0 where
   pub ending : ℕ → Option ℕ
   pub first_tci : Option ℕ
   pub last_tco : Option ℕ
-  pub any_refused : Bool
+  pub any_unreliable : Bool
   pub undecided : ℕ → Bool
   pub unread : Option UnreadReason
 
@@ -70,7 +70,7 @@ criteria_with programme watched every within pace unread = record {
   ending = tci_of_subtitle_ending_at programme.records;
   first_tci = first_tci programme.records;
   last_tco = last_tco programme.records;
-  any_refused = false;
+  any_unreliable = false;
   undecided = λ frame. false;
   unread = unread;
 }
@@ -81,7 +81,7 @@ criteria_of programme options unread =
     criteria_with programme (watched_of programme options) options.every options.within options.pace
     unread
 
--- The expected page is unknown at this frame, because subtitles were rejected.
+-- The expected page is unknown at this frame, because of unreliable subtitles.
 abbrev pub is_due_undecided : JudgedValue → ℕ → Bool
 is_due_undecided j frame = has_unreliable_subtitle j && is_undecided_in j frame
 
@@ -89,7 +89,7 @@ is_due_undecided j frame = has_unreliable_subtitle j && is_undecided_in j frame
 abbrev pub criteria_of_judged : JudgedValue → OptionsValue → Option UnreadReason → Criteria
 criteria_of_judged j options unread =
     record (criteria_of j.programme options unread) {
-      any_refused = has_unreliable_subtitle j;
+      any_unreliable = has_unreliable_subtitle j;
       undecided = is_due_undecided j;
     }
 
@@ -132,7 +132,7 @@ HasRecentPesPacket g frames n f =
     (pace : ℕ) → g.pace ≡ Some pace → (j : ℕ) × (j < n) × (f < frame_at frames j + pace)
 
 -- If complete pages are required, the page is not open after n entries of the transmission.
-abbrev pub HasNoOpenPage : Criteria → Transmission → ℕ → Type 0
-HasNoOpenPage g frames n =
+abbrev pub IsCompleteIfRequired : Criteria → Transmission → ℕ → Type 0
+IsCompleteIfRequired g frames n =
     IsTrue g.watched.complete
     → IsFalse (is_open_after (kind g.watched.page) (packets_before frames n))

@@ -35,9 +35,9 @@ use Rattle.sub_rules.specs.declared.fault_place.FaultPlace.TheVariants as place
 
 -- ---- frame ends
 
--- The checker needs `GoesBack` steps: subtitles were rejected, and `within` is not 0.
+-- The checker needs `GoesBack` steps: the file has unreliable subtitles, and `within` is not 0.
 abbrev pub needs_back_steps : Criteria → Bool
-needs_back_steps g = g.any_refused && not (g.within == 0)
+needs_back_steps g = g.any_unreliable && not (g.within == 0)
 
 -- A `GoesBack` step with the first frame of the unfinished run, if the checker needs such steps.
 abbrev pub steps_before : Criteria → Option ℕ → List CheckStep
@@ -144,7 +144,7 @@ abbrev pub steps_of_closing : Criteria → Transmission → ℕ → ℕ → List
 steps_of_closing g frames pes n =
     AtPes pes
     ∷ Closes (is_some g.unread)
-    (g.any_refused || not (reports_no_event (closing_events_of_pes_packets g frames pes n)))
+    (g.any_unreliable || not (reports_no_event (closing_events_of_pes_packets g frames pes n)))
     ∷ map Emits (closing_events_of_pes_packets g frames pes n)
 
 -- The frames that the PES packets carry. If `within` is not 0, consecutive PES packets of one frame

@@ -10,7 +10,7 @@ ghost use Rattle.ttx_pes.specs.Reading.{answer_at, max_pes_packets};
 ghost use Rattle.ttx_pes.specs.declared.progress.Progress.TheVariants.{Reading};
 ghost use Rattle.stl_file.specs.TimeCode.{day};
 ghost use Rattle.sub_plan.specs.FrameTime.{clock_of};
-ghost use Rattle.sub_rules.specs.Fault.{is_pes_read, is_subtitle_fault};
+ghost use Rattle.sub_rules.specs.Fault.{is_pes_read_failure, is_subtitle_fault};
 ghost use Rattle.sub_rules.specs.FrameRules.{UnreadReason};
 ghost use Rattle.sub_rules.specs.PesPackets.{IfSent, OnPesPacket, PesPacket, ReadsPesPackets};
 ghost use Rattle.sub_rules.specs.PesPackets.{TakesOnePesPacket};
@@ -51,7 +51,7 @@ pub fn next_pes_packet<P: PesPackets>(
     requires reading { reader.old.progress ≡ Reading pes }
     requires few { pes ≤ max_pes_packets }
     ensures exact { (pes_packets : List PesPacket) (unread : Option UnreadReason)
-        → IfKnown (P.remaining source.old) (λ bytes. failed is_pes_read result ≡ false
+        → IfKnown (P.remaining source.old) (λ bytes. failed is_pes_read_failure result ≡ false
         → ReadsPesPackets (clock_of options.now) pes bytes pes_packets unread
         → ReportsPesPacket (clock_of options.now) pes bytes pes_packets unread reader.new.frame
         result) }
@@ -76,18 +76,18 @@ pub fn next_pes_packet<P: PesPackets>(
     ensures own { failed is_subtitle_fault result ≡ false }
     // A failure of the source never counts as an invalid PES packet.
     ensures skipped { (fault : CheckFault) → result ≡ Ok (Some (NextPesPacket.Skipped fault))
-        → (is_pes_read fault ≡ false) × (is_subtitle_fault fault ≡ false) }
+        → (is_pes_read_failure fault ≡ false) × (is_subtitle_fault fault ≡ false) }
     // A failure of the source is reported for the PES packet in which it happened.
-    ensures place { IfErr result (λ f. is_pes_read f ≡ true
+    ensures place { IfErr result (λ f. is_pes_read_failure f ≡ true
         → f ≡ CheckFault.Pes pes PesFault.Read) }
-    ensures within { IfErr result (λ f. is_pes_read f ≡ true
+    ensures within { IfErr result (λ f. is_pes_read_failure f ≡ true
         → FailsWithinPacket (P.remaining source.old) (P.left source.new)) }
     // The call reads nothing beyond the PES packet.
     ensures settled { OnPesPacket result (P.left source.new ≡ P.remaining source.new) }
     // The call cannot fail if the source already has the bytes of the PES packet.
-    ensures ready { P.ready source.old ≡ true → failed is_pes_read result ≡ false }
+    ensures ready { P.ready source.old ≡ true → failed is_pes_read_failure result ≡ false }
     ensures device { P.device source.new ≡ P.device source.old }
-    ensures count { CountsFailureIf P.failure_count source.old (failed is_pes_read result)
+    ensures count { CountsFailureIf P.failure_count source.old (failed is_pes_read_failure result)
         source.new }
 {
     match reader.next(source) {
@@ -116,7 +116,7 @@ fn pes_packet_of(pts: u64, options: &Options, pes: u32, again: bool) -> NextPesP
         → sending.again ≡ again }
     ensures day { (sending : Sending) → result ≡ NextPesPacket.Sent sending → sending.frame < day }
     ensures skipped { (fault : CheckFault) → result ≡ NextPesPacket.Skipped fault
-        → (is_pes_read fault ≡ false) × (is_subtitle_fault fault ≡ false) }
+        → (is_pes_read_failure fault ≡ false) × (is_subtitle_fault fault ≡ false) }
 {
     match options.frame_of(pts) {
         Some(frame) => NextPesPacket::Sent(Sending { frame, again }),

@@ -392,7 +392,7 @@ module _ (g : Criteria) (frames : Transmission) (a b i : ℕ)
   pub closing_reported : (pes : ℕ) (t : List CheckStep)
       → FollowsAfterFrameEnds g frames a b i fits (length frames) t
       → (list_any is_emitted t
-      || (g.any_refused || not
+      || (g.any_unreliable || not
       (reports_no_event (closing_events_of_pes_packets g frames pes (length frames)))))
       ≡ true
       → IsReported (top g frames a b i fits) b
@@ -415,7 +415,7 @@ module _ (g : Criteria) (frames : Transmission) (a b i : ℕ)
       let high : b ≤ frame_at frames (n - 1) = let l = fits.last in omega arith in
       let (w, under, whole) = follows.whole (omega arith) (omega arith) in
       let es : List Event = closing_events_of_pes_packets g frames pes n in
-      let more : Bool = g.any_refused || not (reports_no_event es) in
+      let more : Bool = g.any_unreliable || not (reports_no_event es) in
       let t0 : List CheckStep = AtPes pes ∷ t in
       let t1 : List CheckStep = Closes (is_some g.unread) more ∷ t0 in
       let x : ℕ = first_untrusted_at_close t (is_some g.unread) in

@@ -51,7 +51,8 @@ no_events_announce_nothing reported none = grind (arith, nat_tests)
 silent_closing_reports_nothing : (g : Criteria) (frames : Transmission) (pes n : ℕ)
     (t : List CheckStep)
     → (list_any is_emitted t
-    || (g.any_refused || not (reports_no_event (closing_events_of_pes_packets g frames pes n)))) ≡
+    || (g.any_unreliable || not (reports_no_event (closing_events_of_pes_packets g frames pes n))))
+    ≡
     false
     → events_reported_after t (steps_of_closing g frames pes n) ≡ []
 unfolding events_reported_after events_reported_at_step run_of first_correct_of last_packet_frame
@@ -115,7 +116,7 @@ module _ (g : Criteria) (pes_packets : List PesPacket) (a b i : ℕ)
   abbrev reports : List CheckStep → Bool
   reports t =
       list_any is_emitted t
-      || (g.any_refused
+      || (g.any_unreliable
       || not (reports_no_event (closing_events_of_pes_packets g frames (length pes_packets)
       (length frames))))
 
@@ -159,9 +160,10 @@ module _ (g : Criteria) (pes_packets : List PesPacket) (a b i : ℕ)
   any_event_is_a_report (inl something) =
       any_report_is_a_report (history_after [] steps) refl
       (λ none. something (no_events_announce_nothing (reported_of_pes_packets g pes_packets) none))
-  any_event_is_a_report (inr any_refused) = or_right (list_any is_emitted (history_after [] steps))
+  any_event_is_a_report (inr any_unreliable) =
+      or_right (list_any is_emitted (history_after [] steps))
       _
-      (rw any_refused refl)
+      (rw any_unreliable refl)
 
   pub all_events_report_stretch : IsAnythingReported g pes_packets → ReportsTrustedStretch
       (all_events_of_pes_packets g pes_packets)

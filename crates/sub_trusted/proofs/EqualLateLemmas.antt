@@ -38,7 +38,7 @@ criteria_with_known_pages g due ending first_tci last_tco =
       ending = ending;
       first_tci = first_tci;
       last_tco = last_tco;
-      any_refused = false;
+      any_unreliable = false;
       undecided = λ frame. false;
     }
 

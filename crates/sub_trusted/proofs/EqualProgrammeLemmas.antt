@@ -36,10 +36,10 @@ module _ (undecided : ℕ → Bool) (f : ℕ) (known : undecided f ≡ false) wh
       grind (arith, nat_tests, (same_subtitle_is_found test none judged all more))
 
 module _ (programme : ProgrammeValue) (options : OptionsValue) (unread : Option UnreadReason)
-    (any_refused : Bool) (undecided : ℕ → Bool) (records : List SubtitleValue)
+    (any_unreliable : Bool) (undecided : ℕ → Bool) (records : List SubtitleValue)
     (others : HasOtherSubtitles undecided programme.records records) where
   equal_with :
-      HasSameCriteria (criteria_with_refusals programme options unread any_refused undecided)
+      HasSameCriteria (criteria_with_refusals programme options unread any_unreliable undecided)
       (due programme.drawing records) (tci_of_subtitle_ending_at records)
   unfolding due tci_of_subtitle_ending_at
   equal_with = record {
@@ -56,15 +56,16 @@ module _ (programme : ProgrammeValue) (options : OptionsValue) (unread : Option 
   }
 
 pub law_of_equal_trust : LawOfEqualTrust
-law_of_equal_trust programme options unread any_refused undecided records pes_packets from to b
+law_of_equal_trust programme options unread any_unreliable undecided records pes_packets from to b
     others
     reported
     low high whole =
-    stretch_is_trusted_in_both (criteria_with_refusals programme options unread any_refused
+    stretch_is_trusted_in_both (criteria_with_refusals programme options unread any_unreliable
     undecided)
     (due programme.drawing records) (tci_of_subtitle_ending_at records) (first_tci records)
     (last_tco records)
-    (equal_with programme options unread any_refused undecided records others) pes_packets from to
+    (equal_with programme options unread any_unreliable undecided records others) pes_packets from
+    to
     reported b
     low
     high whole

@@ -25,13 +25,14 @@ use Rattle.sub_trusted.proofs.TrustedFrameLemmas.{rising_count_is_at_most_length
 use Rattle.sub_trusted.proofs.TrustedFrameLemmas.{unreported}
 
 module _ (programme : ProgrammeValue) (options : OptionsValue) (unread : Option UnreadReason)
-    (any_refused : Bool) (undecided : ℕ → Bool) (frames : Transmission) (from to : ℕ)
-    (may : IsTrustedCorrect (criteria_with_refusals programme options unread any_refused undecided)
+    (any_unreliable : Bool) (undecided : ℕ → Bool) (frames : Transmission) (from to : ℕ)
+    (may : IsTrustedCorrect
+    (criteria_with_refusals programme options unread any_unreliable undecided)
     frames
     from to)
   where
     abbrev g : Criteria
-    g = criteria_with_refusals programme options unread any_refused undecided
+    g = criteria_with_refusals programme options unread any_unreliable undecided
 
     abbrev part : Transmission
     part = rising_part frames
@@ -112,11 +113,11 @@ module _ (programme : ProgrammeValue) (options : OptionsValue) (unread : Option 
       may.w,
       may.whole.low,
       may.high,
-      finished_end_is_finished_page programme options unread any_refused undecided part up
+      finished_end_is_finished_page programme options unread any_unreliable undecided part up
           may.whole.n may.w
           correct_end_is_in_part
           (decided_range_includes_frame g part may.whole.n may.w known)
-          (absent_run_means_finished_end programme options unread any_refused undecided part up
+          (absent_run_means_finished_end programme options unread any_unreliable undecided part up
           may.whole.n
           may.w
           correct_end_is_in_part

@@ -15,7 +15,7 @@ use Rattle.sub_rules.specs.Transmission.{Transmission, last_frame, packets_of}
 use Rattle.sub_rules.specs.declared.packet_rule.PacketRule.{PacketRule}
 use Rattle.sub_rules.proofs.EndRuleLemmas.{no_active_faults_is_unique}
 use Rattle.sub_rules.proofs.PrefixEventLemmas.{active_faults_at-prefix}
-use Rattle.sub_laws.specs.CleanStretch.{HoldsAtFrameEnds, IsEnd, IsIntervalOfOnePage, IsUnreported}
+use Rattle.sub_laws.specs.CleanStretch.{HoldsAtFrameEnds, IsEnd, IsWithinTransmission, IsUnreported}
 use Rattle.sub_laws.specs.CleanStretch.{is_needed_by_receivers}
 use Rattle.sub_trusted.specs.TrustedFrames.{is_rising_at, rising_count, rising_part}
 use Rattle.sub_laws.proofs.GoodLemmas.{passing_packet_is_in_frame}
@@ -156,7 +156,7 @@ module _ (g : Criteria) (frames : Transmission) (from to : ℕ)
   pub run_begins_in_part : stays.run.j < m
   run_begins_in_part = let b = stays.run.below in let l = stretch_frames_are_in_part in omega arith
 
-  stretch : IsIntervalOfOnePage part from to
+  stretch : IsWithinTransmission part from to
   stretch =
       grind (
         arith,

@@ -44,15 +44,16 @@ use Rattle.sub_trusted.proofs.TrustedSkippedLemmas.{skipped_packets_are_outside_
 use Rattle.sub_trusted.proofs.TrustedPesPacketLemmas.{all_trusted_stretches_are_correct}
 
 module _ (programme : ProgrammeValue) (options : OptionsValue) (unread : Option UnreadReason)
-    (any_refused : Bool) (undecided : ℕ → Bool) (pes_packets : List PesPacket) (from to : ℕ)
+    (any_unreliable : Bool) (undecided : ℕ → Bool) (pes_packets : List PesPacket) (from to : ℕ)
     (reported :
-    Contains (all_events_of_pes_packets (criteria_with_refusals programme options unread any_refused
+    Contains (all_events_of_pes_packets
+    (criteria_with_refusals programme options unread any_unreliable
     undecided)
     pes_packets)
     (Trusted from to))
   where
     abbrev g : Criteria
-    g = criteria_with_refusals programme options unread any_refused undecided
+    g = criteria_with_refusals programme options unread any_unreliable undecided
 
     abbrev frames : Transmission
     frames = sent_by_pes_packets g pes_packets
@@ -78,7 +79,7 @@ module _ (programme : ProgrammeValue) (options : OptionsValue) (unread : Option 
           repeats_are_sufficient_on_air options.keeps programme options part on_air from to
           fault_free.rising
           fault_free.stretch.from is begins
-          (unreported_repeats_are_sufficient programme options unread any_refused undecided part
+          (unreported_repeats_are_sufficient programme options unread any_unreliable undecided part
           from to fault_free)
 
       first_frame_begins_text :
@@ -99,7 +100,8 @@ module _ (programme : ProgrammeValue) (options : OptionsValue) (unread : Option 
           stretch_finishes_on_air options.keeps programme options part on_air from to
           fault_free.rising
           fault_free.stretch.from is begins
-          (unreported_stretch_finishes_in_time programme options unread any_refused undecided part
+          (unreported_stretch_finishes_in_time programme options unread any_unreliable undecided
+          part
           from to
           fault_free
           none_open_in_part
@@ -112,7 +114,8 @@ module _ (programme : ProgrammeValue) (options : OptionsValue) (unread : Option 
           some_frame_finishes_on_air options.keeps programme options part on_air from to
           fault_free.rising
           fault_free.stretch.from is begins from to (le_refl from) (le_refl to)
-          (stretch_end_is_finished programme options unread any_refused undecided frames from to may
+          (stretch_end_is_finished programme options unread any_unreliable undecided frames from to
+          may
           some)
 
       trusted_stretch_is_sufficient : IsProgramme programme.drawing programme.records
@@ -137,41 +140,44 @@ module _ (programme : ProgrammeValue) (options : OptionsValue) (unread : Option 
             pages_are_complete_on_air options.keeps programme options part on_air from to
             fault_free.rising
             fault_free.stretch.from is begins
-            (complete_unreported programme part options unread any_refused undecided from to at_once
+            (complete_unreported programme part options unread any_unreliable undecided from to
+            at_once
             fault_free
             asks none_open_in_part);
       }
 
 pub law_of_trusted_repeats : LawOfTrustedRepeats
-law_of_trusted_repeats programme options unread any_refused undecided pes_packets from to holds
+law_of_trusted_repeats programme options unread any_unreliable undecided pes_packets from to holds
     reported =
     record {
       skipped =
           skipped_packets_are_outside_stretch (criteria_with_refusals programme options unread
-          any_refused undecided)
+          any_unreliable undecided)
           pes_packets
           from to
           reported;
       stays = λ on_air is.
-          trusted_stretch_is_sufficient programme options unread any_refused undecided pes_packets
+          trusted_stretch_is_sufficient programme options unread any_unreliable undecided
+          pes_packets
           from to reported
           on_air is
           holds;
     }
 
 pub law_of_trusted_frames : LawOfTrustedFrames
-law_of_trusted_frames programme options unread any_refused undecided pes_packets from to none
+law_of_trusted_frames programme options unread any_unreliable undecided pes_packets from to none
     at_once
     reported =
     record {
       skipped =
           skipped_packets_are_outside_stretch (criteria_with_refusals programme options unread
-          any_refused undecided)
+          any_unreliable undecided)
           pes_packets
           from to
           reported;
       stays = λ on_air is.
-          undelayed_stretch_is_sufficient programme options unread any_refused undecided pes_packets
+          undelayed_stretch_is_sufficient programme options unread any_unreliable undecided
+          pes_packets
           from to
           reported on_air
           is none at_once;

@@ -146,7 +146,7 @@ module _ (g : Criteria) (frames : Transmission) (base : ℕ) where
   closing pes t closed =
       let n : ℕ = length frames in
       let es : List Event = closing_events_of_pes_packets g frames pes n in
-      let more : Bool = g.any_refused || not (reports_no_event es) in
+      let more : Bool = g.any_unreliable || not (reports_no_event es) in
       let t0 : List CheckStep = AtPes pes ∷ t in
       let t1 : List CheckStep = Closes (is_some g.unread) more ∷ t0 in
       All-append (HoldsIfTrusted IsTrustedAtClose)

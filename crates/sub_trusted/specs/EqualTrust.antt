@@ -47,17 +47,17 @@ AreTrusted g pes_packets from to =
 abbrev pub LawOfEqualTrust : Type 0
 LawOfEqualTrust =
     (programme : ProgrammeValue) (options : OptionsValue) (unread : Option UnreadReason)
-    → (any_refused : Bool) (undecided : ℕ → Bool) (records : List SubtitleValue)
+    → (any_unreliable : Bool) (undecided : ℕ → Bool) (records : List SubtitleValue)
     → (pes_packets : List PesPacket) (from to b : ℕ)
     → HasOtherSubtitles undecided programme.records records
     → Contains (all_events_of_pes_packets (criteria_with_refusals programme options unread
-    any_refused undecided)
+    any_unreliable undecided)
     pes_packets)
     (Trusted from to)
     → from ≤ b
     → b ≤ to
     → (0 < options.within
-    → IsFinishedAt (criteria_with_refusals programme options unread any_refused undecided)
+    → IsFinishedAt (criteria_with_refusals programme options unread any_unreliable undecided)
     pes_packets b)
     → all_events_of_pes_packets (criteria_of (record programme { records = records }) options
     unread)

@@ -100,14 +100,14 @@ pub record MayStay
 abbrev pub LawOfTrustedFrames : Type 0
 LawOfTrustedFrames =
     (programme : ProgrammeValue) (options : OptionsValue) (unread : Option UnreadReason)
-    → (any_refused : Bool) (undecided : ℕ → Bool) (pes_packets : List PesPacket) (from to : ℕ)
+    → (any_unreliable : Bool) (undecided : ℕ → Bool) (pes_packets : List PesPacket) (from to : ℕ)
     → IsFalse options.keeps
     → options.within ≡ 0
     → Contains (all_events_of_pes_packets (criteria_with_refusals programme options unread
-    any_refused undecided)
+    any_unreliable undecided)
     pes_packets)
     (Trusted from to)
-    → StaysAsReadFromFile (criteria_with_refusals programme options unread any_refused undecided)
+    → StaysAsReadFromFile (criteria_with_refusals programme options unread any_unreliable undecided)
     pes_packets from
     to
     (λ on_air. MayStay programme on_air options from to)
@@ -151,7 +151,7 @@ pub record MayBeReportedAsTrusted (g : Criteria) (pes_packets : List PesPacket) 
 -- The PES file has any event, or a subtitle was rejected.
 abbrev pub IsAnythingReported : Criteria → List PesPacket → Type 0
 IsAnythingReported g pes_packets = (all_events_of_pes_packets g pes_packets ≢ []) ⊎ IsTrue
-    g.any_refused
+    g.any_unreliable
 
 -- If the PES file has any event, or a subtitle was rejected, each range of frames that could be
 -- trusted is reported as trusted, in one event, from its first header that erases the page on. So

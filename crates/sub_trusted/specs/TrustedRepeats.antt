@@ -35,13 +35,13 @@ pub record MayStayWithRepeats
 abbrev pub LawOfTrustedRepeats : Type 0
 LawOfTrustedRepeats =
     (programme : ProgrammeValue) (options : OptionsValue) (unread : Option UnreadReason)
-    → (any_refused : Bool) (undecided : ℕ → Bool) (pes_packets : List PesPacket) (from to : ℕ)
+    → (any_unreliable : Bool) (undecided : ℕ → Bool) (pes_packets : List PesPacket) (from to : ℕ)
     → IsProgramme programme.drawing programme.records
     → Contains (all_events_of_pes_packets (criteria_with_refusals programme options unread
-    any_refused undecided)
+    any_unreliable undecided)
     pes_packets)
     (Trusted from to)
-    → StaysAsReadFromFile (criteria_with_refusals programme options unread any_refused undecided)
+    → StaysAsReadFromFile (criteria_with_refusals programme options unread any_unreliable undecided)
     pes_packets from
     to
     (λ on_air. MayStayWithRepeats programme on_air options from to)

@@ -23,7 +23,7 @@ use Rattle.clap.specs.declared.parser.matches.ArgMatches.TheViews.{out-SubComman
 use Rattle.clap.specs.declared.parser.matches.SubCommand.{SubCommand}
 use Rattle.clap.proofs.OnLiterals.{clap_on_literals}
 use Rattle.clap.proofs.WalkLemmas.{first_value-rows}
-use Rattle.sub_words.specs.Commands.{are_valid_texts, clap_rule, command_in, clap_refusals}
+use Rattle.sub_words.specs.Commands.{are_accepted_by_clap, clap_rule, command_in, clap_refusals}
 use Rattle.sub_words.specs.Commands.{subttx_app}
 use Rattle.sub_words.specs.Commands.{texts_of}
 use Rattle.sub_words.specs.declared.command.Argument.{Argument}
@@ -78,8 +78,8 @@ pub fold_ends_with_the_list : {A B X : Type 0} (f : B → A → B) (of : X → A
 fold_ends_with_the_list f of xs i b all over whole =
     sym (at_drop_all (λ rest. fold f b (map of rest)) xs i over) ∙ whole
 
-none-refused : (clap_refusals [] ≢ []) × (are_valid_texts [] ≢ true)
-unfolding clap_refusals are_valid_texts subttx_app clap_on_literals
+none-refused : (clap_refusals [] ≢ []) × (are_accepted_by_clap [] ≢ true)
+unfolding clap_refusals are_accepted_by_clap subttx_app clap_on_literals
 none-refused = (λ e. cc, λ e. cc)
 
 pub no-arguments : (arguments : List (Bor (List ℕ)))
@@ -183,8 +183,8 @@ pub IsFaultOfCommand-refused : (app : App) (arguments : List Text) (e : Error)
     → (is_simple_and_free app ≡ true → FailsBy {T = ArgMatches} (fault_of app arguments) (Err e))
     → (takes app arguments ≡ true → kind_of e ≡ OutOfMemory)
     → kind_of e ≢ OutOfMemory
-    → (clap_refusals arguments ≢ []) × (are_valid_texts arguments ≢ true)
-unfolding clap_refusals are_valid_texts
+    → (clap_refusals arguments ≢ []) × (are_accepted_by_clap arguments ≢ true)
+unfolding clap_refusals are_accepted_by_clap
 IsFaultOfCommand-refused app arguments e is_program fails passes other =
     let P : App → Type 0 = λ a. is_simple_and_free a ≡ true → HasKind (fault_of a arguments) e in
     let Q : App → Type 0 = λ a. takes a arguments ≡ true → kind_of e ≡ OutOfMemory in (

@@ -144,8 +144,8 @@ unfoldable pub command_in : List Text → Option (Text × List Row)
 command_in arguments = subcommand_of subttx_app arguments
 
 -- `clap` can refuse the arguments only if memory runs out.
-unfoldable pub are_valid_texts : List Text → Bool
-are_valid_texts arguments = takes subttx_app arguments
+unfoldable pub are_accepted_by_clap : List Text → Bool
+are_accepted_by_clap arguments = takes subttx_app arguments
 
 -- The texts of the arguments of the command line.
 abbrev pub texts_of : List (Bor (List ℕ)) → List Text

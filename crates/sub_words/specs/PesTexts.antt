@@ -45,7 +45,7 @@ packet_size_of_text text =
     else if bytes_eq text (codes "204") then Some ErrorCorrected
     else None
 
--- ---- the numbers of the PES packets to copy
+-- ---- the numbers of the PES packets to read
 
 -- The character between the two numbers of a range: a dash.
 abbrev pub dash : ℕ

@@ -19,7 +19,7 @@ use Rattle.sub_words.specs.Arguments.{parsed_list_of}
 use Rattle.sub_words.specs.Arguments.{layout_of, national_of, options_of, options_with_pace}
 use Rattle.sub_words.specs.Arguments.{packet_size_of, pes_selection_of, required_pid_of, scope_of}
 use Rattle.sub_words.specs.Arguments.{survey_options_of}
-use Rattle.sub_words.specs.Commands.{are_valid_texts, command_in, clap_refusals}
+use Rattle.sub_words.specs.Commands.{are_accepted_by_clap, command_in, clap_refusals}
 use Rattle.sub_words.specs.Help.{requests_help}
 use Rattle.sub_words.specs.Version.{requests_version}
 use Rattle.sub_words.specs.Texts.{flip_of_text, frame_of_text, is_same_byte, number_of_text}
@@ -219,7 +219,7 @@ pub record HasUsageFault (arguments : List Text) (fault : UsageFault) : Type 0 w
 -- file. Any other fault: the arguments break a rule of the program.
 abbrev pub IsFaultOfCommand : List Text → UsageFault → Type 0
 IsFaultOfCommand arguments fault.Words = (clap_refusals arguments ≢ []) ×
-    (are_valid_texts arguments ≢ true)
+    (are_accepted_by_clap arguments ≢ true)
 IsFaultOfCommand arguments fault.Memory = arguments ≢ []
 IsFaultOfCommand arguments fault.Open = ⊥
 IsFaultOfCommand arguments own = HasUsageFault arguments own

@@ -1,4 +1,5 @@
--- The texts of the options of `listen`: numbers, lists of numbers, flips, times and the receiver.
+-- The texts of options: numbers and times (of several commands), and the lists of numbers, flips
+-- and the receiver of `listen`.
 use Rattle.std.specs.Prelude.{ℕ, ◌+◌, ◌-◌, ◌*◌, Bool, ◌&&◌, List, [], ◌∷◌, ◌++◌, length}
 use Rattle.std.specs.Prelude.{Option, Some, None, codes, slice_index, if◌then◌else◌, ◌==◌, nat_le}
 use Rattle.std.specs.Char.{is_ascii_digit}

@@ -133,6 +133,16 @@ pub fn is_command(word: &str) -> bool
     false
 }
 
+/// Returns the arguments of a command, or none if there is no such command.
+pub fn arguments_of(word: &str) -> &'static [Argument] {
+    for command in &COMMANDS {
+        if word == command.0 {
+            return command.1;
+        }
+    }
+    &[]
+}
+
 /// Returns the program with all its commands, as rules for `clap`.
 ///
 /// # Errors

@@ -33,7 +33,8 @@ fn is_help_of(first: &str, second: &str) -> bool
     }
 }
 
-fn is_help_word(word: &str) -> bool
+/// Returns whether a word requests help.
+pub fn is_help_word(word: &str) -> bool
     ensures { result ≡ specs.is_help_word word.now }
 {
     word == "help" || is_help_flag(word)

@@ -18,7 +18,9 @@ mod numbers;
 mod parsing;
 mod pes_selection;
 mod reading;
+mod shown;
 mod times;
+mod unread_arguments;
 mod usage_explanation;
 mod version;
 
@@ -28,4 +30,4 @@ pub use numbers::parse_number;
 pub use parsing::ParseArguments;
 pub use pes_selection::{parse_packet_size, parse_pid, parse_range};
 pub use times::{parse_receiver, parse_time};
-pub use usage_explanation::explain_usage;
+pub use usage_explanation::{Explanation, explain_usage, explanation_of};

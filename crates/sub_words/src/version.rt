@@ -15,7 +15,8 @@ pub fn requests_version(arguments: &[&str]) -> bool
     }
 }
 
-fn is_version_word(word: &str) -> bool
+/// Returns whether a word requests the version.
+pub fn is_version_word(word: &str) -> bool
     ensures { result ≡ specs.is_version_word word.now }
 {
     word == "--version" || word == "-V"

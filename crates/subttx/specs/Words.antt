@@ -22,6 +22,6 @@ arguments_given (Ok arguments) = Ok (map string_bytes (into_iter_items arguments
 arguments_given (Err error) = Err (argument_fault (error_kind error))
 
 -- The fault if the arguments are not parsed: memory ran out, or the system returned no arguments.
-abbrev pub IsLost : Result (List Text) UsageFault → UsageFault → Type 0
-IsLost (Ok arguments) fault = fault ≡ usage.Memory
-IsLost (Err why) fault = fault ≡ why
+abbrev pub IsUnparsedFault : Result (List Text) UsageFault → UsageFault → Type 0
+IsUnparsedFault (Ok arguments) fault = fault ≡ usage.Memory
+IsUnparsedFault (Err why) fault = fault ≡ why

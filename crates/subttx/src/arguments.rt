@@ -1,7 +1,7 @@
 //! Gets the arguments of the command line from the system.
 ghost use Rattle.std.specs.Prelude.{◌≡◌, IfErr, IfOk, IfSome, Ok, map, string_bytes};
 ghost use Rattle.sub_words.specs.Commands.{texts_of};
-ghost use Rattle.subttx.specs.Words.{IsLost, arguments_given};
+ghost use Rattle.subttx.specs.Words.{IsUnparsedFault, arguments_given};
 
 use std::alloc::Global;
 use std::env::Args;
@@ -18,7 +18,7 @@ use sub_request::UsageFault;
 pub fn collect_arguments(alloc: Global, given: io::Result<Args>) -> Result<Vec<String>, UsageFault>
     ensures arguments { IfOk result (λ arguments.
         arguments_given given ≡ Ok (map (λ word. string_bytes word) arguments.items)) }
-    ensures lost { IfErr result (IsLost (arguments_given given)) }
+    ensures lost { IfErr result (IsUnparsedFault (arguments_given given)) }
 {
     match given {
         Ok(arguments) => match arguments.collect(alloc) {

@@ -17,11 +17,15 @@ ghost use Rattle.subttx.specs.Words.{arguments_given};
 
 use crate::arguments::{collect_arguments, texts_of};
 use std::alloc::Global;
-use std::env::Args;
+use std::env::{Args, Env};
+use std::fs::File;
 use std::process::ExitCode;
-use std::{env, io};
+use std::{env, io, str};
 use sub_answer::{Status, open_and_answer, print_and_flush_usage_fault};
-use sub_files::{BUFFER_SIZE, ErrorReporter, FileSystem, NAMES_CAPACITY, SystemFiles, room};
+use sub_files::{
+    BUFFER_SIZE, ErrorReporter, FileSystem, InputKinds, LookupResult, NAMES_CAPACITY,
+    StreamInPlace, SystemFiles, explain_refusal, occupy_closed_stream, room,
+};
 use sub_io::{BufferedSink, IntoWrite, Sink};
 use sub_request::{Request, UsageFault};
 use sub_words::{ParseArguments, explain_usage};
@@ -30,35 +34,110 @@ use sub_words::{ParseArguments, explain_usage};
 const SMALL_BUFFER_SIZE: usize = 64;
 
 fn main(rt: HostRuntime) -> ExitCode {
-    let printer = ErrorReporter::standard_output(io::writer(&rt), &rt);
-    let mut names = [0; NAMES_CAPACITY];
-    let run = run(
-        rt.alloc(),
-        env::args(&rt),
-        &mut SystemFiles::new(&rt, &mut names),
-        IntoWrite::new(printer),
-    );
-    if run.code == Status::Fault.code() {
-        print_argument_error(&rt);
+    match occupy_closed_streams(&rt) {
+        Ok(streams) => ExitCode::from(run_with_system(&rt, streams.found())),
+        Err(error) => {
+            let _ = eprintln!(rt; "subttx: a standard stream is closed: {error}");
+            let printer = ErrorReporter::standard_output(io::writer(&rt), &rt);
+            ExitCode::from(refuse_to_begin(IntoWrite::new(printer)))
+        }
     }
-    ExitCode::from(run.code)
 }
 
-// If the arguments are invalid, prints the reason on standard error.
-fn print_argument_error(rt: &HostRuntime) {
-    match env::args(rt) {
-        Ok(arguments) => {
-            let Ok(arguments) = arguments.collect::<Vec<String>>(rt.alloc()) else {
-                return;
-            };
-            if let Some(texts) = texts_of(rt.alloc(), arguments.as_slice()) {
-                explain_usage(rt.alloc(), texts.as_slice(), rt);
-            }
-        }
-        Err(error) => {
-            let _ = eprintln!(rt; "subttx: cannot read the command line: {error}");
+// The standard streams, with a folder in the place of each stream that is closed.
+#[derive(Drop)]
+struct Streams {
+    input: StreamInPlace<File>,
+    output: StreamInPlace<File>,
+    errors: StreamInPlace<File>,
+}
+
+impl Streams {
+    // Returns the folder in the place of a closed stream.
+    fn found(&self) -> LookupResult {
+        match (self.input.found, self.output.found) {
+            (LookupResult::Nothing, LookupResult::Nothing) => self.errors.found,
+            (LookupResult::Nothing, found) | (found, _) => found,
         }
     }
+}
+
+fn occupy_closed_streams(rt: &HostRuntime) -> io::Result<Streams> {
+    Ok(Streams {
+        input: occupy_closed_stream(rt, &rt.stdin())?,
+        output: occupy_closed_stream(rt, &rt.stdout())?,
+        errors: occupy_closed_stream(rt, &rt.stderr())?,
+    })
+}
+
+// Prints that a file can't be opened, and returns the exit status.
+fn refuse_to_begin<K: Sink + Drop>(standard_output: K) -> u8
+    requires { K.failure_count standard_output ≡ 0 }
+{
+    let mut small_buffer = [0; SMALL_BUFFER_SIZE];
+    let mut out = BufferedSink::new(standard_output, &mut small_buffer);
+    print_and_flush_usage_fault(&UsageFault::Open, &mut out).code()
+}
+
+// Runs the program with the arguments and files of the system, and returns the exit status.
+fn run_with_system(rt: &HostRuntime, closed_stream: LookupResult) -> u8 {
+    let printer = ErrorReporter::standard_output(io::writer(rt), rt);
+    let mut names = [0; NAMES_CAPACITY];
+    let kinds = InputKinds::new();
+    let run = run(
+        rt.alloc(),
+        env::args(rt),
+        &mut SystemFiles::new(rt, &mut names, &kinds, closed_stream),
+        IntoWrite::new(printer),
+    );
+    if run.code != Status::Done.code() {
+        explain(rt, run.code, &kinds);
+    }
+    run.code
+}
+
+// Prints on standard error why the arguments are wrong, or which input has another format than the
+// command reads.
+fn explain(rt: &HostRuntime, code: u8, kinds: &InputKinds) {
+    let arguments = match env::args(rt) {
+        Ok(arguments) => arguments,
+        Err(error) => return explain_lost_arguments(rt, &error),
+    };
+    let Ok(arguments) = arguments.collect::<Vec<String>>(rt.alloc()) else {
+        return;
+    };
+    let Some(texts) = texts_of(rt.alloc(), arguments.as_slice()) else {
+        return;
+    };
+    if code == Status::Fault.code() {
+        explain_usage(rt.alloc(), texts.as_slice(), rt);
+    } else if let Ok(request) = Request::parse(rt.alloc(), texts.as_slice()) {
+        explain_refusal(&request, kinds, rt);
+    }
+}
+
+// Prints why the system returned no arguments.
+fn explain_lost_arguments(rt: &HostRuntime, error: &io::Error) {
+    let _ = match wrong_text_at(rt) {
+        Some(place) => eprintln!(rt; "subttx: argument {place} is not UTF-8 text"),
+        None => eprintln!(rt; "subttx: cannot read the command line: {error}"),
+    };
+}
+
+// Returns the number of the first argument that is not UTF-8 text. The program's name is argument
+// 0. Returns `None` if an argument before it is longer than a file's name may be.
+fn wrong_text_at(rt: &HostRuntime) -> Option<usize> {
+    let mut text = [0; NAMES_CAPACITY];
+    for place in 0..usize::MAX {
+        let Ok(length) = rt.arg(place, &mut text) else {
+            return None;
+        };
+        let (read, _) = text.split_at_checked(length)?;
+        if str::from_utf8(read).is_err() {
+            return Some(place);
+        }
+    }
+    None
 }
 
 /// The result of a run of the program.

@@ -112,6 +112,72 @@ const CZECH: [[&[u8]; 2]; 1] = [
     ],
 ];
 
+#[rattlefmt::skip]
+const POLISH: [[&[u8]; 2]; 1] = [
+    [
+        &[
+            0x23, 0xC2, 0x6E, 0xCE, 0x61, 0xC7, 0x5A, 0xC2, 0x53, 0xE8, 0xC2, 0x63, 0xC2, 0x6F,
+            0xCE, 0x65, 0xC7, 0x7A, 0xC2, 0x73, 0xF8, 0xC2, 0x7A,
+        ],
+        &[0x23, 0x24, 0x40, 0x5B, 0x5C, 0x5D, 0x5E, 0x5F, 0x60, 0x7B, 0x7C, 0x7D, 0x7E],
+    ],
+];
+
+#[rattlefmt::skip]
+const TURKISH: [[&[u8]; 2]; 1] = [
+    [
+        &[
+            0xC6, 0x67, 0xC7, 0x49, 0xCB, 0x53, 0xC8, 0x4F, 0xCB, 0x43, 0xC8, 0x55, 0xC6, 0x47,
+            0xF5, 0xCB, 0x73, 0xC8, 0x6F, 0xCB, 0x63, 0xC8, 0x75,
+        ],
+        &[0x24, 0x40, 0x5B, 0x5C, 0x5D, 0x5E, 0x5F, 0x60, 0x7B, 0x7C, 0x7D, 0x7E],
+    ],
+];
+
+#[rattlefmt::skip]
+const CROATIAN: [[&[u8]; 2]; 1] = [
+    [
+        &[
+            0x23, 0xC8, 0x45, 0xCF, 0x43, 0xC2, 0x43, 0xCF, 0x5A, 0xE2, 0xCF, 0x53, 0xC8, 0x65,
+            0xCF, 0x63, 0xC2, 0x63, 0xCF, 0x7A, 0xF2, 0xCF, 0x73,
+        ],
+        &[0x23, 0x24, 0x40, 0x5B, 0x5C, 0x5D, 0x5E, 0x5F, 0x60, 0x7B, 0x7C, 0x7D, 0x7E],
+    ],
+];
+
+#[rattlefmt::skip]
+const ROMANIAN: [[&[u8]; 2]; 1] = [
+    [
+        &[
+            0x23, 0xA8, 0xCB, 0x54, 0xC3, 0x41, 0xCB, 0x53, 0xC6, 0x41, 0xC3, 0x49, 0xF5, 0xCB,
+            0x74, 0xC3, 0x61, 0xCB, 0x73, 0xC6, 0x61, 0xC3, 0x69,
+        ],
+        &[0x23, 0x24, 0x40, 0x5B, 0x5C, 0x5D, 0x5E, 0x5F, 0x60, 0x7B, 0x7C, 0x7D, 0x7E],
+    ],
+];
+
+#[rattlefmt::skip]
+const ESTONIAN: [[&[u8]; 2]; 1] = [
+    [
+        &[
+            0x23, 0xC4, 0x6F, 0xCF, 0x53, 0xC8, 0x41, 0xC8, 0x4F, 0xCF, 0x5A, 0xC8, 0x55, 0xC4,
+            0x4F, 0xCF, 0x73, 0xC8, 0x61, 0xC8, 0x6F, 0xCF, 0x7A, 0xC8, 0x75,
+        ],
+        &[0x23, 0x24, 0x40, 0x5B, 0x5C, 0x5D, 0x5E, 0x5F, 0x60, 0x7B, 0x7C, 0x7D, 0x7E],
+    ],
+];
+
+#[rattlefmt::skip]
+const LITHUANIAN: [[&[u8]; 2]; 1] = [
+    [
+        &[
+            0x23, 0x24, 0xCF, 0x53, 0xC7, 0x65, 0xCE, 0x65, 0xCF, 0x5A, 0xCF, 0x63, 0xC5, 0x75,
+            0xCF, 0x73, 0xCE, 0x61, 0xCE, 0x75, 0xCF, 0x7A, 0xCE, 0x69,
+        ],
+        &[0x23, 0x24, 0x40, 0x5B, 0x5C, 0x5D, 0x5E, 0x5F, 0x60, 0x7B, 0x7C, 0x7D, 0x7E],
+    ],
+];
+
 #[test]
 fn draws_the_characters_of_each_option(rt: HostRuntime) {
     assert_draws(&rt, National::Swedish, &SWEDISH);
@@ -119,6 +185,12 @@ fn draws_the_characters_of_each_option(rt: HostRuntime) {
     assert_draws(&rt, National::French, &FRENCH);
     assert_draws(&rt, National::Spanish, &SPANISH);
     assert_draws(&rt, National::Czech, &CZECH);
+    assert_draws(&rt, National::Polish, &POLISH);
+    assert_draws(&rt, National::Turkish, &TURKISH);
+    assert_draws(&rt, National::Croatian, &CROATIAN);
+    assert_draws(&rt, National::Romanian, &ROMANIAN);
+    assert_draws(&rt, National::Estonian, &ESTONIAN);
+    assert_draws(&rt, National::Lithuanian, &LITHUANIAN);
 }
 
 // The text `été`.
@@ -166,6 +238,31 @@ const NOT_SPANISH: [&[u8]; 6] = [
 #[rattlefmt::skip]
 const NOT_CZECH: [&[u8]; 5] = [&[0xCF, 0x6E], &[0x24], &[0xCF, 0x43], &[0xC2, 0x6F], &[0xA8]];
 
+// Capital letters that Polish has and its sub-set lacks, and letters with another accent. The same
+// holds for the texts of Lithuanian below.
+#[rattlefmt::skip]
+const NOT_POLISH: [&[u8]; 9] = [
+    &[0xCE, 0x41], &[0xC2, 0x43], &[0xCE, 0x45], &[0xC2, 0x4E], &[0xC2, 0x4F], &[0xC2, 0x5A],
+    &[0x24], &[0xCF, 0x7A], &[0xC2, 0x65],
+];
+
+#[rattlefmt::skip]
+const NOT_TURKISH: [&[u8]; 5] = [&[0x23], &[0xC3, 0x61], &[0xC2, 0x49], &[0xA3], &[0xF9]];
+
+#[rattlefmt::skip]
+const NOT_CROATIAN: [&[u8]; 4] = [&[0xF3], &[0xCF, 0x64], &[0xC2, 0x73], &[0x24]];
+
+#[rattlefmt::skip]
+const NOT_ROMANIAN: [&[u8]; 4] = [&[0xCF, 0x61], &[0xC2, 0x49], &[0x24], &[0xC2, 0x65]];
+
+#[rattlefmt::skip]
+const NOT_ESTONIAN: [&[u8]; 3] = [&[0xCA, 0x61], &[0xCD, 0x6F], &[0x24]];
+
+#[rattlefmt::skip]
+const NOT_LITHUANIAN: [&[u8]; 6] = [
+    &[0xCE, 0x41], &[0xCF, 0x43], &[0xC7, 0x45], &[0xC5, 0x61], &[0xCB, 0x65], &[0xC2, 0x6C],
+];
+
 // Texts that the French option rejects at their second byte.
 #[rattlefmt::skip]
 const NOT_FRENCH_LATER: [&[u8]; 5] = [
@@ -181,6 +278,12 @@ fn refuses_characters_that_an_option_lacks(rt: HostRuntime) {
     assert_refuses(&rt, National::French, 1, &NOT_FRENCH_LATER);
     assert_refuses(&rt, National::Spanish, 0, &NOT_SPANISH);
     assert_refuses(&rt, National::Czech, 0, &NOT_CZECH);
+    assert_refuses(&rt, National::Polish, 0, &NOT_POLISH);
+    assert_refuses(&rt, National::Turkish, 0, &NOT_TURKISH);
+    assert_refuses(&rt, National::Croatian, 0, &NOT_CROATIAN);
+    assert_refuses(&rt, National::Romanian, 0, &NOT_ROMANIAN);
+    assert_refuses(&rt, National::Estonian, 0, &NOT_ESTONIAN);
+    assert_refuses(&rt, National::Lithuanian, 0, &NOT_LITHUANIAN);
     // A control code is followed by a diacritical mark without a letter.
     let control = draw(
         &subtitle(&rt, 5, 0, &[0x0E, 0xC2]),
@@ -263,13 +366,16 @@ fn refuses_the_diacritic_of_such_a_pair(rt: HostRuntime) {
 
 // The names of the national options on the command line, and the options.
 #[rattlefmt::skip]
-const WORDS: [&str; 7] =
-    ["english", "german", "swedish", "italian", "french", "spanish", "czech"];
+const WORDS: [&str; 13] = [
+    "english", "german", "swedish", "italian", "french", "spanish", "czech", "polish", "turkish",
+    "croatian", "romanian", "estonian", "lithuanian",
+];
 
 #[rattlefmt::skip]
-const OPTIONS: [National; 7] = [
+const OPTIONS: [National; 13] = [
     National::English, National::German, National::Swedish, National::Italian, National::French,
-    National::Spanish, National::Czech,
+    National::Spanish, National::Czech, National::Polish, National::Turkish, National::Croatian,
+    National::Romanian, National::Estonian, National::Lithuanian,
 ];
 
 #[test]
@@ -277,7 +383,7 @@ fn reads_the_word_of_an_option(rt: HostRuntime) {
     for (word, national) in WORDS.iter().zip(OPTIONS.iter()) {
         assert_same_for_case(&rt, &National::parse(*word), &Some(*national), word);
     }
-    for word in ["French", "fr", "portuguese", "polish", "", "french "] {
+    for word in ["French", "fr", "portuguese", "danish", "", "french "] {
         assert_same_for_case(&rt, &National::parse(word), &None, &word);
     }
 }

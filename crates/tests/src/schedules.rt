@@ -48,7 +48,7 @@ fn writes_each_byte(rt: HostRuntime) -> Result<(), Fail> {
     assert_writes(&rt, National::German, false, 0x0B, 0xA8)?;
     assert_writes(&rt, National::German, true, 0xE3, 0x40)?;
     // In the bit order of EN 300 706, the values of byte 9 are 64, 73, A1, B6, 49, 5E, 8C, 9B, 38
-    // and 2F.
+    // and 2F; for Romanian, FD and EA.
     assert_writes(&rt, National::Swedish, false, 0x26, 0xA8)?;
     assert_writes(&rt, National::Swedish, true, 0xCE, 0x40)?;
     assert_writes(&rt, National::Italian, false, 0x85, 0xA8)?;
@@ -58,5 +58,17 @@ fn writes_each_byte(rt: HostRuntime) -> Result<(), Fail> {
     assert_writes(&rt, National::Spanish, false, 0x31, 0xA8)?;
     assert_writes(&rt, National::Spanish, true, 0xD9, 0x40)?;
     assert_writes(&rt, National::Czech, false, 0x1C, 0xA8)?;
-    assert_writes(&rt, National::Czech, true, 0xF4, 0x40)
+    assert_writes(&rt, National::Czech, true, 0xF4, 0x40)?;
+    assert_writes(&rt, National::Polish, false, 0xA8, 0xA8)?;
+    assert_writes(&rt, National::Polish, true, 0x40, 0x40)?;
+    assert_writes(&rt, National::Turkish, false, 0x1C, 0xA8)?;
+    assert_writes(&rt, National::Turkish, true, 0xF4, 0x40)?;
+    assert_writes(&rt, National::Croatian, false, 0x31, 0xA8)?;
+    assert_writes(&rt, National::Croatian, true, 0xD9, 0x40)?;
+    assert_writes(&rt, National::Romanian, false, 0xBF, 0xA8)?;
+    assert_writes(&rt, National::Romanian, true, 0x57, 0x40)?;
+    assert_writes(&rt, National::Estonian, false, 0x26, 0xA8)?;
+    assert_writes(&rt, National::Estonian, true, 0xCE, 0x40)?;
+    assert_writes(&rt, National::Lithuanian, false, 0x85, 0xA8)?;
+    assert_writes(&rt, National::Lithuanian, true, 0x6D, 0x40)
 }

@@ -11,7 +11,7 @@ use Rattle.ts_survey.specs.Counted.{BeginsAfterSkipping, IsAtStreamStart, Counts
 use Rattle.ts_survey.specs.Counted.{CountsStream}
 use Rattle.ts_survey.specs.Counted.{ReadsStream, HasReadUpToBuffer, ReadsNoMoreOfStream}
 use Rattle.ts_survey.specs.Counted.{AnyReceiverTakes, TakesStartedStream}
-use Rattle.ts_survey.specs.Following.{accepts_any_pes_packet}
+use Rattle.ts_survey.specs.Following.{accepts_any_state}
 use Rattle.ts_survey.specs.InStep.{TakesAll, saturating_count, items_from, packet_count}
 use Rattle.ts_survey.specs.InStep.{skipped_byte_count}
 use Rattle.ts_survey.specs.Listed.{KeepsKind}
@@ -22,7 +22,7 @@ use Rattle.ts_survey.specs.declared.recording.Kind.{Kind}
 use Rattle.ts_survey.specs.declared.recording.Kind.TheVariants.{Nothing, Pes, Stream, Unknown}
 use Rattle.ts_survey.proofs.InStepLemmas.{law_of_two_calls}
 
-runs-any : (packets : List (List ℕ)) → RunsBy {S = Unit {0}} accepts_any_pes_packet (tt {0}) packets
+runs-any : (packets : List (List ℕ)) → RunsBy {S = Unit {0}} accepts_any_state (tt {0}) packets
     (tt {0})
 runs-any [] = refl
 runs-any (p ∷ ps) = (tt, tt, runs-any ps)
@@ -96,7 +96,7 @@ read-on mid new reported after received more buffered bytes next is_end used rea
       used = read.used + used;
       taken =
           subst (λ l. AnyReceiverTakes read.first l is_end (read.used + used) new) ahead
-          (law_of_two_calls {T = Unit {0}} accepts_any_pes_packet read.first mid new tt tt tt one
+          (law_of_two_calls {T = Unit {0}} accepts_any_state read.first mid new tt tt tt one
           more
           is_end
           read.used used read.taken

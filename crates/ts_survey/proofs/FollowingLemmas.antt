@@ -27,8 +27,8 @@ pub first-taken :
     → ReceivesBytes IsTaken mid after.pending new
     → ReceivesBytes IsTaken old before.pending new
 first-taken IsTaken before after old mid new first more = record {
-  pes_packets = first.pes_packet ∷ more.pes_packets;
-  joined = ap (λ l. first.pes_packet ++ l) more.joined ∙ sym first.joined;
+  received_parts = first.next_part ∷ more.received_parts;
+  joined = ap (λ l. first.next_part ++ l) more.joined ∙ sym first.joined;
   run = (mid, first.taken, more.run);
 }
 
@@ -38,7 +38,7 @@ pub fewer_ready :
     → (before.pending ≡ [] → ⊥)
     → length after.pending < length before.pending
 fewer_ready IsTaken before after old new first some =
-    rest_is_shorter before.pending first.pes_packet after.pending first.joined
+    rest_is_shorter before.pending first.next_part after.pending first.joined
     (λ none. some (first.some none))
   where
     rest_is_shorter : (all pes_packet rest : List ℕ) → all ≡ pes_packet ++ rest →
@@ -55,11 +55,11 @@ taken-after :
     → ReceivesBytes IsTaken mid more new
     → ReceivesBytes IsTaken old (first ++ more) new
 taken-after IsTaken old mid new first more one other = record {
-  pes_packets = one.pes_packets ++ other.pes_packets;
-  joined = concat-append one.pes_packets other.pes_packets
-      ∙ ap (λ l. l ++ concat other.pes_packets) one.joined
+  received_parts = one.received_parts ++ other.received_parts;
+  joined = concat-append one.received_parts other.received_parts
+      ∙ ap (λ l. l ++ concat other.received_parts) one.joined
       ∙ ap (λ l. first ++ l) other.joined;
-  run = RunsBy-append IsTaken one.pes_packets other.pes_packets old mid new one.run other.run;
+  run = RunsBy-append IsTaken one.received_parts other.received_parts old mid new one.run other.run;
 }
 
 later_output-ended : (j : JoiningValue) (all : List PidEvent)
@@ -107,7 +107,7 @@ follows :
     → ReceivesEventOutput IsTaken j old all new
     → ReceivesBytes IsTaken old (later_output j all) new
 unfolding later_output
-follows IsTaken j [] old new is = record { pes_packets = []; joined = refl; run = is }
+follows IsTaken j [] old new is = record { received_parts = []; joined = refl; run = is }
 follows IsTaken j (note ∷ more) old new is =
     follows-note IsTaken j note more old new (has_ended j.part) refl is
     (follows IsTaken j more old new)

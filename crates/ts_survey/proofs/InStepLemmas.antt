@@ -18,7 +18,7 @@ use Rattle.mpeg_ts.proofs.StreamLemmas.{packet_is_first_item}
 use Rattle.mpeg_ts.proofs.StreamLemmas.{extra_steps_add_no_items, skipped_byte_is_first_item}
 use Rattle.ttx_page.specs.Receiver.{RunsBy}
 use Rattle.ttx_page.proofs.RunLemmas.{RunsBy-append}
-use Rattle.ts_survey.specs.InStep.{ItemsFound, LawOfTwoCalls, following, saturating_count}
+use Rattle.ts_survey.specs.InStep.{ItemsFound, LawOfTwoCalls, unprocessed_at_end, saturating_count}
 use Rattle.ts_survey.specs.InStep.{gap_report, items_from, packet_count, trailing_skipped_count}
 use Rattle.ts_survey.specs.InStep.{skipped_byte_count}
 use Rattle.ts_survey.specs.InStep.{reports_of_items}
@@ -449,8 +449,8 @@ law_of_two_calls IsTaken old mid new before reported after bytes more is_end use
     ap (λ l. drop at (l ++ rest)) (sym (drop-append-le used bytes more within))
     ∙ ap (drop at) (sym (drop-append-le used all rest (omega (arith, within, size))))
     ∙ drop-drop at used (all ++ rest) in
-    let same : following is_end (drop used bytes ++ more) (more_used + new.lead)
-    ≡ following is_end all place =
+    let same : unprocessed_at_end is_end (drop used bytes ++ more) (more_used + new.lead)
+    ≡ unprocessed_at_end is_end all place =
     ap (λ n. if is_end then n else 0) (omega (arith, within, size, left, dropped)) in
     let place_follows_items = other.found.place_follows_items in
     let others = other.found.found in
@@ -460,7 +460,7 @@ law_of_two_calls IsTaken old mid new before reported after bytes more is_end use
       found =
           found_items_extend IsTaken old mid new before reported after all is_end (used + mid.lead)
           place
-          (following is_end all place) others
+          (unprocessed_at_end is_end all place) others
           (found_ahead IsTaken old mid before reported bytes more is_end (used + mid.lead)
           one.found)
           (λ rest none.

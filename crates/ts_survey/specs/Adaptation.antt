@@ -15,7 +15,7 @@
 use Rattle.std.specs.Prelude.{ℕ, ◌+◌, ◌*◌, ◌/◌, ◌%◌, ◌==◌, ◌&&◌, ◌||◌, not, nat_lt, Bool}
 use Rattle.std.specs.Prelude.{if◌then◌else◌, List, [], length, slice_index, Option, Some}
 use Rattle.std.specs.Prelude.{None}
-use Rattle.mpeg_ts.specs.TransportPacket.{has_adaptation_field, has_payload, is_erroneous, payload}
+use Rattle.mpeg_ts.specs.TransportPacket.{has_adaptation_field, has_payload, is_unusable, payload}
 
 -- The bit random_access_indicator of a transport packet.
 abbrev pub has_random_access_indicator : List ℕ → Bool
@@ -42,7 +42,7 @@ pcr_base p =
 
 -- The payload of a transport packet, or an empty list if the packet has no payload or is unusable.
 abbrev pub payload_if_usable : List ℕ → List ℕ
-payload_if_usable p = if has_payload p && not (is_erroneous p) then payload p else []
+payload_if_usable p = if has_payload p && not (is_unusable p) then payload p else []
 
 -- The time at an offset of a PES header, 33 bits of a clock of 90 kHz.
 abbrev pub timestamp_at : List ℕ → ℕ → ℕ

@@ -4,7 +4,7 @@ use Rattle.std.specs.Prelude.{◌≡◌, ◌≤◌, ⊤, ℕ, ◌+◌, ◌-◌, 
 use Rattle.mpeg_ts.specs.PacketSize.{bytes_of}
 use Rattle.mpeg_ts.specs.PacketsInStep.{Item, lead_size}
 use Rattle.ts_survey.specs.Requested.{packet_keeps_requested}
-use Rattle.ts_survey.specs.Following.{accepts_any_pes_packet}
+use Rattle.ts_survey.specs.Following.{accepts_any_state}
 use Rattle.ts_survey.specs.InStep.{TakesAll, saturating_count, items_from, packet_count}
 use Rattle.ts_survey.specs.InStep.{skipped_byte_count}
 use Rattle.ts_survey.specs.declared.multiplex.Multiplex.{Multiplex}
@@ -31,7 +31,7 @@ IsAtStreamStart skipped_before _ = ⊤
 -- The transport packets in these bytes were processed by some receiver.
 abbrev pub AnyReceiverTakes : PacketsInStep → List ℕ → Bool → ℕ → PacketsInStep → Type 0
 AnyReceiverTakes old bytes is_end used new =
-    TakesAll {T = Unit {0}} accepts_any_pes_packet old (tt {0}) bytes is_end used new (tt {0})
+    TakesAll {T = Unit {0}} accepts_any_state old (tt {0}) bytes is_end used new (tt {0})
 
 -- A stream begins after `skipped_before` bytes, and the transport packets in its first bytes were
 -- processed.

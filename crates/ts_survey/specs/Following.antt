@@ -9,28 +9,28 @@ use Rattle.mpeg_ts.specs.Joining.{initial_joining}
 use Rattle.mpeg_ts.specs.PacketsInStep.{items_of}
 use Rattle.ttx_page.specs.Receiver.{RunsBy}
 
--- The contract of a receiver with `accepts_any_pes_packet` does not restrict its state.
-abbrev pub accepts_any_pes_packet : {T : Type 0} → T → List ℕ → T → Type 0
-accepts_any_pes_packet old pes_packet new = Unit {0}
+-- The contract of a receiver with `accepts_any_state` does not restrict its state.
+abbrev pub accepts_any_state : {T : Type 0} → T → List ℕ → T → Type 0
+accepts_any_state old pes_packet new = Unit {0}
 
 -- A receiver received these bytes in parts.
 pub record ReceivesBytes
     {T : Type 0} (IsTaken : T → List ℕ → T → Type 0) (old : T) (bytes : List ℕ) (new : T)
     : Type 0 where
-  pub pes_packets : List (List ℕ)
-  pub joined : concat pes_packets ≡ bytes
-  pub run : RunsBy IsTaken old pes_packets new
+  pub received_parts : List (List ℕ)
+  pub joined : concat received_parts ≡ bytes
+  pub run : RunsBy IsTaken old received_parts new
 
 -- A receiver got the next part of the bytes that are ready, or no bytes if none are ready.
 pub record PassesOnNextPart
     {T : Type 0} (IsTaken : T → List ℕ → T → Type 0) (before : JoiningValue) (old : T)
     (after : JoiningValue) (new : T)
     : Type 0 where
-  pub pes_packet : List ℕ
-  pub joined : before.pending ≡ pes_packet ++ after.pending
+  pub next_part : List ℕ
+  pub joined : before.pending ≡ next_part ++ after.pending
   pub same : after ≡ record before { pending = after.pending }
-  pub some : pes_packet ≡ [] → before.pending ≡ []
-  pub taken : IsTaken old pes_packet new
+  pub some : next_part ≡ [] → before.pending ≡ []
+  pub taken : IsTaken old next_part new
 
 -- The events of a PID are processed one after another: after each event, the receiver gets all data
 -- that the event completes.

@@ -35,10 +35,10 @@ trailing_skipped_count run [] = run
 trailing_skipped_count run (Packet p ∷ more) = trailing_skipped_count 0 more
 trailing_skipped_count run (Skipped ∷ more) = trailing_skipped_count (saturating_count run 1) more
 
--- Missing packets are reported at the last byte of a gap, as []. In a gap of the size of 15
--- packets, packets of a PID may be missing without a break of the counter. After a shorter loss,
--- the next continuity_counter (4 bits; ISO/IEC 13818-1, 2.4.3.3) is neither the last counter, as in
--- a repeat, nor the counter after it.
+-- Missing packets are reported as [], once, at the byte with which the skipped bytes have the size
+-- of 15 packets; more bytes may be skipped after it. Packets of a PID may then be missing without a
+-- break of the counter. After a shorter loss, the next continuity_counter (4 bits;
+-- ISO/IEC 13818-1, 2.4.3.3) is neither the last counter, as in a repeat, nor the counter after it.
 abbrev pub gap_report : ℕ → ℕ → List (List ℕ)
 gap_report distance run = if run == loss_size distance then [] ∷ [] else []
 
@@ -53,8 +53,8 @@ reports_of_items distance run (Skipped ∷ more) =
 
 -- At the end of the recording, the number of bytes after `place`, which belong to no packet; 0
 -- before the end.
-abbrev pub following : Bool → List ℕ → ℕ → ℕ
-following is_end bytes place = if is_end then length bytes - place else 0
+abbrev pub unprocessed_at_end : Bool → List ℕ → ℕ → ℕ
+unprocessed_at_end is_end bytes place = if is_end then length bytes - place else 0
 
 -- Items were found in the bytes, from the start of the search up to `place`: whatever bytes follow,
 -- the bytes begin with these items, followed by those from `place` on. The packets and gaps among
@@ -87,7 +87,7 @@ pub record TakesAll
   pub within : used ≤ length bytes
   pub found :
       ItemsFound IsTaken old before bytes is_end (used + new.lead)
-      (following is_end bytes (used + new.lead)) new after
+      (unprocessed_at_end is_end bytes (used + new.lead)) new after
   pub left : length bytes < used + new.lead + bytes_needed (bytes_of new.size) new.in_step
   pub all :
       is_end ≡ true

@@ -7,7 +7,7 @@ ghost use Rattle.ts_survey.specs.Adaptation.{is_scrambled, payload_if_usable, pc
 ghost use Rattle.ts_survey.specs.Adaptation.{pts_of_pes_packet};
 ghost use Rattle.ts_survey.specs.Adaptation.{timestamp_at};
 
-use mpeg_ts::{PACKET, has_adaptation_field, has_payload, is_erroneous, payload_of};
+use mpeg_ts::{PACKET, has_adaptation_field, has_payload, is_unusable, payload_of};
 
 /// Returns random_access_indicator of a transport packet: a picture that can be shown alone begins
 /// in it.
@@ -55,7 +55,7 @@ pub fn pcr_base(packet: &[u8; PACKET]) -> Option<u64>
 pub fn payload_if_usable(packet: &[u8; PACKET]) -> &[u8]
     ensures { result.now ≡ payload_if_usable packet.now }
 {
-    if has_payload(packet) && !is_erroneous(packet) {
+    if has_payload(packet) && !is_unusable(packet) {
         payload_of(packet)
     } else {
         &[]

@@ -11,7 +11,7 @@ use crate::pid_packets::PidPackets;
 use crate::pid_state::{Pids, counter_distance};
 use crate::text::{Text, forward_distance};
 use arrayvec::ArrayVec;
-use mpeg_ts::{PACKET, announces_jump, begins, counter_of, has_payload, is_erroneous, payload_of};
+use mpeg_ts::{PACKET, announces_jump, begins, counter_of, has_payload, is_unusable, payload_of};
 use std::alloc::Global;
 use ttx_packet::PageId;
 
@@ -105,7 +105,7 @@ impl Carrier {
     fn note(&mut self, packet: &[u8; PACKET]) -> Option<u64>
         ensures { self.new.pid ≡ self.old.pid }
     {
-        if is_erroneous(packet) {
+        if is_unusable(packet) {
             return None;
         }
         if !has_payload(packet) {

@@ -196,7 +196,7 @@ impl Multiplex {
         ensures requested { KeepsRequested self.old self.new }
     {
         let number = self.number;
-        let picture = self.last_picture(state.clock_pid);
+        let picture = self.last_picture(state);
         let clock = self.pids.get(state.clock_pid).clock;
         let Some(carrier) = self.carriers.get_mut(state.carrier as usize) else {
             return;
@@ -220,7 +220,9 @@ impl Multiplex {
         let Some(pictures) = self.videos.get(state.video as usize) else {
             return;
         };
-        if begins(packet) || pictures.needs_every_packet() {
+        // A packet with the counter of the packet before it is needed: a repeat after it is none.
+        let is_same_counter = state.before % 0x10 == state.counter;
+        if begins(packet) || pictures.needs_every_packet() || is_same_counter {
             self.process_needed_packet(
                 state.video,
                 state.kind,
@@ -250,14 +252,11 @@ impl Multiplex {
         pictures.take(packet, kind, link, text);
     }
 
-    // Returns the last picture of the programme with this PCR_PID, from the video PID of the
+    // Returns the last picture of the programme of a PID with Teletext, from the video PID of the
     // programme that began first.
-    fn last_picture(&self, clock_pid: u16) -> Option<Picture> {
-        if clock_pid == NULL_PID {
-            return None;
-        }
+    fn last_picture(&self, teletext: &PidState) -> Option<Picture> {
         for video in self.videos.iter() {
-            if self.pids.get(video.pid()).clock_pid == clock_pid {
+            if shares_programme(&self.pids.get(video.pid()), teletext) {
                 return video.last();
             }
         }
@@ -334,7 +333,7 @@ impl Multiplex {
         if state.clock != NO_INDEX {
             self.read_clock(state.clock, packet, text);
         }
-        if begins(packet) && is_unknown(state) {
+        if begins(packet) && may_be_followed(state) {
             self.inspect(pid, packet, text);
         }
     }
@@ -372,13 +371,17 @@ impl Multiplex {
         let Some(stream_id) = stream_id_in(payload) else {
             return;
         };
+        let mut state = self.pids.get(pid);
+        let is_video = stream_id / 0x10 == 0xE;
+        if state.is_other && !is_video {
+            return;
+        }
         if begins_with_teletext(payload) {
             self.follow(pid, text);
         } else if stream_id != 0xBD || has_data_identifier(payload) {
-            let mut state = self.pids.get(pid);
             state.is_other = true;
             self.pids.set(pid, state);
-            if stream_id / 0x10 == 0xE {
+            if is_video {
                 self.add_video(pid);
             }
         }
@@ -476,7 +479,8 @@ impl Multiplex {
         ensures requested { KeepsRequested self.old self.new }
     {
         report_stream(stream, text);
-        self.pids.note_stream(stream.pid, clock_pid, stream.kind);
+        self.pids
+            .note_stream(stream.pid, clock_pid, stream.kind, self.number);
         if report_pages(section, stream, text) {
             self.follow(stream.pid, text);
         }
@@ -586,9 +590,18 @@ fn is_followed(state: &PidState) -> bool {
     state.table & state.clock & state.video & state.carrier != NO_INDEX
 }
 
-// Returns whether the contents of a PID are unknown.
-fn is_unknown(state: &PidState) -> bool {
-    state.carrier == NO_INDEX && state.table == NO_INDEX && !state.is_other
+// Returns whether a PES packet may show that a PID has Teletext or pictures. A PID with other data
+// may have pictures, if its first PES packet was damaged.
+fn may_be_followed(state: &PidState) -> bool {
+    state.table & state.video & state.carrier == NO_INDEX
+}
+
+// Returns whether a PID with pictures belongs to the programme of a PID with Teletext: the last PMT
+// that names the Teletext names the pictures too, or a later PMT with the same PCR_PID does.
+fn shares_programme(video: &PidState, teletext: &PidState) -> bool {
+    let is_same_pmt = video.named == teletext.named && teletext.named != 0;
+    let is_later_pmt = video.named > teletext.named && teletext.clock_pid != NULL_PID;
+    video.clock_pid == teletext.clock_pid && (is_same_pmt || is_later_pmt)
 }
 
 // Returns whether the first data byte of a PES packet is in the payload in which the PES packet

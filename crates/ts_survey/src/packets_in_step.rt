@@ -10,7 +10,7 @@ ghost use Rattle.mpeg_ts.specs.PacketSize.{bytes_of};
 ghost use Rattle.mpeg_ts.specs.PacketsInStep.{Skipped, begins_packet, bytes_needed, lead_size};
 ghost use Rattle.ttx_page.specs.Receiver.{RunsBy};
 ghost use Rattle.ts_survey.specs.Counted.{BeginsAfterSkipping};
-ghost use Rattle.ts_survey.specs.Following.{accepts_any_pes_packet};
+ghost use Rattle.ts_survey.specs.Following.{accepts_any_state};
 ghost use Rattle.ts_survey.specs.InStep.{ItemsFound, TakesAll, saturating_count, items_from};
 ghost use Rattle.ts_survey.specs.InStep.{reports_of_items};
 ghost use Rattle.ts_survey.specs.ReadBuffer.{max_retained_bytes};
@@ -26,7 +26,7 @@ const LOSS_SIZE_IN_PACKETS: u64 = 15;
 pub trait TakesPackets {
     // How a call changes the receiver: its state before the call, the packet, or [] for missing
     // packets, and its state afterwards.
-    ghost is_taken: { Self → List ℕ → Self → Type 0 } = { accepts_any_pes_packet };
+    ghost is_taken: { Self → List ℕ → Self → Type 0 } = { accepts_any_state };
 
     /// Processes transport packet number `number`, and prints its lines.
     fn take(&mut self, number: u64, packet: &[u8; PACKET], text: &mut Text)

@@ -108,7 +108,7 @@ impl PesLines {
 
     // Returns whether rows that were received after the end of the page have to be printed.
     fn reports_strays(&self, pts: Option<u64>) -> bool {
-        pts.is_some() && self.page.pid_events().has_new_strays()
+        pts.is_some() && self.page.packet_notes().has_new_strays()
     }
 
     // Passes a PES packet that has a PTS to the receiver of the page.
@@ -250,7 +250,7 @@ impl PesLines {
     /// Ends the PES packets: prints the run, if any, and the pages with subtitles.
     pub fn end(&self, text: &mut Text) {
         self.report_current_run(text);
-        self.page.pid_events().report_pages(self.pid, text);
+        self.page.packet_notes().report_pages(self.pid, text);
     }
 
     /// Ends the PES packets with a pending gap marker, which has the numbers of lost and of
@@ -258,7 +258,7 @@ impl PesLines {
     pub fn end_at_gap_marker(&self, lost: u64, scrambled: u64, text: &mut Text) {
         self.report_current_run(text);
         report_gap(self.pid, self.count, lost, scrambled, text);
-        self.page.pid_events().report_pages(self.pid, text);
+        self.page.packet_notes().report_pages(self.pid, text);
     }
 
     // Prints the run of PES packets, if any.

@@ -1,5 +1,5 @@
 //! Reports the first group of pictures of a video PID, from one random access point to the next,
-//! and the decoding time of the last picture.
+//! the decoding time of the last picture, and the steps between decoding times.
 
 use crate::adaptation::{has_random_access_indicator, is_scrambled, payload_if_usable};
 use crate::clock::CLOCK_TICKS_PER_SECOND;
@@ -7,8 +7,9 @@ use crate::lead::Picture;
 use crate::pes_header::PesHeader;
 use crate::picture_forms::{Form, FormReader};
 use crate::pid_state::PacketLink;
+use crate::steps::Steps;
 use crate::text::{CLOCK_PERIOD, Text, forward_distance};
-use mpeg_ts::{PACKET, announces_jump, begins, has_adaptation_field, has_payload, is_erroneous};
+use mpeg_ts::{PACKET, announces_jump, begins, has_adaptation_field, has_payload, is_unusable};
 
 /// How much of the first group of pictures has been received.
 #[derive(Clone, Copy, PartialEq, Eq)]
@@ -36,9 +37,11 @@ pub struct Pictures {
     header: PesHeader,
     is_flagged: bool,
     flags_next: bool,
-    // The number of PES packets that began, and the last picture with a decoding time.
+    // The number of PES packets that began, the last picture with a decoding time, and the steps
+    // between decoding times.
     count: u64,
     last: Option<Picture>,
+    steps: Steps,
     // Whether the next payload continues the picture at the random access point, and how many bytes
     // of its PES header are still missing.
     is_first: bool,
@@ -67,6 +70,7 @@ impl Pictures {
             flags_next: false,
             count: 0,
             last: None,
+            steps: Steps::new(),
             is_first: false,
             header_bytes_left: 0,
             skipped_before: 0,
@@ -158,7 +162,7 @@ impl Pictures {
             self.flags_next = false;
             self.is_first = false;
         }
-        if is_erroneous(packet) {
+        if is_unusable(packet) {
             self.process_unreadable_packet(packet, kind, text);
         } else {
             self.read_header(packet, kind, link, text);
@@ -193,11 +197,7 @@ impl Pictures {
     fn begin_picture(&mut self, kind: u8, text: &mut Text) {
         self.count = self.count.saturating_add(1);
         if let Some(time) = self.header.decoding_time() {
-            self.last = Some(Picture {
-                video: self.pid,
-                time,
-                number: self.count,
-            });
+            self.record_decoding_time(time, text);
         }
         match self.group_progress {
             GroupProgress::Before => {
@@ -216,6 +216,20 @@ impl Pictures {
             }
             GroupProgress::Finished => {}
         }
+    }
+
+    // Records the decoding time of the picture that has begun.
+    fn record_decoding_time(&mut self, time: u64, text: &mut Text) {
+        let before = match self.last {
+            Some(picture) => Some(picture.time),
+            None => None,
+        };
+        self.steps.take(self.pid, before, time, self.count, text);
+        self.last = Some(Picture {
+            video: self.pid,
+            time,
+            number: self.count,
+        });
     }
 
     // Reads more bytes of the picture at the random access point, unless another picture has begun.
@@ -295,9 +309,10 @@ impl Pictures {
         text.put(form_word(self.reader.form()));
     }
 
-    /// Ends the recording: prints the counts of the first group of pictures if the group has not
-    /// ended.
+    /// Ends the recording: prints the last steps, and the counts of the first group of pictures if
+    /// the group has not ended.
     pub fn end(&self, text: &mut Text) {
+        self.steps.end(self.pid, text);
         match self.group_progress {
             GroupProgress::Finished => {}
             GroupProgress::Before => self.report_end(b" 0\n", text),

@@ -5,9 +5,9 @@ ghost use Rattle.mpeg_ts.specs.Joining.{after_pid_event, without_pending, has_en
 ghost use Rattle.mpeg_ts.specs.Joining.{initial_joining};
 ghost use Rattle.mpeg_ts.specs.Joining.{link_after, repeats};
 ghost use Rattle.mpeg_ts.specs.Parts.{is_seam};
-ghost use Rattle.mpeg_ts.specs.TransportPacket.{has_payload, is_erroneous};
+ghost use Rattle.mpeg_ts.specs.TransportPacket.{has_payload, is_unusable};
 ghost use Rattle.ts_survey.specs.Following.{PassesOnNextPart, ReceivesBytes};
-ghost use Rattle.ts_survey.specs.Following.{accepts_any_pes_packet};
+ghost use Rattle.ts_survey.specs.Following.{accepts_any_state};
 
 use crate::text::Text;
 use mpeg_ts::{Joining, Next, PACKET};
@@ -17,7 +17,7 @@ use mpeg_ts::{Joining, Next, PACKET};
 pub trait TakesPesPackets {
     // How a call changes the receiver: its state before the call, the bytes, and its state
     // afterwards.
-    ghost is_taken: { Self → List ℕ → Self → Type 0 } = { accepts_any_pes_packet };
+    ghost is_taken: { Self → List ℕ → Self → Type 0 } = { accepts_any_state };
 
     /// Processes a PES packet, a gap marker or other bytes, and prints its lines. `is_missing`: the
     /// gap marker replaces missing packets, and was not carried by the PID.
@@ -49,7 +49,7 @@ impl<T: TakesPesPackets> PidPackets<T> {
     /// Returns whether a packet repeats the last good packet.
     pub fn is_repeat(&self, packet: &[u8; PACKET]) -> bool
         requires payload { has_payload packet.now ≡ true }
-        requires valid { is_erroneous packet.now ≡ false }
+        requires valid { is_unusable packet.now ≡ false }
         ensures { result ≡ repeats self.now.joining packet.now }
     {
         self.joining.is_repeat(packet)
@@ -95,7 +95,7 @@ fn give_ready<T: TakesPesPackets>(joining: &mut Joining, to: &mut T, text: &mut 
     ensures joining { joining.new ≡ without_pending joining.old }
     ensures taken { ReceivesBytes T.is_taken to.old joining.old.pending to.new }
 {
-    'pes_packets: while !joining.has_nothing_pending() {
+    'items: while !joining.has_nothing_pending() {
         give_next(joining, to, text);
     }
 }

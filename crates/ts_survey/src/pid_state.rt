@@ -43,6 +43,8 @@ pub struct PidState {
     /// 0 if no PMT named it.
     pub clock_pid: u16,
     pub kind: u8,
+    /// The number of the packet in which that PMT ended; 0 if no PMT named this PID.
+    pub named: u64,
     /// The indices of the sections, the clock, the pictures and the PES packets of this PID;
     /// `NO_INDEX` for each that the PID does not have.
     pub table: u8,
@@ -81,6 +83,7 @@ fn unknown() -> PidState {
         last: 0,
         clock_pid: NULL_PID,
         kind: 0,
+        named: 0,
         table: NO_INDEX,
         clock: NO_INDEX,
         video: NO_INDEX,
@@ -202,11 +205,13 @@ impl Pids {
         }
     }
 
-    /// Records that a PMT names a PID, with the PCR_PID of its programme, and stream_type.
-    pub fn note_stream(&mut self, pid: u16, clock_pid: u16, kind: u8) {
+    /// Records that a PMT names a PID, with the PCR_PID of its programme, and stream_type. The PMT
+    /// ended in packet number `number`.
+    pub fn note_stream(&mut self, pid: u16, clock_pid: u16, kind: u8, number: u64) {
         let mut state = self.get(pid);
         state.clock_pid = clock_pid;
         state.kind = kind;
+        state.named = number;
         self.set(pid, state);
     }
 

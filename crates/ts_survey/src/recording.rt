@@ -24,7 +24,7 @@ const HEAD: usize = 11;
 
 /// The number of bytes that are examined together to detect the packet size. `MAX_INSPECTED_BYTES`
 /// limits how many bytes are examined in all.
-const INSPECTED_PACKETS: usize = 65_536;
+const INSPECTED_BYTES: usize = 65_536;
 
 const MAX_INSPECTED_BYTES: u64 = 0x100_0000;
 
@@ -126,7 +126,7 @@ impl Recording {
                 return used;
             }
         }
-        self.flush_pending(bytes, is_end, text)
+        self.take_by_kind(bytes, is_end, text)
     }
 
     // Determines the kind of the recording, and returns how many bytes need not be examined again.
@@ -166,7 +166,7 @@ impl Recording {
     // are no longer needed.
     #[inline(always)]
     #[tactic(auto, using(crate::proofs::ListedLemmas::what_goes_on))]
-    fn flush_pending(&mut self, bytes: &[u8], is_end: bool, text: &mut Text) -> usize
+    fn take_by_kind(&mut self, bytes: &[u8], is_end: bool, text: &mut Text) -> usize
         ensures within { result ≤ length bytes.now }
         ensures kept { length bytes.now ≤ result + max_retained_bytes }
         // All packets of a stream in the bytes are processed, in order, each once; at the end no
@@ -240,7 +240,7 @@ impl Recording {
             self.begin(size, first);
             return 0;
         }
-        let used = if bytes.len() > INSPECTED_PACKETS {
+        let used = if bytes.len() > INSPECTED_BYTES {
             bytes.len() - RETAINED_BYTES
         } else {
             0

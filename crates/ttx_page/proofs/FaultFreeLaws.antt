@@ -12,7 +12,7 @@ use Rattle.std.proofs.lemmas.List.Folds.{list_any-append}
 use Rattle.ttx_packet.specs.PageId.{PageIdValue}
 use Rattle.ttx_packet.specs.Parity.{character_code}
 use Rattle.ttx_packet.specs.RowPacket.{HasOddText, text_byte}
-use Rattle.ttx_page.specs.Noise.{ErasesPage, IsOddRow, LawOfFaultFree}
+use Rattle.ttx_page.specs.Noise.{ErasesPage, IsOddRow, LawWithoutNoise}
 use Rattle.ttx_page.specs.Page.{IsCell, cell, space}
 use Rattle.ttx_page.specs.PacketKind.{begins_text, ends_page, is_row, is_this_page, kind}
 use Rattle.ttx_page.specs.Receiver.{Hears, State, Step}
@@ -244,7 +244,7 @@ law_of_kept_text keeps w sent old new sends hears fresh row column named =
           named.2,
     )
 
-pub law_of_fault_free : LawOfFaultFree
+pub law_of_fault_free : LawWithoutNoise
 law_of_fault_free w sent old new sound unheard shut hears heard row column named =
     let ends =
     law_of_noise w sent sent old new sound (AreNear-themselves sent) unheard shut hears in

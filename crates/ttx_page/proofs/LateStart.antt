@@ -5,7 +5,7 @@ use Rattle.std.proofs.lemmas.Bool.Decides.{nat_tests}
 use Rattle.std.proofs.lemmas.List.Elements.{All-tail}
 use Rattle.ttx_packet.specs.PageHeader.{HasExactCodeWords}
 use Rattle.ttx_packet.specs.PageId.{PageIdValue}
-use Rattle.ttx_page.specs.Noise.{ErasesPage, HasSameCodes, IsOddRow, IsSameRow}
+use Rattle.ttx_page.specs.Noise.{ErasesPage, HasSameCodes, IsOddRow, AreEqualInRow}
 use Rattle.ttx_page.specs.PacketKind.{kind}
 use Rattle.ttx_page.specs.Shown.{shown}
 use Rattle.ttx_page.specs.Repeats.{HasCodes, SendsText}
@@ -20,7 +20,7 @@ All-later P [] ys all = all
 All-later P (x ∷ xs) ys all = All-later P xs ys (All-tail P x (xs ++ ys) all)
 
 pub same_rows_have_same_codes : (w : PageIdValue) (packets : List (List ℕ))
-    → All (λ first. All (IsSameRow w first) packets) packets
+    → All (λ first. All (AreEqualInRow w first) packets) packets
     → All (λ first. All (HasSameCodes w first) packets) packets
 same_rows_have_same_codes w packets same i d l j e m row column one two below = grind
     (arith, nat_tests)

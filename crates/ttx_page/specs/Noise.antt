@@ -24,8 +24,8 @@ abbrev pub IsOddRow : PageIdValue → List ℕ → Type 0
 IsOddRow w packet = (row : ℕ) → kind w packet ≡ Row row → HasOddText packet
 
 -- If both packets are packets of the same row of page w, they are equal.
-abbrev pub IsSameRow : PageIdValue → List ℕ → List ℕ → Type 0
-IsSameRow w first second =
+abbrev pub AreEqualInRow : PageIdValue → List ℕ → List ℕ → Type 0
+AreEqualInRow w first second =
     (row : ℕ) → kind w first ≡ Row row → kind w second ≡ Row row → first ≡ second
 
 -- If both packets are packets of the same row of page w, they have the same character codes.
@@ -82,8 +82,8 @@ LawOfNoise =
 
 -- Without wrong bits, each cell of a receiver has the code that the packets show, whatever the page
 -- contained before and whatever the receiver does at bytes of even parity.
-abbrev pub LawOfFaultFree : Type 0
-LawOfFaultFree =
+abbrev pub LawWithoutNoise : Type 0
+LawWithoutNoise =
     (w : PageIdValue) (sent : List (List ℕ)) (old new : State)
     → IsSound w sent
     → IsFalse old.heard

@@ -76,13 +76,13 @@ Hears w old packets new = RunsBy (Step w) old packets new
 -- code of its cell.
 abbrev pub AtEvenBytes :
     (ℕ → ℕ → Type 0) → PageIdValue → State → List ℕ → State → Type 0
-AtEvenBytes StateAfterItems w old packet new =
+AtEvenBytes CodeChange w old packet new =
     (row column : ℕ)
     → IsCell row column
     → IsTrue old.is_open
     → kind w packet ≡ Row row
     → IsFalse (is_odd (text_byte packet column))
-    → StateAfterItems (cell old.page row column) (cell new.page row column)
+    → CodeChange (cell old.page row column) (cell new.page row column)
 
 -- For a byte of even parity, the receiver stores the code that `leaves` returns for the old code:
 -- the old code itself, if it keeps cells, or a space, if it blanks them.

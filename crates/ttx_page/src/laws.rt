@@ -4,7 +4,7 @@
 //! The functions do nothing; each contract states a law about the definitions in `specs/`.
 ghost use Rattle.ttx_page.specs.DroppedRows.{LawOfDropping};
 ghost use Rattle.ttx_page.specs.LostRows.{LawOfLostRows, LawOfNothingLost};
-ghost use Rattle.ttx_page.specs.Noise.{LawOfNoise, LawOfFaultFree};
+ghost use Rattle.ttx_page.specs.Noise.{LawOfNoise, LawWithoutNoise};
 ghost use Rattle.ttx_page.specs.Recovery.{LawOfRecovery};
 ghost use Rattle.ttx_page.specs.Repeats.{LawOfKeepingReceivers, LawOfRepeatScreen, LawOfKeptText};
 ghost use Rattle.ttx_page.specs.Repeats.{LawOfRepeats};
@@ -30,8 +30,8 @@ pub fn law_of_noise()
 /// Without wrong bits, a receiver that has received a header of the page has exactly the sent
 /// codes, whatever the page contained before.
 #[tactic(auto, using(crate::proofs::FaultFreeLaws::law_of_fault_free))]
-pub fn law_of_fault_free()
-    ensures { LawOfFaultFree }
+pub fn law_without_noise()
+    ensures { LawWithoutNoise }
 {}
 
 /// The law of lost rows: the law of noise if packets other than page headers are lost, and for

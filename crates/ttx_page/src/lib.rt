@@ -26,9 +26,9 @@ pub use differing::count_differing_columns;
 pub use drop_row::{DropRow, is_dropped};
 pub use keep::Keep;
 pub use laws::{
-    law_of_dropping, law_of_fault_free, law_of_keeping_receivers, law_of_kept_text,
-    law_of_lost_rows, law_of_noise, law_of_nothing_lost, law_of_recovery, law_of_repeat_screen,
-    law_of_repeats, law_of_screen, law_of_span,
+    law_of_dropping, law_of_keeping_receivers, law_of_kept_text, law_of_lost_rows, law_of_noise,
+    law_of_nothing_lost, law_of_recovery, law_of_repeat_screen, law_of_repeats, law_of_screen,
+    law_of_span, law_without_noise,
 };
 pub use packet_kind::PacketKind;
 pub use page::Page;

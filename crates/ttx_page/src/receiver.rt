@@ -60,7 +60,7 @@ pub trait Receiver: Sized {
 pub fn hear_all<R: Receiver>(receiver: &mut R, packets: &[Packet])
     ensures run { Hears (R.tuned_to receiver.old) (R.state receiver.old) packets.now
         (R.state receiver.new) }
-    ensures code_for_even_byte { HearsLeaving R.leaves (R.tuned_to receiver.old)
+    ensures leaves_cells { HearsLeaving R.leaves (R.tuned_to receiver.old)
         (R.state receiver.old)
         packets.now (R.state receiver.new) }
     ensures tuned { R.tuned_to receiver.new ≡ R.tuned_to receiver.old }

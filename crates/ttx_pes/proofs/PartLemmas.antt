@@ -6,7 +6,7 @@ use Rattle.ttx_pes.specs.Advancing.{limited_known_bytes}
 use Rattle.ttx_pes.specs.PartOfPesPackets.{known_part, part_first_index}
 use Rattle.ttx_pes.specs.PesPacketRange.{AheadValue, PesPacketRangeValue, rest_after_pes_packets}
 use Rattle.ttx_pes.specs.PesPacketRange.{count_pes_packets}
-use Rattle.ttx_pes.specs.PesPacketRange.{first_index, in_range, limited_bytes, range_length}
+use Rattle.ttx_pes.specs.PesPacketRange.{first_index, range_bytes, limited_bytes, range_length}
 
 part_is_limited_suffix : (n : ℕ) (left : Option ℕ) (known_bytes : Option (List ℕ))
     → known_part n left known_bytes ≡ limited_known_bytes left
@@ -26,8 +26,8 @@ limiting_maps_known_bytes (Some k) n None = refl
 limiting_maps_known_bytes (Some k) n (Some x) = refl
 
 pub part_bytes_are_in_range : (r : PesPacketRangeValue) (known_bytes : Option (List ℕ))
-    → known_part r.first (range_length r) known_bytes ≡ option_map (in_range r) known_bytes
-unfolding in_range
+    → known_part r.first (range_length r) known_bytes ≡ option_map (range_bytes r) known_bytes
+unfolding range_bytes
 part_bytes_are_in_range r known_bytes =
     part_is_limited_suffix r.first (range_length r) known_bytes ∙ limiting_maps_known_bytes
     (range_length r) r.first

@@ -4,7 +4,7 @@ use Rattle.std.proofs.Common.{refl, sym, ap, ◌∙◌, arith, length-take}
 use Rattle.std.proofs.lemmas.List.{append-nil, take-append-drop}
 use Rattle.sub_io.specs.Reading.{AreBytes}
 use Rattle.ttx_pes.specs.declared.fault.PesFault.{PesFault}
-use Rattle.ttx_pes.specs.PesPackets.{IsPesPacket, TakesPesPacket}
+use Rattle.ttx_pes.specs.PesPackets.{IsPesPacket, TakesRefusedPesPacket}
 use Rattle.ttx_pes.specs.Reading.{size_at, value_at, packet_at}
 use Rattle.ttx_pes.specs.Accepting.{SettlesPacket}
 use Rattle.ttx_pes.proofs.DataUnitLemmas.{AreBytes-take}
@@ -37,7 +37,7 @@ pub refused_packet_is_consumed : (old new : Option (List ℕ)) (taken body : Lis
     → AreBytes taken
     → 6 ≤ length taken
     → size_at (take 6 taken) ≡ Ok (length taken)
-    → TakesPesPacket old new f
+    → TakesRefusedPesPacket old new f
 refused_packet_is_consumed old new taken body f h same e fit long header_states_size =
     let s = settled_result_is_value old new taken body (Err f) h same e in
     record {

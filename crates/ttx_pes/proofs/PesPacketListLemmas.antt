@@ -16,7 +16,7 @@ use Rattle.ttx_pes.specs.Fault.{is_packet_content_fault}
 use Rattle.ttx_pes.specs.Laws.{LawOfPesPackets}
 use Rattle.ttx_pes.specs.PesGrammar.{PesValue}
 use Rattle.ttx_pes.specs.PesPackets.{SplitInto, IsPesPacket, IsPesPacketOf, PesPacketsValue}
-use Rattle.ttx_pes.specs.PesPackets.{TakesPesPacket}
+use Rattle.ttx_pes.specs.PesPackets.{TakesRefusedPesPacket}
 use Rattle.ttx_pes.specs.PesPackets.{rest_fault_answer, rest_after_pes_packet, without_pes_packets}
 use Rattle.ttx_pes.specs.PesPackets.{prepend_pes_packet_answer, pes_packets_after}
 use Rattle.ttx_pes.specs.PesPackets.{pes_packets_from, with_pes_packet}
@@ -399,7 +399,7 @@ value_leaves_rest given bytes v e = elim (result_is_ok_or_error (packet_at bytes
 
 -- If the fault of a complete PES packet is returned, all bytes of that packet were consumed.
 pub refused_packet_leaves_rest : (old new : Option (List ℕ)) (bytes : List ℕ) (f : PesFault)
-    → TakesPesPacket old new f
+    → TakesRefusedPesPacket old new f
     → old ≡ Some bytes
     → new ≡ Some (rest_after_pes_packet bytes)
 refused_packet_leaves_rest old new bytes f h1 h2 =

@@ -13,7 +13,7 @@ use Rattle.ttx_pes.specs.Advancing.{rest_fault}
 use Rattle.ttx_pes.specs.Comparing.{TakesDataField}
 use Rattle.ttx_pes.specs.Fault.{is_packet_content_fault, is_read_fault}
 use Rattle.ttx_pes.specs.PesGrammar.{PesValue}
-use Rattle.ttx_pes.specs.PesPackets.{IsPesPacket, TakesPesPacket}
+use Rattle.ttx_pes.specs.PesPackets.{IsPesPacket, TakesRefusedPesPacket}
 use Rattle.ttx_pes.specs.Reader.{ReportsPacket}
 use Rattle.ttx_pes.specs.Reading.{is_format_fault, max_pes_packets, size_at, value_at}
 use Rattle.ttx_pes.specs.Accepting.{BuffersPesPacket, FrameBufferValue, ReadsValue, SettlesPacket}
@@ -160,7 +160,7 @@ module _ (given : ℕ) (old new left : Option (List ℕ)) (before after : FrameB
         in r)
         after
         → left ≡ new
-        → ReportsPacket (Reading given) old left (Err f) × TakesPesPacket old left f
+        → ReportsPacket (Reading given) old left (Err f) × TakesRefusedPesPacket old left f
     refused_packet_is_answer f t is =
         let p = t.bytes in
         let s = pes_packet_size_is_stated p t.is_pes_packet in

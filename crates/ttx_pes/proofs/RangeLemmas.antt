@@ -14,7 +14,7 @@ use Rattle.ttx_pes.specs.Laws.{LawOfRanges}
 use Rattle.ttx_pes.specs.PesGrammar.{packet_length, packet_start}
 use Rattle.ttx_pes.specs.PesPacketRange.{StartsWithoutPesPacket, rest_after_pes_packets}
 use Rattle.ttx_pes.specs.PesPacketRange.{count_pes_packets, first_index}
-use Rattle.ttx_pes.specs.PesPacketRange.{first_pes_packets, in_range, pes_packet_size}
+use Rattle.ttx_pes.specs.PesPacketRange.{first_pes_packets, range_bytes, pes_packet_size}
 use Rattle.ttx_pes.specs.PesPacketRange.{stated_packet_size}
 use Rattle.ttx_pes.specs.PesPackets.{IsPesPacket}
 use Rattle.ttx_pes.specs.Reading.{size_at}
@@ -140,7 +140,7 @@ range_end_is_reached : (first last count : ℕ)
 range_end_is_reached first last count h1 = grind (arith, nat_tests, le-leb, lt-ltb, lt-leb, le-ltb)
 
 pub ranges_select_packets : LawOfRanges
-unfolding in_range first_index
+unfolding range_bytes first_index
 ranges_select_packets first None ps rest le each fit none =
     let end = rest_has_no_packet_size rest fit none in
     (packets_leave_rest rest end first ps each, packets_are_counted rest end first ps each)

@@ -12,31 +12,33 @@ use Rattle.ttx_pes.specs.Reader.{TakesValidPesPacket}
 
 -- The model of a comparing reader: its progress, its frame, and the data field of the last PES
 -- packet, bytes 45 (data_identifier) to the end. The data field is empty before the first packet,
--- at the end and after a fault. Directly after the fault of a complete packet, `following` is the
--- number of packets consumed, including the faulty one.
+-- at the end and after a fault. Directly after the fault of a complete packet,
+-- `count_through_fault` is the number of packets consumed, including the faulty one.
 pub record ComparingValue : Type 0 where
   pub progress : Progress
   pub frame : PesValue
   pub data_field : List ℕ
-  pub following : Option ℕ
+  pub count_through_fault : Option ℕ
 
 -- The number of PES packets consumed, if the result is the fault of a complete packet; otherwise
 -- `None`.
-abbrev pub returned_count_after : Progress → Result Compared PesFault → Option ℕ
-returned_count_after (Reading given) (Err f) = if is_packet_content_fault f then Some (given + 1)
+abbrev pub count_through_fault_after : Progress → Result Compared PesFault → Option ℕ
+count_through_fault_after (Reading given) (Err f) =
+    if is_packet_content_fault f then Some (given + 1)
     else None
-returned_count_after _ _ = None
+count_through_fault_after _ _ = None
 
 -- The state of a comparing reader that continues after this number of PES packets. `None` leaves it
 -- unchanged.
 abbrev pub after_skipped_fault : ComparingValue → Option ℕ → ComparingValue
 after_skipped_fault c None = c
-after_skipped_fault c (Some given) = record c { progress = Reading given; following = None }
+after_skipped_fault c (Some given) =
+    record c { progress = Reading given; count_through_fault = None }
 
 -- The state of a comparing reader after `skip_packet`: it continues if its last result was the
 -- fault of a complete packet; otherwise its state does not change.
 abbrev pub with_packet_skipped : ComparingValue → ComparingValue
-with_packet_skipped c = after_skipped_fault c c.following
+with_packet_skipped c = after_skipped_fault c c.count_through_fault
 
 -- The result of a comparing reader as a result of `next_into`: `true` for `Same` and `Other`,
 -- `false` for `End`.

@@ -10,9 +10,9 @@ use Rattle.ttx_pes.specs.LineOrder.{numbered_units, AreInLineOrder, PrecedesInLi
 use Rattle.ttx_pes.specs.PesGrammar.{PesValue, IsValidPesPacket, IsPesValue, canonical_packet}
 use Rattle.ttx_pes.specs.PesGrammar.{numbered_frame}
 use Rattle.ttx_pes.specs.PesPacketRange.{StartsWithoutPesPacket, packets_in_range, first_index}
-use Rattle.ttx_pes.specs.PesPacketRange.{in_range}
+use Rattle.ttx_pes.specs.PesPacketRange.{range_bytes}
 use Rattle.ttx_pes.specs.PesPackets.{SplitInto, IsPesPacket, pes_packets_after}
-use Rattle.ttx_pes.specs.Reader.{StartWithoutPesPacket}
+use Rattle.ttx_pes.specs.Reader.{StartsWithoutValidPacket}
 use Rattle.ttx_pes.specs.Reading.{packet_at, answer_at, rest_after, is_format_fault}
 use Rattle.ttx_pes.specs.Reading.{max_pes_packets}
 use Rattle.ttx_pes.specs.Refusal.{reported_fault, FailsFirstAtCheck}
@@ -77,7 +77,7 @@ LawOfReaderAnswers =
     × ((f : PesFault)
     → is_format_fault f ≡ true
     → answer_at given bytes ≡ Err f
-    → StartWithoutPesPacket bytes)
+    → StartsWithoutValidPacket bytes)
     × (answer_at given bytes ≡ Err TooMany → 0 < length bytes)
 
 -- Reading the bytes written for a frame returns that frame, and leaves the bytes that follow. So a
@@ -123,7 +123,7 @@ LawOfRanges =
     → AllByRecursion IsPesPacket pes_packets
     → AreBytes rest
     → StartsWithoutPesPacket rest
-    → (in_range (record { first = first; last = last }) (concat pes_packets ++ rest)
+    → (range_bytes (record { first = first; last = last }) (concat pes_packets ++ rest)
     ≡ packets_in_range first last pes_packets rest)
     × (first_index (record { first = first; last = last }) (concat pes_packets ++ rest)
     ≡ min first (length pes_packets))

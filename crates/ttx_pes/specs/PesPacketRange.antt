@@ -74,8 +74,8 @@ range_length r = option_map (λ last. last + 1 - r.first) r.last
 
 -- The bytes of a range: its PES packets and, if the file ends before the range, the bytes after the
 -- last packet of the file.
-unfoldable pub in_range : PesPacketRangeValue → List ℕ → List ℕ
-in_range r b = limited_bytes (range_length r) (rest_after_pes_packets r.first b)
+unfoldable pub range_bytes : PesPacketRangeValue → List ℕ → List ℕ
+range_bytes r b = limited_bytes (range_length r) (rest_after_pes_packets r.first b)
 
 -- The index in the file of the first PES packet of a range, or the number of packets in the file if
 -- it has fewer.

@@ -26,7 +26,7 @@ pub record IsPesPacket (b : List ℕ) : Type 0 where
   pub long : length b ≡ payload_size * n
 
 -- Exactly one PES packet was consumed, and it is rejected for the fault f.
-pub record TakesPesPacket (old new : Option (List ℕ)) (f : PesFault) : Type 0 where
+pub record TakesRefusedPesPacket (old new : Option (List ℕ)) (f : PesFault) : Type 0 where
   pub bytes : List ℕ
   pub is_pes_packet : IsPesPacket bytes
   pub consumed : Consumes old new bytes

@@ -94,20 +94,19 @@ pub record ReportsPacket
   pub is_no_write_fault : IfErr answer (λ fault. fault ≢ Write)
 
 -- Exactly n valid PES packets were consumed.
-pub record TakesPackets (n : ℕ) (old new : Option (List ℕ)) : Type 0 where
+pub record TakesValidPesPackets (n : ℕ) (old new : Option (List ℕ)) : Type 0 where
   pub packets : List (List ℕ)
   pub number : length packets ≡ n
   pub each : AllByRecursion (λ b. (v : PesValue) × IsValidPesPacket v b) packets
   pub consumed : Consumes old new (concat packets)
 
 -- The source failed within PES packet n, counted from 0. The PES packets before it were consumed.
-pub record FailsAtPacket (n : ℕ) (old new : Option (List ℕ)) : Type 0 where
+pub record FailsAfterValidPackets (n : ℕ) (old new : Option (List ℕ)) : Type 0 where
   pub following : Option (List ℕ)
-  pub before : TakesPackets n old following
+  pub before : TakesValidPesPackets n old following
   pub within : FailsWithinPacket following new
 
 -- The bytes do not begin with a valid PES packet.
-abbrev pub StartWithoutPesPacket : List ℕ → Type 0
-StartWithoutPesPacket bytes = (v : PesValue) (b rest : List ℕ) → IsValidPesPacket v b → bytes ≡ b ++
-    rest
-    → ⊥
+abbrev pub StartsWithoutValidPacket : List ℕ → Type 0
+StartsWithoutValidPacket bytes =
+    (v : PesValue) (b rest : List ℕ) → IsValidPesPacket v b → bytes ≡ b ++ rest → ⊥

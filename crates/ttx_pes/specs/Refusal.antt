@@ -68,26 +68,26 @@ check_of_byte place =
     (slice_index_or unit_byte_checks (within % data_unit_size) unchecked_byte
     + 3 * (within / data_unit_size))
 
--- The bytes agree with a valid packet in all checks before check number `question`: enough bytes
--- are available, and each checked byte equals that of the packet.
-pub record AgreeBeforeCheck (question : ℕ) (bytes packet : List ℕ) : Type 0 where
-  pub has_six_bytes : 0 < question → 6 ≤ length bytes
-  pub all : 3 < question → length packet ≤ length bytes
+-- The bytes agree with a valid packet in all checks before check number `check_number`: enough
+-- bytes are available, and each checked byte equals that of the packet.
+pub record AgreeBeforeCheck (check_number : ℕ) (bytes packet : List ℕ) : Type 0 where
+  pub has_six_bytes : 0 < check_number → 6 ≤ length bytes
+  pub all : 3 < check_number → length packet ≤ length bytes
   pub same :
       (place : ℕ)
-      → check_of_byte place < question
+      → check_of_byte place < check_number
       → place < length packet
       → slice_index bytes place ≡ slice_index packet place
 
--- Check number `question` is the first check that the bytes fail: a packet of the grammar agrees
--- with them in all earlier checks, but none agrees in this check too.
-pub record FailsFirstAtCheck (question : ℕ) (bytes : List ℕ) : Type 0 where
+-- Check number `check_number` is the first check that the bytes fail: a packet of the grammar
+-- agrees with them in all earlier checks, but none agrees in this check too.
+pub record FailsFirstAtCheck (check_number : ℕ) (bytes : List ℕ) : Type 0 where
   pub value : PesValue
   pub packet : List ℕ
   pub is_packet : IsValidPesPacket value packet
-  pub before : AgreeBeforeCheck question bytes packet
+  pub before : AgreeBeforeCheck check_number bytes packet
   pub none :
       (v : PesValue) (p : List ℕ)
       → IsValidPesPacket v p
-      → AgreeBeforeCheck (question + 1) bytes p
+      → AgreeBeforeCheck (check_number + 1) bytes p
       → ⊥

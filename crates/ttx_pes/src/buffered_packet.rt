@@ -73,7 +73,7 @@ fn find_places(places: &mut UnitPlaces, kept: &[u8], field: &[u8]) -> Result<(),
 // Returns whether a data field equals the stored one. For speed, compares first the bytes in which
 // different data fields usually differ.
 #[inline(always)]
-fn is_kept(kept: &[u8], field: &[u8]) -> bool
+fn equals_stored_field(kept: &[u8], field: &[u8]) -> bool
     requires { IsDataFieldSize (length field.now) }
     ensures { (result ≡ true) ↔ (field.now ≡ kept.now) }
 {
@@ -201,7 +201,7 @@ impl BufferedPacket {
         let pts = pts_of(body)?;
         let (_, field) = body.split_at(39);
         let kept = self.field(before);
-        if is_kept(kept, field) {
+        if equals_stored_field(kept, field) {
             self.pts = pts;
             self.repeats = true;
             return Ok(true);

@@ -4,11 +4,11 @@
 //! need more lemmas than it saves.
 ghost use Rattle.std.specs.Prelude.{◌≡◌, ℕ, ◌+◌, ◌≤◌, ◌≢◌, true, false, [], None, Ok, IfErr};
 ghost use Rattle.sub_io.specs.Device.{CanFail, CountsFailureIf, failed};
-ghost use Rattle.ttx_pes.specs.Comparing.{comparison_as_flag, returned_count_after};
+ghost use Rattle.ttx_pes.specs.Comparing.{comparison_as_flag, count_through_fault_after};
 ghost use Rattle.ttx_pes.specs.Comparing.{with_packet_skipped};
 ghost use Rattle.ttx_pes.specs.Comparing.{TakesDataField};
 ghost use Rattle.ttx_pes.specs.Fault.{is_packet_content_fault, is_read_fault};
-ghost use Rattle.ttx_pes.specs.PesPackets.{TakesPesPacket};
+ghost use Rattle.ttx_pes.specs.PesPackets.{TakesRefusedPesPacket};
 ghost use Rattle.ttx_pes.specs.declared.comparing_reader.Compared.TheVariants.{Same, Other};
 ghost use Rattle.ttx_pes.specs.declared.progress.Progress.TheVariants.{Reading, AtEnd, Broken};
 ghost use Rattle.ttx_pes.specs.PesGrammar.{IsPesValue, empty_value};
@@ -47,7 +47,7 @@ pub struct ComparingReader {
     progress: Progress,
     // The number of packets consumed, including the last one, if the last result was the fault of a
     // complete packet; after such a fault `skip_packet` allows reading to continue.
-    following: Option<u32>,
+    count_through_fault: Option<u32>,
     kept: FrameBuffer,
 }
 
@@ -63,11 +63,11 @@ impl Model for ComparingReader {
       progress = r.progress;
       frame = r.kept.frame;
       data_field = r.kept.data_field;
-      following = r.following;
+      count_through_fault = r.count_through_fault;
     } };
 
     ghost invariant = { λ r. ReturnsAtMost max_pes_packets r.progress
-        × IfSome r.following (λ given. given ≤ max_pes_packets) };
+        × IfSome r.count_through_fault (λ given. given ≤ max_pes_packets) };
 }
 
 // Reads the next PES packet, and compares it with the stored packet.
@@ -89,7 +89,7 @@ fn read_compared<P: PesPackets>(
     ensures other { result ≡ Ok Other → kept.new.data_field ≢ kept.old.data_field }
     ensures below { comparison_as_flag result ≡ Ok true → given ≢ max_pes_packets }
     ensures pes_packet { IfErr result (λ fault. is_packet_content_fault fault ≡ true
-        → TakesPesPacket (P.remaining pes_packets.old) (P.left pes_packets.new) fault) }
+        → TakesRefusedPesPacket (P.remaining pes_packets.old) (P.left pes_packets.new) fault) }
     ensures limit_is_not_reached { IfErr result (λ fault. is_packet_content_fault fault ≡ true
         → given ≢ max_pes_packets) }
     ensures settled { comparison_as_flag result ≡ Ok true → P.left pes_packets.new ≡ P.remaining
@@ -122,12 +122,12 @@ impl ComparingReader {
               progress = Reading 0;
               frame = empty_value;
               data_field = [];
-              following = None;
+              count_through_fault = None;
             } }
     {
         ComparingReader {
             progress: Progress::Reading(0),
-            following: None,
+            count_through_fault: None,
             kept: FrameBuffer::new(),
         }
     }
@@ -178,8 +178,9 @@ impl ComparingReader {
         // If the fault is in the contents of a complete packet, the bytes of that packet were
         // consumed.
         ensures pes_packet { IfErr result (λ fault. is_packet_content_fault fault ≡ true
-            → TakesPesPacket (P.remaining pes_packets.old) (P.left pes_packets.new) fault) }
-        ensures following { self.new.following ≡ returned_count_after self.old.progress result }
+            → TakesRefusedPesPacket (P.remaining pes_packets.old) (P.left pes_packets.new) fault) }
+        ensures count_through_fault { self.new.count_through_fault
+            ≡ count_through_fault_after self.old.progress result }
         ensures progress { self.new.progress
             ≡ progress_after self.old.progress (frame_answer (comparison_as_flag result)
             self.new.frame) }
@@ -201,7 +202,7 @@ impl ComparingReader {
             (failed is_read_fault result)
             pes_packets.new }
     {
-        self.following = None;
+        self.count_through_fault = None;
         let given = match self.progress {
             Progress::Reading(given) => given,
             Progress::AtEnd => return self.return_without_frame(Ok(Compared::End)),
@@ -223,7 +224,7 @@ impl ComparingReader {
             Err(fault) => {
                 self.progress = Progress::Broken;
                 if fault.is_packet_content_fault() {
-                    self.following = Some(given + 1);
+                    self.count_through_fault = Some(given + 1);
                 }
                 self.return_without_frame(Err(fault))
             }
@@ -249,9 +250,9 @@ impl ComparingReader {
         ensures over { self.new ≡ with_packet_skipped self.old }
         ensures few { (given : ℕ) → self.new.progress ≡ Reading given → given ≤ max_pes_packets }
     {
-        if let Some(given) = self.following {
+        if let Some(given) = self.count_through_fault {
             self.progress = Progress::Reading(given);
-            self.following = None;
+            self.count_through_fault = None;
         }
     }
 }

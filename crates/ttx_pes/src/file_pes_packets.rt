@@ -10,7 +10,7 @@ ghost use Rattle.ttx_pes.specs.Reading.{size_at};
 use crate::borrowed_packet::has_enough_for_packet;
 use crate::numbered_pes_packets::{FailedAt, NumberedPesPackets};
 use crate::pes_header::decode_packet_size;
-use crate::pes_packet_buffer::{PesPacketBuffer, consumed_bytes_are_prefix};
+use crate::pes_packet_buffer::{PesPacketBuffer, first_bytes};
 use crate::pes_packets::{PesPackets, REST_BUFFER_SIZE, Received, TakePesPacket};
 use sub_io::{Failed, Source};
 
@@ -73,7 +73,7 @@ fn take_borrowed<S: Source, T: TakePesPacket>(source: &mut S, taker: &mut T) -> 
     let Some(size) = complete_size(buffered) else {
         return None;
     };
-    let pes_packet = consumed_bytes_are_prefix(buffered, size);
+    let pes_packet = first_bytes(buffered, size);
     let answer = taker.take(pes_packet);
     let _is_skipped = source.skip_bytes(size);
     Some(answer)

@@ -148,7 +148,7 @@ pub(crate) fn encode_pts(pts: u64) -> [u8; 5]
 
 // Returns the first 46 bytes of the canonical packet of `n` payloads.
 #[tactic(auto, unfolding(crate::specs::PesGrammar::pes_packet_header))]
-pub(crate) fn header_from_numbers(n: u16, pts: u64) -> Bytes
+pub(crate) fn canonical_header(n: u16, pts: u64) -> Bytes
     requires n { (1 ≤ n) × (n ≤ 9) }
     requires pts { pts < 2 ^ 33 }
     ensures items { result.items ≡ pes_packet_header n pts }

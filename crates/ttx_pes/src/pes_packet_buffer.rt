@@ -129,7 +129,7 @@ fn read_pes_packet<S: Source>(
 
 // Returns the first `size` bytes of a slice.
 #[inline(always)]
-pub(crate) fn consumed_bytes_are_prefix(bytes: &[u8], size: usize) -> &[u8]
+pub(crate) fn first_bytes(bytes: &[u8], size: usize) -> &[u8]
     requires { size ≤ length bytes.now }
     ensures value { result.now ≡ take size bytes.now }
     ensures bytes { AreBytes bytes.now }
@@ -166,7 +166,7 @@ impl PesPacketBuffer {
         ensures none { self.new ≡ [] }
     {
         let buffered = self.len;
-        let prefix = consumed_bytes_are_prefix(&self.room, buffered);
+        let prefix = first_bytes(&self.room, buffered);
         to[..buffered].copy_from_slice(prefix);
         self.len = 0;
         buffered
@@ -195,7 +195,7 @@ impl PesPacketBuffer {
             Ok(Received::End) => Ok(Received::End),
             Ok(Received::Rest(fault)) => Ok(Received::Rest(fault)),
             Ok(Received::PesPacket(())) => {
-                let pes_packet = consumed_bytes_are_prefix(&self.room, len);
+                let pes_packet = first_bytes(&self.room, len);
                 let answer = taker.take(pes_packet);
                 self.len = 0;
                 Ok(Received::PesPacket(answer))

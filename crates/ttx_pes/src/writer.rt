@@ -9,7 +9,7 @@ ghost use Rattle.ttx_pes.specs.PesGrammar.{canonical_packet, max_pes_packet_size
 use crate::data_unit::{add_stuffing, add_unit};
 use crate::fault::PesFault;
 use crate::pes_frame::PesFrame;
-use crate::pes_header::{MAX_PES_PACKET_SIZE, header_from_numbers};
+use crate::pes_header::{MAX_PES_PACKET_SIZE, canonical_header};
 use arrayvec::ArrayVec;
 use std::marker::Model;
 use sub_io::{Sink, put_all};
@@ -33,7 +33,7 @@ pub(crate) fn packet_of(frame: &PesFrame) -> Bytes
 {
     let units = frame.units();
     let n = units.len() / 4 + 1;
-    let mut out = header_from_numbers(n as u16, frame.pts());
+    let mut out = canonical_header(n as u16, frame.pts());
     for unit in units {
         add_unit(&mut out, unit);
     }

@@ -7,6 +7,8 @@
 #[cfg(test)]
 mod asserting;
 #[cfg(test)]
+mod explanations;
+#[cfg(test)]
 mod requests;
 #[cfg(test)]
 mod values;

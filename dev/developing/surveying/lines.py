@@ -67,6 +67,8 @@ class Stream:
         self.printed: dict[tuple[bytes, int], bytes] = {}  # the last printed section of each PMT
         # The PCR_PID and the stream_type of each PID, from the last PMT that names the PID.
         self.pmt_entries: dict[int, tuple[int, int]] = defaultdict(lambda: (NO_PCR, 0))
+        # The position of the TS packet in which that PMT ended.
+        self.pmt_places: dict[int, int] = {}
         self.clocks: dict[int, Clock] = {}
         self.teletext: dict[int, Teletext] = {}
         self.video: dict[int, Video] = {}
@@ -123,7 +125,7 @@ class Stream:
         if pid in self.sections:
             for section in self.sections[pid].take(packet):
                 self.read_section(pid, section)
-        elif pid not in self.teletext and pid not in self.others:
+        elif pid not in self.teletext and pid not in self.video:
             self.read_packet(packet)
         if pid in self.video:
             self.video[pid].take(packet)
@@ -145,6 +147,8 @@ class Stream:
             self.others.add(packet.pid)
             if len(self.video) < MAX_PIDS:
                 self.video[packet.pid] = Video(packet.pid, self.print_line, self.pmt_entries)
+        elif packet.pid in self.others:
+            return
         elif not data.startswith(START):
             self.others.add(packet.pid)
         elif len(data) > 9 and len(data) > 9 + data[8]:
@@ -172,6 +176,7 @@ class Stream:
         for stream in programme.streams:
             self.print_line(f"stream {stream.pid} {stream.kind}")
             self.pmt_entries[stream.pid] = programme.clock, stream.kind
+            self.pmt_places[stream.pid] = self.place
             for page in stream.announced:
                 self.print_line(f"announce {stream.pid} {page}")
             if stream.announced and self.asked is None:
@@ -187,12 +192,19 @@ class Stream:
             if self.pmt_entries[pid][0] == clock.pid:
                 teletext.record_pcr(jump)
 
+    def belongs_together(self, video: int, teletext: int) -> bool:
+        """Return whether the last PMT that names the Teletext names the video too, or a later PMT
+        with the same PCR_PID does."""
+        pcr, own = self.pmt_entries[teletext][0], self.pmt_places.get(teletext)
+        place = self.pmt_places.get(video)
+        if own is None or place is None or self.pmt_entries[video][0] != pcr:
+            return False
+        return place == own or place > own and pcr != NO_PCR
+
     def compare(self, teletext: Teletext, pts: int) -> None:
         """Print how far a PTS is ahead of the programme's pictures and PCR."""
         pcr, _ = self.pmt_entries[teletext.pid]
-        if pcr == NO_PCR:
-            return
-        pids = [pid for pid in self.video if self.pmt_entries[pid][0] == pcr]
+        pids = [pid for pid in self.video if self.belongs_together(pid, teletext.pid)]
         video = self.video[pids[0]] if pids else None
         if video and video.decoding is not None and (video, video.number) != teletext.picture:
             if video != teletext.picture[0]:
@@ -201,7 +213,7 @@ class Stream:
             if teletext.leads.is_next(pts):
                 self.print_line(f"lead {teletext.pid} {pts} {subtract_pts(video.decoding, pts)} "
                                 f"{video.pid} {video.number}")
-        clock = self.clocks.get(pcr)
+        clock = self.clocks.get(pcr) if pcr != NO_PCR else None
         if clock and clock.last is not None and clock.is_near_jump(self.place) \
                 and not teletext.is_behind_gap and teletext.ahead_seconds.is_next(pts):
             self.print_line(f"ahead {teletext.pid} {pts} {subtract_pts(clock.last, pts)}")

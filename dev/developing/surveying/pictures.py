@@ -7,7 +7,7 @@ from __future__ import annotations
 from developing.every_place.recordings import Stretch
 from developing.pes import has_pts, decode_pts
 from subtitles.common.times import subtract_pts
-from .clocks import PrintLine, number
+from .clocks import PrintLine, Seconds, number
 from .packets import Packet
 
 MAX_GROUP_TICKS = 900_000  # maximum duration of a group of pictures, in ticks (10 seconds)
@@ -16,6 +16,7 @@ MPEG, H264, HEVC = (1, 2), 0x1B, 0x24  # values of stream_type in a PMT
 GROUP, PICTURE = 0xB8, 0  # start codes
 CLOSED_GOP = 0x40
 START = b"\0\0\1"
+ALIKE_TICKS = 900  # steps that differ by less are alike (a quarter of a frame)
 
 
 def is_video(data: bytes) -> bool:
@@ -50,6 +51,39 @@ def find_picture_form(kind: int, data: bytes) -> str | None:
     return None
 
 
+class Steps:
+    """Prints the least and the greatest step between decoding times in each second."""
+
+    def __init__(self, pid: int, line_printer: PrintLine) -> None:
+        self.pid, self.print_line = pid, line_printer
+        self.seconds = Seconds()
+        self.least: tuple[int, int] | None = None  # a step, and the number of the picture after it
+        self.most = 0, 0
+        self.printed: tuple[int, int] | None = None  # the steps in the last line
+
+    def take(self, before: int | None, decoding: int, number: int) -> None:
+        """Process picture `number` with its decoding time and the one before."""
+        if before is not None:
+            step = subtract_pts(before, decoding), number
+            self.most = step if self.least is None or step[0] > self.most[0] else self.most
+            self.least = step if self.least is None or step[0] < self.least[0] else self.least
+        if self.seconds.is_next(decoding):
+            self.end()
+
+    def end(self) -> None:
+        """End a second. Print its steps if they differ, or if they are not those of the last line.
+        """
+        if self.least is None:
+            return
+        values = self.least[0], self.most[0]
+        if self.printed is None or values[1] - values[0] >= ALIKE_TICKS or any(
+                abs(new - old) >= ALIKE_TICKS for new, old in zip(values, self.printed)):
+            self.print_line(f"steps {self.pid} {self.least[0]} {self.least[1]} "
+                            f"{self.most[0]} {self.most[1]}")
+            self.printed = values
+        self.least = None
+
+
 class Video:
     """Collects the output lines of `survey` for a PID with video."""
 
@@ -63,6 +97,7 @@ class Video:
         self.count = self.passed = 0
         self.decoding: int | None = None  # decoding time of the last picture that has one
         self.number = 0  # number of the last picture that has a decoding time
+        self.steps = Steps(pid, line_printer)
         # The state and the properties of the first group of pictures.
         self.has_begun = self.has_ended = False
         self.flagged: int | None = None
@@ -138,18 +173,19 @@ class Video:
 
     def begin(self, pts: int | None, decoding: int | None) -> bool:
         """Begin a picture. Return whether it is the first picture of the group."""
+        self.count += 1
+        if decoding is not None:
+            self.steps.take(self.decoding, decoding, self.count)
+            self.decoding, self.number = decoding, self.count
         if self.is_in_group and self.is_next_flagged:
             self.end_group()
         is_first = self.is_next_flagged and not self.has_begun
-        self.count += 1
         if is_first:
             self.print_line(f"video {self.pid} {self.passed}")
             self.has_begun, self.flagged = True, pts
             self.kind = self.pmt_entries[self.pid][1]
             self.form = find_picture_form(self.kind, b"")  # H.264 needs no data
         self.passed += not self.has_begun
-        if decoding is not None:
-            self.decoding, self.number = decoding, self.count
         if self.is_in_group:
             self.add(pts)
         return is_first
@@ -172,5 +208,6 @@ class Video:
         self.has_ended = True
 
     def end(self) -> None:
+        self.steps.end()
         if not self.has_ended:
             self.end_group(f" {self.passed} {int(self.has_begun)}")

@@ -182,6 +182,7 @@ def make_picture_pes(chance: Random, kind: int, pts: int, dts: int, is_first: bo
 
 
 PTS_JUMPS = [90_000, -90_000, 3600, -3600, 400_000, 1 << 31, -900_000, 20_000]
+SHORT_JUMPS = [3600, -3600, 36_000, -36_000, 1800, 900, 899, -900, -899, 1 << 32]
 TimeJumps = list[tuple[int, int]]  # time and size of each jump in ticks
 Event = tuple[int, Callable[[], None]]  # transmission time, and function that sends a packet
 
@@ -250,16 +251,49 @@ class Programme:
         late, odd = chance.choice([0, 0, 1, 2]), chance.choice([0, 0, 0, 0.1, 0.1, 1])
         sizes = chance.choice([(FULL,), (FULL,), (FULL, FULL, 5, 12, 100)])
         lead, flagged = chance.choice([0, 0, 18_000]), chance.choice([1, 1, 0.5, 0.3])
-        jumps = self.make_random_jumps([3600, -3600, 180_000, 1], chance.choice([0, 0, 1]))
+        jumps = self.make_random_jumps([3600, -3600, 180_000, 1], chance.choice([0, 0, 1])) \
+            + self.make_jumps_there_and_back(step)
+        damaged = chance.choice([0, 0, 0, 1, 3])  # number of first pictures with a wrong stream_id
+        longer = chance.choice([0, 0, 0, 20, -20])  # ticks by which each step exceeds the last step
+        pids = [pid]
 
         def send(number: int, time: int) -> None:
-            is_first, dts = number % group == 0, self.ticks(time, jumps)
+            is_first = number % group == 0
+            dts = self.ticks(time, jumps) + longer * number * number // 2
             pts = dts + lead + (late + 1) * step * (late > 0 and number % (late + 1) == 0)
             data = make_picture_pes(chance, kind, pts, dts, is_first, chance.random() < odd)
+            if number < damaged:
+                data = data[:3] + bytes([chance.choice([0xBD, 0xBE, 0xC0])]) + data[4:]
             is_flagged = is_first and chance.random() < flagged or chance.random() < odd / 5
-            pcr = self.compute_pcr(time) if pid == self.clock else None
-            mux.send_pes(pid, data, RANDOM_ACCESS * is_flagged, pcr, sizes)
+            for pid in pids:
+                pcr = self.compute_pcr(time) if pid == self.clock else None
+                mux.send_pes(pid, data, RANDOM_ACCESS * is_flagged, pcr, sizes)
         self.each(step, send)
+        for time, _ in self.make_random_jumps([0], chance.choice([0, 0, 1, 2])):
+            self.events.append((time, lambda: self.move_video(kind, pids)))
+
+    def make_jumps_there_and_back(self, step: int) -> TimeJumps:
+        """Return jumps of a video, each of which is undone some pictures later."""
+        return [jump for at, ticks in self.make_random_jumps(
+                    SHORT_JUMPS, self.chance.choice([0, 0, 1, 2]))
+                for jump in [(at, ticks), (at + step * self.chance.choice([1, 2, 10, 20]), -ticks)]]
+
+    def move_video(self, kind: int, pids: list[int]) -> None:
+        """Name another PID for a video in the PMT, and send the pictures there. Sometimes, the PMT
+        names the old PID too, or the pictures are sent on it too."""
+        chance, old, new = self.chance, (kind, pids[-1], False), pids[-1] ^ 4
+        pids[:] = [pids[-1], new] if chance.random() < 0.2 else [new]
+        if old in self.streams and chance.random() < 0.8:
+            self.streams.remove(old)
+        self.streams.insert(0, (kind, new, False))
+        if self.clock == old[1] and chance.random() < 0.8:
+            self.clock = new
+        self.change_pmt()
+        if chance.random() < 0.7:
+            self.send_pmt()
+
+    def send_pmt(self) -> None:
+        self.mux.send_sections(self.pmt_pid, 2, self.number, self.version, self.pmt)
 
     def add_teletext(self, pid: int) -> None:
         chance, mux = self.chance, self.mux
@@ -323,8 +357,7 @@ def make_random_units(chance: Random) -> list[Unit]:
             struct.pack(">HH", programme.number, 0xE000 | programme.pmt_pid)
             for programme in programmes))
         for programme in programmes:
-            mux.send_sections(programme.pmt_pid, 2, programme.number, programme.version,
-                              programme.pmt)
+            programme.send_pmt()
 
     first, step = chance.choice([0, 0, 1, 9000]), chance.choice([9000, 45_000])
     events: list[Event] = [(time, send_tables) for time in range(first, length, step)]

@@ -113,7 +113,7 @@ class Reasons(ProgrammeCase):
         for data in (b"", b"refused 60", self.pes[0], self.pes[0][:8]):
             self.assertEqual(check_pes_header(data, 0), "", data)
         path = self.write("none", b"\x47\x41\x01\x30\xff".ljust(188, b"\0") * 9)
-        self.assertEqual(read_pes_header(self.bench.program, path, TELETEXT_PID, 188), b"refused 6")
+        self.assertEqual(read_pes_header(self.bench.program, path, TELETEXT_PID, 188), b"")
 
     def test_reports_rows_of_a_closed_page(self) -> None:
         for name, between in (("FF", CLOSING), ("800", OTHER_PAGE)):

@@ -16,7 +16,7 @@ from subtitles.stream.survey import (
     Announced, ProgramMap, Survey, VERSION, Video, survey, survey_runs)
 from .bench import Case
 from .streams import (
-    PTS_AHEAD, AUDIO_PID, CLOSED_GROUP, MPEG_2, PMT_PID, PRIVATE, RANDOM_ACCESS, SLICES,
+    PTS_AHEAD, AUDIO_PID, Component, CLOSED_GROUP, MPEG_2, PMT_PID, PRIVATE, RANDOM_ACCESS, SLICES,
     TELETEXT_PID, VIDEO_PID, StreamMaker, Programme, make_components, filler, make_mpeg_2_picture,
     make_program_association, program_map, multiplex_programmes, change_packet_size,
     make_teletext_descriptor, make_video_packet)
@@ -125,6 +125,69 @@ class VideoLeadLines(Case):
                 [video(FIRST_PTS + CLOCK // 2 + 1), teletext(0)], [lead(0, CLOCK // 2 - 1)])}
         for name, (several, wanted) in rows.items():
             self.check(name, self.list_stream_lines(*several), wanted)
+
+
+    def test_follows_the_video_that_the_last_pmt_names(self) -> None:
+        teletext = make_components()[1]
+        other, later = (OTHER_VIDEO, MPEG_2, b""), lead(26, 26 * TICKS, video=OTHER_VIDEO, number=1)
+        for pcr_pid in (VIDEO_PID, 0x1FFF):
+            rows: dict[str, tuple[list[Component], list[str]]] = {
+                "the same video": (make_components(), [lead(0), lead(26, 26 * TICKS, number=2)]),
+                "another video": ([other, teletext], [lead(0), later]),
+                "both videos": ([*make_components(), other],
+                                [lead(0), lead(26, 26 * TICKS, number=2)]),
+                "no video": ([teletext], [lead(0)])}
+            for name, (components, wanted) in rows.items():
+                maker = StreamMaker(make_components(), pcr_pid)
+                maker.put_tables()
+                for frame in (0, 26):
+                    for pid in (VIDEO_PID, OTHER_VIDEO)[:1 + (frame > 0)]:
+                        maker.put(pid, make_video_packet_at(FIRST_PTS))
+                    maker.put(TELETEXT_PID, make_pes_packet(FIRST_PTS + TICKS * frame, [CLOSING]))
+                    maker.put_packet(PMT_PID, PAYLOAD_START, program_map(
+                        1, components, pcr_pid).ljust(PACKET - 4, b"\xff"))
+                self.check(f"{name}, PCR_PID {pcr_pid}",
+                           list_lines_of_kinds(self, maker.data, "lead"), wanted)
+
+    def test_finds_the_video_after_another_stream_id(self) -> None:
+        for stream_id in (0xBD, 0xBE, 0xC0, 0xDF, 0xF0):
+            first, second = (make_video_packet_at(FIRST_PTS, stream_id=item)
+                             for item in (stream_id, 0xE0))
+            self.check(f"{stream_id:X}", self.list_stream_lines(
+                (VIDEO_PID, first), (VIDEO_PID, second),
+                (TELETEXT_PID, make_pes_packet(FIRST_PTS, [CLOSING]))), [lead(0, number=1)])
+
+
+class StepLines(Case):
+    def list_steps(self, times: Iterable[int | None]) -> list[str]:
+        """Return the fields of the `steps` lines for pictures with these decoding times."""
+        maker = StreamMaker(make_components())
+        maker.put_tables()
+        for time in times:
+            maker.put(VIDEO_PID, make_video_packet_at(time))
+        return [line.removeprefix(f"steps {VIDEO_PID} ")
+                for line in list_lines_of_kinds(self, maker.data, "steps")]
+
+    def test_prints_the_steps_of_a_second_if_they_change(self) -> None:
+        # Ticks by which picture 110 is late. A second ends with each 25th picture after the first.
+        rows: dict[int, list[str]] = {
+            0: [], 36_000: ["3600 102 39600 110", "3600 117 3600 117"],
+            -36_000: ["-32400 110 3600 102", "3600 111 3600 111"],
+            900: ["3600 102 4500 110", "3600 127 3600 127"], 899: [],
+            -900: ["2700 110 3600 102", "3600 128 3600 128"], -899: []}
+        for first in (FIRST_PTS, CLOCK - 105 * TICKS):
+            for late, wanted in rows.items():
+                times = [(first + TICKS * at + late * (at > 109)) % CLOCK for at in range(1, 160)]
+                self.check(f"{first}, {late}", self.list_steps(times), ["3600 2 3600 2", *wanted])
+
+    def test_measures_steps_over_pictures_without_a_decoding_time(self) -> None:
+        times = [FIRST_PTS + TICKS * at for at in range(12)]
+        self.check("no picture", self.list_steps([]), [])
+        self.check("one picture", self.list_steps(times[:1]), [])
+        self.check("one without a time", self.list_steps([*times[:4], None, *times[5:]]),
+                   ["3600 2 7200 6"])
+        self.check("a step of half the clock", self.list_steps([0, CLOCK // 2, CLOCK // 2 + 1]),
+                   [f"{-CLOCK // 2} 2 {-CLOCK // 2} 2", "1 3 1 3"])
 
 
 def pictures(flagged: Sequence[int], lost: Sequence[int] = (), scrambled: Sequence[int] = (),
@@ -763,11 +826,13 @@ class Listings(Case):
                   "announce 257 888 656e67 2", "teletext 257"]
         for flagged, passed, count, last in (((3, 15), 3, 12, "0 0"), ((20,), 20, 10, "0 0 20 1")):
             first = FIRST_PTS + TICKS * passed
+            lines = [f"video 512 {passed}",
+                     *(f"picture 512 {first + TICKS * at}" for at in range(count)),
+                     f"group 512 {first} {first} unknown", f"pictures 512 {last}"]
+            at = len(lines) if passed < 15 else 6  # the second ends with picture 26
+            lines.insert(at, "steps 512 3600 2 3600 2")
             self.check(f"{flagged}", self.lines_of(pictures(flagged)), [
-                *tables, f"video 512 {passed}",
-                *(f"picture 512 {first + TICKS * at}" for at in range(count)),
-                f"group 512 {first} {first} unknown", f"pictures 512 {last}",
-                "end 257 0 0 0 0 0 0 -", "over 0 62"])
+                *tables, *lines, "end 257 0 0 0 0 0 0 -", "over 0 62"])
 
     def test_prints_all_lines_of_other_files(self) -> None:
         two = b"".join(make_frame_headers(2))

@@ -50,7 +50,6 @@ def copy_piped(name: str, path: str, printer: Printer) -> SummedFile:
     return SummedFile(name, count, digest.hexdigest())
 
 
-OUTPUT = "/dev/stdout"  # file name with which the program writes to standard output
 # In Teletext, a PES header has 45 bytes (EN 300 472): 9 fixed bytes, and 36 (24 hex) more. The last
 # fixed byte is PES_header_data_length, the number of header bytes that follow.
 HEADER_LENGTH_OFFSET, FIXED_HEADER_BYTES, TELETEXT = 8, 9, 0x24
@@ -58,12 +57,18 @@ HEADER_LENGTH_OFFSET, FIXED_HEADER_BYTES, TELETEXT = 8, 9, 0x24
 
 def read_pes_header(program: str, path: str, pid: int, size: int) -> bytes:
     """Return the first nine bytes of a PID's first PES packet, as `subttx extract` writes it."""
-    arguments = [program, "extract", *make_stream_options(pid, size), "--", path, OUTPUT]
-    with subprocess.Popen(arguments, stdin=subprocess.DEVNULL, stdout=subprocess.PIPE,
-                          stderr=subprocess.DEVNULL) as call:
-        assert call.stdout
-        header = call.stdout.read(FIXED_HEADER_BYTES)
-        call.kill()
+    reader, writer = os.pipe()
+    arguments = [program, "extract", *make_stream_options(pid, size), "--", path,
+                 f"/dev/fd/{writer}"]
+    with open(reader, "rb") as packets:
+        try:
+            call = subprocess.Popen(arguments, stdin=subprocess.DEVNULL, pass_fds=(writer,),
+                                    stdout=subprocess.DEVNULL, stderr=subprocess.DEVNULL)
+        finally:
+            os.close(writer)
+        with call:
+            header = packets.read(FIXED_HEADER_BYTES)
+            call.kill()
     return header
 
 

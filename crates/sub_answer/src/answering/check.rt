@@ -2,13 +2,14 @@
 ghost use Rattle.std.specs.Prelude.{◌≡◌, ◌+◌, ℕ, Err, IsFalse, false, true};
 ghost use Rattle.sub_io.specs.Device.{CountsFailureIf, failed};
 ghost use Rattle.sub_io.specs.Reading.{IfKnown};
-ghost use Rattle.ttx_pes.specs.Reader.{FailsAtPacket};
+ghost use Rattle.ttx_pes.specs.Reader.{FailsAfterValidPackets};
 ghost use Rattle.stl_rows.specs.Layout.{drawing_within};
 ghost use Rattle.stl_rows.specs.Fault.{is_load_read_failure};
 ghost use Rattle.stl_rows.specs.Loading.{FailsLoading};
 ghost use Rattle.stl_rows.specs.declared.fault.LoadFault.{LoadFault};
 ghost use Rattle.sub_check.specs.CheckedFiles.{AreChecked, IsChecked, IsCheckedBy};
-ghost use Rattle.sub_rules.specs.Fault.{is_pes_read, is_stl_read, is_subtitle_fault};
+ghost use Rattle.sub_rules.specs.Fault.{is_pes_read_failure, is_stl_read_failure};
+ghost use Rattle.sub_rules.specs.Fault.{is_subtitle_fault};
 ghost use Rattle.sub_answer.specs.Answering.{AnswersCheck, verdict};
 ghost use Rattle.sub_listing.specs.DeviceCall.{CanFail, CountsFault, read_call, sink_call};
 ghost use Rattle.sub_listing.specs.DeviceCall.{source_call};
@@ -94,14 +95,14 @@ fn check_files<S: Source, P: NumberedPesPackets>(
         fault.block }
     ensures pes_failure_is_at_packet { (index : ℕ)
         → result.result ≡ Err (CheckFault.Pes index PesFault.Read)
-        → FailsAtPacket index (P.remaining pes.old) (P.left pes.new) }
+        → FailsAfterValidPackets index (P.remaining pes.old) (P.left pes.new) }
     ensures before { failed is_subtitle_fault result.result ≡ true → pes.new ≡ pes.old }
     ensures stl_failure_count { CountsFailureIf S.failure_count stl.old
-        (failed is_stl_read result.result)
+        (failed is_stl_read_failure result.result)
         stl.new }
     ensures device { P.device pes.new ≡ P.device pes.old }
     ensures pes_failure_count { CountsFailureIf P.failure_count pes.old
-        (failed is_pes_read result.result)
+        (failed is_pes_read_failure result.result)
         pes.new }
 {
     match load(alloc, stl, national, layout, scope) {
@@ -129,10 +130,11 @@ fn check_from<P: NumberedPesPackets>(
         (read_call P.remaining P.left P.failure_count pes.old pes.new) result.first }
     ensures read { (index : ℕ)
         → result.result ≡ Err (CheckFault.Pes index PesFault.Read)
-        → FailsAtPacket index (P.remaining pes.old) (P.left pes.new) }
+        → FailsAfterValidPackets index (P.remaining pes.old) (P.left pes.new) }
     ensures own { failed is_subtitle_fault result.result ≡ false }
     ensures device { P.device pes.new ≡ P.device pes.old }
-    ensures count { CountsFailureIf P.failure_count pes.old (failed is_pes_read result.result)
+    ensures count { CountsFailureIf P.failure_count pes.old
+        (failed is_pes_read_failure result.result)
         pes.new }
 {
     match pes.find_first() {

@@ -2,7 +2,7 @@
 ghost use Rattle.std.specs.Prelude.{◌≡◌, ◌<◌, ◌≤◌, IfErr, OnOk, false, is_err, true};
 ghost use Rattle.sub_io.specs.Device.{CountsFailureIf, failed};
 ghost use Rattle.sub_io.specs.Flushing.{BuffersOnlyWhilePending, KeepsReports};
-ghost use Rattle.sub_rules.specs.Fault.{is_pes_read};
+ghost use Rattle.sub_rules.specs.Fault.{is_pes_read_failure};
 ghost use Rattle.sub_listing.specs.DeviceCall.{CanFail, CountsFault, read_call, sink_call};
 ghost use Rattle.sub_listing.specs.DeviceCall.{source_call};
 ghost use Rattle.sub_answer.specs.EveryFault.{AnswersCheckAll, ReportsBoth, ReportsPes};
@@ -64,7 +64,7 @@ pub fn print_every_fault<S: Source, P: NumberedPesPackets, K: Flush>(
     law_of_loading();
     let mut printer = Printer {
         out,
-        refused: 0,
+        fault_count: 0,
         failed: false,
         pending: false,
         first: 0,
@@ -72,7 +72,7 @@ pub fn print_every_fault<S: Source, P: NumberedPesPackets, K: Flush>(
     let answer = report_every_fault(alloc, stl, pes, drawing, options, &mut printer);
     let Printer {
         out,
-        refused,
+        fault_count,
         failed,
         pending: _,
         first,
@@ -80,7 +80,7 @@ pub fn print_every_fault<S: Source, P: NumberedPesPackets, K: Flush>(
     if failed {
         return Status::Fault;
     }
-    print_end(first, refused, answer, out)
+    print_end(first, fault_count, answer, out)
 }
 
 // Reports the faults of the subtitle file to a printer, and then the events of the PES file, if it
@@ -99,7 +99,7 @@ fn report_every_fault<S: Source, P: NumberedPesPackets, K: Flush>(
     requires out { CanFail (K.failure_count printer.old.out.now) }
     requires continues { printer.old.failed ≡ false }
     requires still { printer.old.pending ≡ false }
-    requires none { printer.old.refused ≡ 0 }
+    requires none { printer.old.fault_count ≡ 0 }
     ensures same { printer.new.out.ghost_name ≡ printer.old.out.ghost_name }
     ensures reported { ReportsBoth drawing options.now
         (source_call S.remaining S.failure_count stl.old stl.new)
@@ -107,13 +107,14 @@ fn report_every_fault<S: Source, P: NumberedPesPackets, K: Flush>(
         (first_number P.first P.skipped pes.old pes.new)
         (pes.new ≡ pes.old)
         (printer_value (K.contents printer.old.out.now) (K.failure_count printer.old.out.now)
-        printer.old.refused printer.old.failed printer.old.first)
+        printer.old.fault_count printer.old.failed printer.old.first)
         (printer_value (K.contents printer.new.out.now) (K.failure_count printer.new.out.now)
-        printer.new.refused printer.new.failed printer.new.first) result }
+        printer.new.fault_count printer.new.failed printer.new.first) result }
     ensures device { P.device pes.new ≡ P.device pes.old }
-    ensures count { CountsFailureIf P.failure_count pes.old (failed is_pes_read result) pes.new }
-    ensures requested { K.buffered printer.old.out.now ≡ 0
-        → failed is_pes_read result ≡ true → K.buffered printer.new.out.now ≡ 0 }
+    ensures count { CountsFailureIf P.failure_count pes.old (failed is_pes_read_failure result)
+        pes.new }
+    ensures flushed_at_failure { K.buffered printer.old.out.now ≡ 0
+        → failed is_pes_read_failure result ≡ true → K.buffered printer.new.out.now ≡ 0 }
 {
     let (national, layout, scope) = (drawing.national, drawing.layout, drawing.scope);
     match load_all(alloc, stl, national, layout, scope, printer) {
@@ -157,19 +158,20 @@ fn report_transmission<P: NumberedPesPackets, K: Flush>(
     requires out { CanFail (K.failure_count printer.old.out.now) }
     requires continues { printer.old.failed ≡ false }
     requires still { printer.old.pending ≡ false }
-    requires few { printer.old.refused ≤ max_fault_count }
+    requires few { printer.old.fault_count ≤ max_fault_count }
     ensures same { printer.new.out.ghost_name ≡ printer.old.out.ghost_name }
     ensures reported { ReportsPes judging.now options.now
         (read_call P.remaining P.left P.failure_count pes.old pes.new)
         (first_number P.first P.skipped pes.old pes.new)
         (printer_value (K.contents printer.old.out.now) (K.failure_count printer.old.out.now)
-        printer.old.refused printer.old.failed printer.old.first)
+        printer.old.fault_count printer.old.failed printer.old.first)
         (printer_value (K.contents printer.new.out.now) (K.failure_count printer.new.out.now)
-        printer.new.refused printer.new.failed printer.new.first) result }
+        printer.new.fault_count printer.new.failed printer.new.first) result }
     ensures device { P.device pes.new ≡ P.device pes.old }
-    ensures count { CountsFailureIf P.failure_count pes.old (failed is_pes_read result) pes.new }
-    ensures requested { K.buffered printer.old.out.now ≡ 0
-        → failed is_pes_read result ≡ true → K.buffered printer.new.out.now ≡ 0 }
+    ensures count { CountsFailureIf P.failure_count pes.old (failed is_pes_read_failure result)
+        pes.new }
+    ensures flushed_at_failure { K.buffered printer.old.out.now ≡ 0
+        → failed is_pes_read_failure result ≡ true → K.buffered printer.new.out.now ≡ 0 }
 {
     match pes.find_first() {
         Ok(first) => {
@@ -186,17 +188,18 @@ fn report_transmission<P: NumberedPesPackets, K: Flush>(
     }
 }
 
-// Prints the last line after `refused` faults, and returns the status. The argument `first` is the
-// number of the first PES packet in its file.
+// Prints the last line after `fault_count` faults, and returns the status. The argument `first` is
+// the number of the first PES packet in its file.
 fn print_end<K: Sink>(
     first: u64,
-    refused: u64,
+    fault_count: u64,
     answer: Result<Option<Accepted>, CheckFault>,
     out: &mut K,
 ) -> Status
     requires { CanFail (K.failure_count out.old) }
     ensures printed { PrintsOrFails
-        (sink_call K.contents K.failure_count out.old out.new) (last_listing first refused answer)
+        (sink_call K.contents K.failure_count out.old out.new)
+        (last_listing first fault_count answer)
         result }
     ensures line { IfErr answer (λ f.
         PutsLine K.contents K.is_push out.old
@@ -206,12 +209,12 @@ fn print_end<K: Sink>(
 {
     match answer {
         Err(fault) => print_fault_line(&fault_line_of_check(fault).counted_from(first), out),
-        Ok(None) => print_count(refused, out),
+        Ok(None) => print_count(fault_count, out),
         Ok(Some(accepted)) => {
-            if refused == 0 {
+            if fault_count == 0 {
                 print_accepted(accepted, out)
             } else {
-                print_count(refused, out)
+                print_count(fault_count, out)
             }
         }
     }
@@ -219,15 +222,15 @@ fn print_end<K: Sink>(
 
 // Prints the line with the number of faults.
 #[tactic(auto, unfolding(sub_listing::specs::Listing::PrintsOrFails))]
-fn print_count<K: Sink>(refused: u64, out: &mut K) -> Status
+fn print_count<K: Sink>(fault_count: u64, out: &mut K) -> Status
     requires { CanFail (K.failure_count out.old) }
     ensures printed { PrintsOrFails
-        (sink_call K.contents K.failure_count out.old out.new) (fault_count_listing refused)
+        (sink_call K.contents K.failure_count out.old out.new) (fault_count_listing fault_count)
         result }
     ensures count { CountsFault K.failure_count out.old result out.new }
 {
     let mut line = Line::new();
-    push_decimal(&mut line, refused);
+    push_decimal(&mut line, fault_count);
     push_text(&mut line, b" faults\n");
     match put_all(out, line.as_slice()) {
         Ok(()) => Status::Refused,

@@ -1,7 +1,7 @@
 -- Loop invariant of `fault_of_text`: the first fault of the remaining text codes is the first fault
 -- of the whole text.
 use Rattle.std.proofs.Common.{◌≡◌, ◌+◌, ◌-◌, ◌≤◌, None, false, length, drop}
-use Rattle.stl_rows.specs.LineByLine.{empty_line, reported}
+use Rattle.stl_rows.specs.LineByLine.{empty_line, first_fault_of_codes}
 use Rattle.stl_rows.specs.TextCode.{text_codes}
 use Rattle.stl_rows.proofs.text_faults.fault_of_text.Given as goal
 
@@ -11,9 +11,9 @@ invariant-loop-at l = record {
   numbers : l.line.number ≤ l.at;
   rows : l.line.row ≤ l.vp + l.at;
   cells : l.line.len ≤ l.at;
-  reported :
-      reported l.fault l.line (text_codes l.national l.at (drop l.at l.text))
-      ≡ reported None (empty_line 0 l.vp false) (text_codes l.national 0 l.text);
+  first_fault_of_codes :
+      first_fault_of_codes l.fault l.line (text_codes l.national l.at (drop l.at l.text))
+      ≡ first_fault_of_codes None (empty_line 0 l.vp false) (text_codes l.national 0 l.text);
 }
 
 abbrev pub decreases-loop-at : goal.decreases-loop-at

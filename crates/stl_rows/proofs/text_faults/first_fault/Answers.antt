@@ -3,7 +3,7 @@ use Rattle.std.proofs.Common.{arith}
 use Rattle.std.proofs.lemmas.Bool.Decides.{nat_tests}
 use Rattle.stl_rows.proofs.DefaultLayoutLemmas.{drawn-none, drawn-some}
 use Rattle.stl_rows.proofs.DrawnPageLemmas.{drawn-first}
-use Rattle.stl_rows.proofs.TextFaultLemmas.{reported-faults}
+use Rattle.stl_rows.proofs.TextFaultLemmas.{first_fault_of_codes-faults}
 use Rattle.stl_rows.proofs.text_faults.first_fault.Goals as goal
 
 pub returns-in-None : goal.returns-in-None
@@ -11,7 +11,7 @@ returns-in-None c =
     grind (
       arith,
       nat_tests,
-      reported-faults,
+      first_fault_of_codes-faults,
       drawn-first,
       drawn-none c.args.drawing.now c.args.subtitle.now,
     )

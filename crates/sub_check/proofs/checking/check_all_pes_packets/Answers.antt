@@ -49,8 +49,8 @@ returns-clause-trusted g c = λ none at_once bytes reported from to there.
     (has_unreliable_subtitle c.args.judging.now)
     (is_due_undecided c.args.judging.now) _ from to none at_once there
 
-pub returns-clause-reports_allowed_within : goal.returns-clause-reports_allowed_within
-returns-clause-reports_allowed_within g c = λ bytes reported from to there.
+pub returns-clause-trusted_within : goal.returns-clause-trusted_within
+returns-clause-trusted_within g c = λ bytes reported from to there.
     law_of_trusted_repeats c.args.judging.now.programme c.args.options.now _
     (has_unreliable_subtitle c.args.judging.now) (is_due_undecided c.args.judging.now) _ from to
     c.report_pes_packets.ensures.programme there

@@ -18,8 +18,8 @@ returns-clause-trusted g c = λ none at_once bytes reported.
     c.check_all_pes_packets.ensures.trusted none at_once bytes
     (rw (c.new-pes_packets.ensures.none, c.new-pes_packets.ensures.now) reported)
 
-pub returns-clause-reports_allowed_within : goal.returns-clause-reports_allowed_within
-returns-clause-reports_allowed_within g c = λ bytes reported.
+pub returns-clause-trusted_within : goal.returns-clause-trusted_within
+returns-clause-trusted_within g c = λ bytes reported.
     c.check_all_pes_packets.ensures.reports_allowed_within bytes
     (rw (c.new-pes_packets.ensures.none, c.new-pes_packets.ensures.now) reported)
 

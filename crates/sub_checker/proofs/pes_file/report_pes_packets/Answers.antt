@@ -81,8 +81,9 @@ returns-then-is_source_failure-clause-exact g c = λ bytes reported pes_packets 
       search rules,
     )
 
-pub returns-then-is_source_failure-clause-read : goal.returns-then-is_source_failure-clause-read
-returns-then-is_source_failure-clause-read g c = λ pes is.
+pub returns-then-is_source_failure-clause-counts_so_far :
+    goal.returns-then-is_source_failure-clause-counts_so_far
+returns-then-is_source_failure-clause-counts_so_far g c = λ pes is.
     let failed = sym c.is_source_failure.ensures ∙ c.if-is_source_failure.true in
     let same = read_fault_names_pes_packet c.in-Err.fault c.pes_packets.pes pes
     (c.in-Err.ensures.place failed) is
@@ -313,9 +314,9 @@ returns-in_default-clause-some g c =
     (c.finish-in_default.ensures.some _ k.0 k.1 k.2) in
     search rules
 
-pub returns-then-is_source_failure-clause-requested :
-    goal.returns-then-is_source_failure-clause-requested
-returns-then-is_source_failure-clause-requested g c = λ none.
+pub returns-then-is_source_failure-clause-flushed_at_failure :
+    goal.returns-then-is_source_failure-clause-flushed_at_failure
+returns-then-is_source_failure-clause-flushed_at_failure g c = λ none.
     let device = c.flush_reports.ensures.same ∙ c.pes_packets.invariant.same in
     let flushed = sym c.is_err.ensures.value ∙ c.if-is_err.false in
     let reported =

@@ -5,16 +5,16 @@ use Rattle.sub_checker.proofs.UndecidedLemmas.{due_known_up_to_last, unknown_pag
 use Rattle.sub_checker.proofs.UndecidedLemmas.{due_known_without_refusals, due_unknown_after_day}
 use Rattle.sub_checker.proofs.undecided.first_known_from.Goals as goal
 
-pub returns-then-not-any_refused : goal.returns-then-not-any_refused
-returns-then-not-any_refused c edge reports =
+pub returns-then-not-any_unreliable : goal.returns-then-not-any_unreliable
+returns-then-not-any_unreliable c edge reports =
     due_known_without_refusals c.args.judging.now c.args.first c.args.within c.args.frame edge
     reports
-    (sym c.requires ∙ c.if-not-any_refused.true)
+    (sym c.requires ∙ c.if-not-any_unreliable.true)
 
 pub returns-then-is_undecided : goal.returns-then-is_undecided
 returns-then-is_undecided c edge reports =
     due_unknown_after_day c.args.judging.now c.args.first c.args.within c.args.frame edge reports
-    (sym c.requires ∙ c.if-not-any_refused.false) 18446744073709551615 (omega arith)
+    (sym c.requires ∙ c.if-not-any_unreliable.false) 18446744073709551615 (omega arith)
     (sym c.is_undecided.ensures ∙ c.if-is_undecided.true)
 
 pub returns-in-Some : goal.returns-in-Some
@@ -22,13 +22,13 @@ returns-in-Some c edge reports =
     let last = c.in-Some.ensures in
     rw (c.from.ensures, c.from-in-Some.ensures)
     (due_known_up_to_last c.args.judging.now c.args.first c.args.within c.args.frame edge reports
-    (sym c.requires ∙ c.if-not-any_refused.false) c.in-Some.last
+    (sym c.requires ∙ c.if-not-any_unreliable.false) c.in-Some.last
     (omega (arith, c.earliest-least.ensures.first, last.0)) last.1 last.2 last.3)
 
 pub returns-in-None : goal.returns-in-None
 returns-in-None c edge reports =
     unknown_page_is_never_known c.args.judging.now c.args.first c.args.within c.args.frame edge
     reports
-    (sym c.requires ∙ c.if-not-any_refused.false) c.earliest-least.result
+    (sym c.requires ∙ c.if-not-any_unreliable.false) c.earliest-least.result
     c.earliest-least.ensures.least (sym c.is_undecided.ensures ∙ c.if-is_undecided.false)
     c.in-None.ensures

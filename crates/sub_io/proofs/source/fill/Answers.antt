@@ -1,8 +1,8 @@
 -- If the bytes of a source are known, `fill` determines the remaining bytes.
-use Rattle.sub_io.proofs.DeviceLemmas.{Told-from_result}
+use Rattle.sub_io.proofs.DeviceLemmas.{FillsFromKnown-from_result}
 use Rattle.sub_io.proofs.source.fill.Goals as goal
 
 pub returns-clause-told : goal.returns-clause-told
 returns-clause-told g c =
-    Told-from_result _ _ c.fill_until_end.new.to c.fill_until_end.result
+    FillsFromKnown-from_result _ _ c.fill_until_end.new.to c.fill_until_end.result
     c.fill_until_end.ensures.fills

@@ -2,7 +2,7 @@
 use Rattle.std.proofs.Common.{◌≡◌, ◌*◌, ◌-◌, ◌≤◌, ℕ, List, Option, Some}
 use Rattle.ttx_page.specs.Screen.{display}
 use Rattle.ttx_pes.specs.PesGrammar.{max_units}
-use Rattle.ttx_pes.specs.Reader.{TakesPackets}
+use Rattle.ttx_pes.specs.Reader.{TakesValidPesPackets}
 use Rattle.ttx_pes.specs.Reading.{max_pes_packets}
 use Rattle.ttx_pes.specs.declared.progress.Progress.TheVariants.{Reading}
 use Rattle.stl_file.specs.TimeCode.{day}
@@ -17,7 +17,8 @@ abbrev pub invariant-packets : goal.invariant-packets
 invariant-packets g l = record {
   reading : l.reader.progress ≡ Reading l.index;
   packet_count_is_bounded : l.index ≤ max_pes_packets;
-  taken : TakesPackets l.index (g.P.PesPackets.remaining l.fn.pes) (g.P.PesPackets.remaining l.pes);
+  taken : TakesValidPesPackets l.index (g.P.PesPackets.remaining l.fn.pes)
+      (g.P.PesPackets.remaining l.pes);
   failures : g.P.PesPackets.failure_count l.pes ≡ g.P.PesPackets.failure_count l.fn.pes;
   device : g.P.PesPackets.device l.pes ≡ g.P.PesPackets.device l.fn.pes;
   tuned : g.R.Receiver.tuned_to l.receiver ≡ g.R.Receiver.tuned_to l.fn.receiver;

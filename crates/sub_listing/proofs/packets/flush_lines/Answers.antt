@@ -9,7 +9,7 @@ use Rattle.sub_listing.proofs.packets.flush_lines.Goals as goal
 
 abbrev value_of : {K : Type 0} → (K → Option (List ℕ)) → (K → ℕ) → Printer K → PrinterValue
 value_of contents count p =
-    printer_value (contents p.out.now) (count p.out.now) p.refused p.failed p.first
+    printer_value (contents p.out.now) (count p.out.now) p.fault_count p.failed p.first
 
 abbrev IsFlushed : {K : Type 0} → (K → Option (List ℕ)) → (K → ℕ) → (K → ℕ)
     → Printer K → Bool → Printer K → Type 0

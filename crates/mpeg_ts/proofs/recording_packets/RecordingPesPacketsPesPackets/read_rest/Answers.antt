@@ -6,7 +6,7 @@ pub returns-clause-bytes : goal.returns-clause-bytes
 returns-clause-bytes g c =
     let i = c.self.inside in
     let rest =
-    emptying_consumes_rest (g.S.Source.remaining i.inner) i.stream c.mark_packet_given.new.self
-    (c.self.invariant (rw (← c.self.view_is) at c.requires.rest)) c.mark_packet_given.ensures in
+    emptying_consumes_rest (g.S.Source.remaining i.inner) i.stream c.clear_returned_bytes.new.self
+    (c.self.invariant (rw (← c.self.view_is) at c.requires.rest)) c.clear_returned_bytes.ensures in
     rw (← c.self.view_is, c.put_in_front.ensures, c.bytes-bytes.ensures.bytes)
     (rest.0, λ none some. rest.1)

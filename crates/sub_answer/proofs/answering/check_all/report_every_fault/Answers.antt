@@ -25,7 +25,7 @@ use Rattle.sub_answer.proofs.answering.check_all.report_every_fault.Goals as goa
 
 abbrev value_of : {K : Type 0} → (K → Option (List ℕ)) → (K → ℕ) → Printer K → PrinterValue
 value_of contents count p =
-    printer_value (contents p.out.now) (count p.out.now) p.refused p.failed p.first
+    printer_value (contents p.out.now) (count p.out.now) p.fault_count p.failed p.first
 
 abbrev IsReportedFault : {K : Type 0} → (K → Option (List ℕ)) → (K → ℕ) → (K → ℕ)
     → Printer K → LoadFault → Printer K → Type 0
@@ -97,7 +97,7 @@ returns-then-is_err-clause-reported g c =
     let reported = c.flush_reports.ensures.reported.kept c.args.printer.now fs.0 c.requires.still
     fs.1 in
     let is_err = sym c.is_err.ensures.value ∙ c.if-is_err.true in
-    let few : (value c.args.printer.now).refused ≤ 0xFFFF_FFFF_FFFF_FFFF =
+    let few : (value c.args.printer.now).fault_count ≤ 0xFFFF_FFFF_FFFF_FFFF =
     omega (arith, c.requires.none) in
     let failing =
     stopped_printing_has_failed _ _ _
@@ -119,7 +119,7 @@ report_transmission-requires-clause-few g c =
     let any = rw c.in-Ok-Some.field-0-is at c.in-Ok-Some.ensures.any in
     let IsReported = IsReportedFault g.K.Sink.contents g.K.Sink.failure_count g.K.Flush.buffered in
     let value = value_of g.K.Sink.contents g.K.Sink.failure_count in
-    let few : (value c.args.printer.now).refused ≤ 0xFFFF_FFFF_FFFF_FFFF =
+    let few : (value c.args.printer.now).fault_count ≤ 0xFFFF_FFFF_FFFF_FFFF =
     omega (arith, c.requires.none) in
     let goes : c.flush_reports.new.report_sink.failed ≡ false =
     device_has_not_failed _ _
@@ -155,7 +155,7 @@ returns-else-is_err-clause-reported g c =
     (λ file reported. rw c.in-Ok-Some.field-0-is at (e.reported_all file reported)) in
     let reported = c.flush_reports.ensures.reported.kept c.args.printer.now fs.0 c.requires.still
     fs.1 in
-    let few : (value c.args.printer.now).refused ≤ 0xFFFF_FFFF_FFFF_FFFF =
+    let few : (value c.args.printer.now).fault_count ≤ 0xFFFF_FFFF_FFFF_FFFF =
     omega (arith, c.requires.none) in
     let goes =
     device_has_not_failed _ _
@@ -173,8 +173,9 @@ returns-else-is_err-clause-reported g c =
     (rw c.in-Ok-Some.field-0-is at (e.exact file heard)))
     fs.2 _ c.report_transmission.ensures.reported
 
-pub returns-else-is_err-clause-requested : goal.returns-else-is_err-clause-requested
-returns-else-is_err-clause-requested g c = λ none.
+pub returns-else-is_err-clause-flushed_at_failure :
+    goal.returns-else-is_err-clause-flushed_at_failure
+returns-else-is_err-clause-flushed_at_failure g c = λ none.
     let any = rw c.in-Ok-Some.field-0-is at c.in-Ok-Some.ensures.any in
     c.report_transmission.ensures.requested
     (ok_property_applies _ (sym c.is_err.ensures.value ∙ c.if-is_err.false)

@@ -21,7 +21,7 @@ use Rattle.sub_answer.proofs.answering.check_all.report_transmission.Goals as go
 
 abbrev value_of : {K : Type 0} → (K → Option (List ℕ)) → (K → ℕ) → Printer K → PrinterValue
 value_of contents count p =
-    printer_value (contents p.out.now) (count p.out.now) p.refused p.failed p.first
+    printer_value (contents p.out.now) (count p.out.now) p.fault_count p.failed p.first
 
 abbrev IsReportedEvent : {K : Type 0} → (K → Option (List ℕ)) → (K → ℕ) → (K → ℕ)
     → Printer K → Event → Printer K → Type 0
@@ -71,8 +71,8 @@ returns-in-Ok-clause-reported g c =
     e.stopped e.continues e.only (rw same at e.count)
     (λ index is. keeping_preserves_pes_failure index _ _ _ found.kept (e.read index is)))
 
-pub returns-in-Ok-clause-requested : goal.returns-in-Ok-clause-requested
-returns-in-Ok-clause-requested g c = λ none.
+pub returns-in-Ok-clause-flushed_at_failure : goal.returns-in-Ok-clause-flushed_at_failure
+returns-in-Ok-clause-flushed_at_failure g c = λ none.
     failed_result_is_error _ _ _ (c.check_all_pes_packets.ensures.requested none)
 
 pub returns-in-Err-clause-reported : goal.returns-in-Err-clause-reported

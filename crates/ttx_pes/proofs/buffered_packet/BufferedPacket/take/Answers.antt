@@ -16,8 +16,9 @@ body_size_is_valid c = record {
   fit = λ i. let fits = c.type_inv.body i in omega (arith, fits);
 }
 
-pub returns-then-is_kept-clause-value : goal.returns-then-is_kept-clause-value
-returns-then-is_kept-clause-value c =
+pub returns-then-equals_stored_field-clause-value :
+    goal.returns-then-equals_stored_field-clause-value
+returns-then-equals_stored_field-clause-value c =
     let count : c.self.inside.count ≡ c.args.self.now.count =
     ap (λ (h : BufferedPacketValue). h.count) c.self.view_is in
     let places : c.self.inside.places ≡ c.args.self.now.places =
@@ -28,7 +29,7 @@ returns-then-is_kept-clause-value c =
       places = c.self.inside.places;
     } in
     (repeated_units_describe_packet c.args.body.now c.split_at.result.1.now _ _ h
-    (body_size_is_valid (goal.at.returns-then-is_kept-clause-value c).In_ok-pts)
+    (body_size_is_valid (goal.at.returns-then-equals_stored_field-clause-value c).In_ok-pts)
     c.in_ok-pts.ensures.exact
     (search rules) (search rules) c.requires.known count places).value
 

@@ -37,9 +37,9 @@ take-answer-requires g c =
     let whole = received_packet_is_complete _ _ b _ c.read_pes_packet-len.ensures.reads
     c.in-Ok-PesPacket.field-0-0
     (search rules) in
-    subst IsPesPacket (sym c.consumed_bytes_are_prefix-pes_packet.ensures.value)
+    subst IsPesPacket (sym c.first_bytes-pes_packet.ensures.value)
     (stated_size_gives_pes_packet b
-    (AreBytes-take _ _ c.consumed_bytes_are_prefix-pes_packet.ensures.bytes) whole.0 whole.1)
+    (AreBytes-take _ _ c.first_bytes-pes_packet.ensures.bytes) whole.0 whole.1)
 
 pub invariant_of-self-in-Ok-PesPacket : goal.invariant_of-self-in-Ok-PesPacket
 invariant_of-self-in-Ok-PesPacket g c = (omega arith, empty_rest_is_faulty [] refl)
@@ -57,9 +57,9 @@ returns-in-Ok-PesPacket-clause-received g c =
       complete_packet_is_consumed g.T.TakePesPacket.is_take c.args.taker.now c.args.self.now b old
           new
           c.take-answer.result c.take-answer.new.self taken whole
-          (AreBytes-take _ _ c.consumed_bytes_are_prefix-pes_packet.ensures.bytes)
+          (AreBytes-take _ _ c.first_bytes-pes_packet.ensures.bytes)
           (subst (λ (p : List ℕ). g.T.TakePesPacket.is_take c.args.taker.now p c.take-answer.result
-          c.take-answer.new.self) c.consumed_bytes_are_prefix-pes_packet.ensures.value
+          c.take-answer.new.self) c.first_bytes-pes_packet.ensures.value
           c.take-answer.ensures),
       refl,
     )

@@ -1,10 +1,10 @@
--- Loop invariant of `push_frame`: the buffer has room for the lines of the remaining Teletext
+-- Loop invariant of `push_pes_packet`: the buffer has room for the lines of the remaining Teletext
 -- units, 192 bytes each and at most 35. The lines so far, followed by these, are the lines of all
 -- units.
 use Rattle.std.proofs.Common.{◌≡◌, ◌+◌, ◌*◌, ◌≤◌, ◌++◌, drop, length}
 use Rattle.arrayvec.specs.ArrayVec.{array_vec_len}
 use Rattle.sub_listing.specs.PacketsListing.{unit_lines}
-use Rattle.sub_listing.proofs.packets.push_frame.Given as goal
+use Rattle.sub_listing.proofs.packets.push_pes_packet.Given as goal
 
 abbrev pub invariant-loop-number : goal.invariant-loop-number
 invariant-loop-number l = record {

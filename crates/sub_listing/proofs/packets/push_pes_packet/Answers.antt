@@ -4,7 +4,7 @@ use Rattle.std.proofs.lemmas.List.{drop_more}
 use Rattle.ttx_pes.specs.DataUnit.{UnitValue}
 use Rattle.sub_listing.specs.Lines.{unit_line}
 use Rattle.sub_listing.specs.PacketsListing.{unit_lines}
-use Rattle.sub_listing.proofs.packets.push_frame.Goals as goal
+use Rattle.sub_listing.proofs.packets.push_pes_packet.Goals as goal
 
 pub loop-number-preserved : goal.loop-number-preserved
 loop-number-preserved c =

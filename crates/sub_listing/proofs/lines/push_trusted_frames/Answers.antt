@@ -1,7 +1,7 @@
 use Rattle.std.proofs.Common.{◌≡◌, ◌++◌, ◌∙◌, ap, arith, List, ℕ, append_assoc, codes, ◌%◌}
 use Rattle.stl_file.specs.TimeCode.{day}
 use Rattle.sub_listing.specs.Lines.{time_text}
-use Rattle.sub_listing.proofs.lines.push_clean_frames.Goals as goal
+use Rattle.sub_listing.proofs.lines.push_trusted_frames.Goals as goal
 
 joined : (a b c d e f : List ℕ)
     → a ++ b ++ c ++ d ++ e ++ f ≡ a ++ (b ++ c ++ d ++ e ++ f)

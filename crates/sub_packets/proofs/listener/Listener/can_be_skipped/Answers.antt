@@ -4,7 +4,7 @@ use Rattle.sub_packets.proofs.SkippedLemmas.{skipped_header_is_of_another_page}
 use Rattle.sub_packets.proofs.SkippedLemmas.{other_packet_is_no_header}
 use Rattle.sub_packets.proofs.SkippedLemmas.{header_of_other_page_is_skipped}
 use Rattle.sub_packets.proofs.SkippedLemmas.{packet_of_other_page_is_skipped}
-use Rattle.sub_packets.proofs.listener.Listener.is_skipped.Goals as goal
+use Rattle.sub_packets.proofs.listener.Listener.can_be_skipped.Goals as goal
 
 pub returns-then-packet_number-ne0-clause-no_header :
     goal.returns-then-packet_number-ne0-clause-no_header
