@@ -17,7 +17,7 @@ _subttx_files() {
 _subttx_value() {
     case $1 in
 # made: values
-        --option) _subttx_words 'english german swedish italian french spanish czech' "$2" ;;
+        --option) _subttx_words 'english german swedish italian french spanish czech polish turkish croatian romanian estonian lithuanian' "$2" ;;
         --receiver) _subttx_words 'blank keep drop anew' "$2" ;;
         --packet-size) _subttx_words '188 192 204' "$2" ;;
         --against | --at | --breaks | --every | --every-seconds | --flip | --free | --from | \

@@ -193,7 +193,7 @@ def change_options(rng: Random, arguments: dict[str, str]) -> dict[str, str]:
     origin = int(arguments["--origin"]) + rng.choice([3600, -3600, 1, 90_000])
     other = {"--every": str(rng.choice([1, 10, 24, 49, 1501])), "--page": "100",
              "--origin": str(origin % 2**33),
-             "--option": rng.choice([*OPTIONS, "polish", "French", ""])}
+             "--option": rng.choice([*OPTIONS, "danish", "French", ""])}
     return {**arguments, name: other[name]}
 
 

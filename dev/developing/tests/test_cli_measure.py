@@ -9,11 +9,12 @@ import itertools
 import random
 import sys
 from collections import Counter
+from typing import Any
 
 from developing.pes import make_packet
 from subtitles.cli.measure import (
     Delays, MAX_EXAMPLES, format_name_lines, measure_delays, measure_recording, propose_keeping,
-    propose_lateness, propose_option, remove_unusual)
+    find_sent_options, propose_lateness, propose_option, remove_unusual)
 from subtitles.common.command_line import MAX_WITHIN
 from subtitles.common.times import TICKS
 from subtitles.formats.stl import Subtitle
@@ -164,9 +165,23 @@ class Cues(Case):
         self.check("one of 20", next(propose_lateness([late], [])).lines[1:], [])
 
     def test_proposes_the_option_of_all_headers(self) -> None:
-        self.check_rows(lambda *sent: propose_option(sent, "english").text, {
-            "none": ((), ""), "one": (("german",), "--option german"),
-            "two": (("german", "english"), "")})
+        both = "english or polish, by the region to which the receiver is set (chosen: "
+        of_file = "all characters of the subtitle files)"
+        rows: dict[str, tuple[Any, tuple[str, str]]] = {
+            "none": (([], b""), ("", "none")),
+            "one": (([4], b""), ("--option german", "german")),
+            "two": (([4, 1], b""), ("", "french and german")),
+            "one of two, in both": (([0], b"\x8aA"), (
+                "--option english", f"{both}english; both have {of_file}")),
+            "one of two, in the second": (([0], b"\xcea"), (
+                "--option polish", f"{both}polish; only polish has {of_file}")),
+            "one of two, in neither": (([0], b"\xc2e"), (
+                "--option english", f"{both}english; neither has {of_file}")),
+            "reserved in the default region": (([7], b""), ("--option romanian", "romanian"))}
+        for name, ((bits, text), (option, words)) in rows.items():
+            sent = find_sent_options(bits, "english", [text])
+            self.check(name, propose_option(sent, "english"), (option, [
+                f"option: C12 to C14 of the headers select {words}; the text was read as english"]))
 
     def test_a_lost_repeat_is_an_exception(self) -> None:
         for name, frames, longest, exceptions in (
@@ -201,10 +216,10 @@ class Parts(Case):
                              self.path(f"{number}"))
             self.must(f"{what} in {part}", ([(item.longest, len(item.exceptions))
                                              for item in recording.repeats], recording.headers,
-                      recording.is_alone, recording.options) == (
+                      recording.is_alone, recording.option_bits) == (
                           [(25, int(what == "missing" and part == at)) for at in (0, 1)],
                           (len(changed), 2 * (what == "keeping")), what != "german",
-                          {"english", *["german"] * (what == "german")}) and
+                          {0, *[4] * (what == "german")}) and
                       [item.begins[2] for item in recording.delays] == [
                           int(what == "late" and part == at) for at in (0, 1)] and
                       not any(item.unseen or item.early for item in recording.delays) and

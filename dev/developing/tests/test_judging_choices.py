@@ -388,15 +388,16 @@ class Profiles(Case):
     def test_proposes_only_options_that_fit_all_recordings(self) -> None:
         expected_subtitle = ExpectedSubtitle("0x101", [], [Repeats(9, 25, 7, 25)],
                                              [Pace(REGULAR, 1, 3)], [Delays(
-            Counter({0: 3}), Counter({0: 3}), [], [])], (9, 0), True, {"english"}, [])
+            Counter({0: 3}), Counter({0: 3}), [], [])], (9, 0), True, {0}, [])
         request = make_example_request("a.stl", "a.ts", "--origin", "0")
         same = ["--page 888", "--pid 0x101", "--option english", "--every 25", "--pace 2"]
         late = Delays(Counter({0: 1, 2: 1}), Counter({1: 4}), [], [])
         rows: list[tuple[dict[str, Any], str, str]] = [
             ({}, "", ""), ({"pid": "0x102"}, "--pid 0x101", ""), ({"pid": None}, "--pid 0x101", ""),
-            ({"options": {"german"}}, "--option english", ""),
-            ({"options": {"english", "german"}}, "--option english", ""),
-            ({"options": set()}, "", ""), ({"repeats": []}, "", ""),
+            ({"option_bits": {4}}, "--option english", ""),
+            ({"option_bits": {0, 4}}, "--option english", ""),
+            ({"option_bits": set()}, "", ""), ({"repeats": []}, "", ""),
+            ({"texts": {b"\xcea"}}, "--option english", "--option polish"),
             ({"repeats": [Repeats(9, 50, 7, 25)]}, "--every 25", "--every 50"),
             ({"paces": [Pace(REGULAR, 2, 5)]}, "--pace 2", "--pace 4"),
             ({"paces": [Pace(PAUSED, 2, 5)]}, "--pace 2", ""),

@@ -16,7 +16,7 @@ from subtitles.formats.layout import PLAIN, TextFault, make_cell_lines, prepare_
 from subtitles.clock.start import advise_on_clock
 from subtitles.formats.listing import NamedFault, NOT_SHOWN, parse_fault_line, read_meanings
 from subtitles.formats.stl import Subtitle
-from subtitles.formats.teletext import ENGLISH, OPTIONS
+from subtitles.formats.teletext import ENGLISH, OPTIONS, OPTION_BY_WORD, select_option
 from subtitles.judging.causes import CAUSE_NAMES, TEXT_IN_PAUSE
 from subtitles.judging.pages import (
     HIDDEN as HIDDEN_KIND, Visibility, decode_cells, describe_hidden_characters, find_hidden_rows,
@@ -44,11 +44,21 @@ VERB = re.compile(r"\b(is|are|has|have|was|were|does|ends|comes|begins?|differs|
 
 class HeaderOptions(unittest.TestCase):
     def test_names_the_option_of_a_header(self) -> None:
-        for sent, request in itertools.product(OPTIONS, repeat=2):
-            words = f"the header is {sent.name}, but --option is {request.word}"
-            with self.subTest(sent=sent.word, asked=request.word):
-                self.assertEqual(describe_control_bits(bytes([8, 8, 0, 8, 0, 8, 1, sent.bits << 1]),
+        for bits, request in itertools.product(range(8), OPTIONS):
+            sent = select_option(bits, request)
+            words = f"the header is {sent.name}, but --option is {request.word}" if sent else \
+                "C12, C13 and C14 are set, which is reserved"
+            with self.subTest(bits=bits, asked=request.word):
+                self.assertEqual(describe_control_bits(bytes([8, 8, 0, 8, 0, 8, 1, bits << 1]),
                                                        request.word), [words] * (sent != request))
+
+    def test_selects_the_option_of_the_region_or_of_the_default_region(self) -> None:
+        for bits, judged, expected in ((0, "english", "english"), (0, "polish", "polish"),
+                                       (4, "polish", "german"), (5, "polish", "spanish"),
+                                       (7, "croatian", "romanian"), (7, "polish", None),
+                                       (0, "estonian", "english"), (6, "estonian", "lithuanian")):
+            option = select_option(bits, OPTION_BY_WORD[judged])
+            self.assertEqual(option and option.word, expected, (bits, judged))
 
 
 class Sentences(unittest.TestCase):

@@ -454,11 +454,16 @@ class PageDifferences(Case):
         advice = OptionAdvice(file, "english")
         self.assertTrue(advice.advise(5, 4).startswith("no national option has ø: "))
         self.assertEqual((advice.advise(5, 6), advice.complete_options), ("", []))
-        german = SubtitleFile(self.write("two.stl", make_gsi_block(b"", 1, 1) + make_tti_block(
-            1, 25, 50, 20, 2, b"\xc8a")))
-        self.assertEqual(OptionAdvice(german, "english").advise(1, 0),
-                         "use --option german or swedish, which have all the characters in the "
-                         "file")
+        rows: dict[bytes, str] = {
+            b"\xc8a": "german or swedish, which have all the characters in the file",
+            b"\xcea": "polish or lithuanian, which have all the characters in the file, if "
+            "receivers are set to their region",
+            b"\xc8a\xc4o": "estonian, which has all the characters in the file, if receivers are "
+            "set to its region"}
+        for text, words in rows.items():
+            file = SubtitleFile(self.write("two.stl", make_gsi_block(b"", 1, 1) + make_tti_block(
+                1, 25, 50, 20, 2, text)))
+            self.assertEqual(OptionAdvice(file, "english").advise(1, 0), f"use --option {words}")
 
 
 class RepeatIntervals(unittest.TestCase):

@@ -13,6 +13,7 @@ from subtitles.common.files import SummedFile
 from subtitles.common.program import ProgramInfo
 from subtitles.common.times import CLOCK, Span, TICKS, format_frame
 from subtitles.formats.listing import NamedFault, NEVER_SENT, PICTURES_LEFT
+from subtitles.formats.teletext import ENGLISH, GERMAN, ROMANIAN, SWEDISH
 from subtitles.judging.check import CheckOutput, NO_END
 from subtitles.judging.part import Part, belongs_to_part, find_part_causes
 from subtitles.judging.status import Severity
@@ -313,8 +314,8 @@ class PartDecisions(Case):
         part = make_part(0, 9, 0, packets=Packets(0, runs), pes=(3, 8))
         english, german = (bytes([8, 8, 0, 8, 0, 8, 1, last]) for last in (0, 8))
         self.must("heard", part.count_headers() == {english: 4, german: 1}, part.count_headers())
-        self.must("options", part.find_options() == {"english", "german", "swedish"},
-                  part.find_options())
+        self.check("options", part.find_option_bits(),
+                   {option.bits for option in (ENGLISH, GERMAN, SWEDISH, ROMANIAN)})
 
     def test_decodes_the_pages_of_a_part(self) -> None:
         packets = survey_packets(self, b"".join(make_pes_packet(TICKS * at - 5, [

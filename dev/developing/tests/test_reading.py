@@ -9,14 +9,17 @@ from subtitles.common.checks import JUMP
 from subtitles.common.times import CLOCK, TICKS
 from subtitles.formats.layout import PLAIN, draw_text, make_page_rows
 from subtitles.formats.stl_writer import StoredPage, store_page
-from subtitles.formats.teletext import ENGLISH, FRENCH, GERMAN, OPTIONS, NationalOption
+from subtitles.formats.teletext import (
+    CROATIAN, ENGLISH, FRENCH, GERMAN, OPTIONS, NationalOption)
 from subtitles.judging.status import ACCEPTED, LOST, NOT_JUDGED, REFUSED, Severity
 from subtitles.judging.unchecked import Unchecked
 from subtitles.judging.verdict import Verdict
 from subtitles.reading.received import (
-    ShownPage, choose_language, find_likely_errors, join_late_pages, mark_cuts)
+    ShownPage, choose_header_option, choose_language, find_likely_errors, join_late_pages,
+    mark_cuts)
 from subtitles.reading.result import (
     AS_SHOWN, NOT_READ, PageResult, ReadingGrounds, WITH_FAULTS, decide_reading)
+from subtitles.request.request import Unclear
 from subtitles.stream.receiver import BLANK_PAGE, Rows
 from .bench import Case, CompletedCall
 from .parts import make_example_request
@@ -121,13 +124,32 @@ class ReceivedPages(Case):
             pages = [ShownPage(at, at + 1, item, "") for at, item in enumerate(rows)]
             self.check(name, find_likely_errors(pages), {*expected})
 
+    def test_chooses_the_option_by_the_headers_and_the_announcement(self) -> None:
+        rows: dict[str, tuple[tuple[int, list[str]], tuple[str, bool]]] = {
+            "only one option": ((4, []), ("german", False)),
+            "announced": ((0, ["pol"]), ("polish", False)),
+            "announced, default region": ((0, ["eng"]), ("english", False)),
+            "the second one": ((0, ["deu", "pol", "eng"]), ("polish", False)),
+            "not announced": ((0, []), ("english", True)),
+            "another one": ((2, ["pol"]), ("swedish", True)),
+            "reserved in the default region": ((7, ["ron"]), ("romanian", False))}
+        for name, (values, (word, has_note)) in rows.items():
+            option, notes = choose_header_option(*values)
+            self.check(name, (option.word, len(notes)), (word, int(has_note)))
+        with self.assertRaises(Unclear):
+            choose_header_option(7, ["pol"])
+        self.check("the note", choose_header_option(2, [])[1], [
+            "C12 to C14 of the headers select swedish or estonian, by the region to which the "
+            "receiver is set: no announced language decides it, so the text was read as swedish"])
+
     def test_chooses_the_language_by_the_announcement_and_the_headers(self) -> None:
         self.check_rows(choose_language, {
             "announced": ((["deu"], GERMAN), b"08"), "English": ((["eng"], ENGLISH), b"09"),
             "the second one": ((["eng", "ger"], GERMAN), b"08"),
             "another one": ((["deu"], ENGLISH), b"00"), "none": (([], ENGLISH), b"00"),
             "none, German": (([], GERMAN), b"08"),
-            "another one, French": ((["eng"], FRENCH), b"0F")})
+            "another one, French": ((["eng"], FRENCH), b"0F"),
+            "Croatian": (([], CROATIAN), b"04"), "Serbian": ((["srp"], CROATIAN), b"24")})
 
 
 class Decisions(Case):

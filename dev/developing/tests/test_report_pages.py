@@ -134,7 +134,8 @@ class Drawings(unittest.TestCase):
             self.assertEqual(find_differences(item, other), [(row + 1, column)], (row, column))
 
     def test_draws_characters_of_the_header_option(self) -> None:
-        for option, letter in ((0, "\u2190"), (4, "\u00c4"), (0, "\u2190"), (7, "\u25a1")):
-            header = bytes([*SUBTITLE_HEADER[:7], option << 1])
+        for bits, region, letter in ((0, 0, "\u2190"), (4, 0, "\u00c4"), (7, 0, "\u25a1"),
+                                     (0, 1, "\u017b"), (4, 1, "\u00c4"), (7, 3, "\u00c2")):
+            header = bytes([*SUBTITLE_HEADER[:7], bits << 1])
             self.assertIn(f">{letter}</text>", markup_text(draw_picture(
-                page(r20=b"\x0b\x0b["), header, (19, 21))), (option, letter))
+                page(r20=b"\x0b\x0b["), header, (19, 21), (), region)), (bits, region, letter))

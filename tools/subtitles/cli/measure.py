@@ -6,7 +6,7 @@ import collections
 import dataclasses
 import os
 import re
-from typing import Callable, Iterable, Iterator, NamedTuple, Sequence
+from typing import Callable, Collection, Iterable, Iterator, NamedTuple, Sequence
 
 from ..clock.start import TCP
 from ..common.command_line import (
@@ -17,7 +17,8 @@ from ..formats.layout import (
     PLAIN, TextFault, draw_text, parse_layout, format_layout, encode_text_characters,
     list_page_characters, make_page_rows)
 from ..formats.stl import Subtitle
-from ..formats.teletext import NationalOption, OPTION_BY_WORD, page_name
+from ..formats.teletext import (
+    NationalOption, OPTION_BY_WORD, SentOption, find_sent_option, page_name)
 from ..judging.pages import find_text_columns, format_cells
 from ..judging.pair import PairJudge
 from ..judging.part import Part
@@ -258,13 +259,29 @@ def propose_keeping(headers: int, keeping: int, is_alone: bool) -> Finding:
     return Finding("--keeping" if is_frequent and is_alone else "", lines)
 
 
-def propose_option(options: Iterable[str], judged_option: str) -> Finding:
-    """Propose the national option if it is the same in all page headers. `judged_option` is the
-    option with which the text was decoded."""
-    sent = sorted(options)
-    lines = [f"option: C12 to C14 of the headers select {' and '.join(sent) or 'none'}; the text "
+def propose_option(sent: Sequence[SentOption], judged_option: str) -> Finding:
+    """Propose the national option if C12 to C14 are the same in all page headers. The text was
+    decoded with `judged_option`."""
+    words = sorted(item.words + describe_choice(item) for item in sent)
+    lines = [f"option: C12 to C14 of the headers select {' and '.join(words) or 'none'}; the text "
              f"was read as {judged_option}"]
-    return Finding(f"--option {sent[0]}" if len(sent) == 1 else "", lines)
+    return Finding(f"--option {sent[0].option.word}" if len(sent) == 1 else "", lines)
+
+
+def describe_choice(sent: SentOption) -> str:
+    """Return why an option was chosen, if the options of several regions have the same bits."""
+    if len(sent.options) == 1:
+        return ""
+    known = {0: "neither has", 1: f"only {sent.option.word} has", 2: "both have"}
+    return f" (chosen: {sent.option.word}; {known[len(sent.complete_options)]} all characters of " \
+        "the subtitle files)"
+
+
+def find_sent_options(several_bits: Collection[int], judged_option: str,
+                      texts: Collection[bytes]) -> list[SentOption]:
+    """Return the options for each value of C12 to C14 in the page headers."""
+    return [find_sent_option(bits, OPTION_BY_WORD[judged_option], texts)
+            for bits in sorted(several_bits)]
 
 
 # Matches spaces after the codes that open a box, or before the codes that close it.
@@ -402,11 +419,12 @@ class MeasuredRecording(NamedTuple):
     delays: Sequence[Delays]
     headers: tuple[int, int]  # number of all headers, and of headers that do not erase the page
     is_alone: bool  # whether no header has a wrong control bit other than C4
-    options: set[str]
+    option_bits: set[int]  # values of C12 to C14 in the page headers
     sendings: Sequence[ReceivedSubtitle]
     # Number of PTS that are not at the start of a frame, and number of all PTS
     off_frame: tuple[int, int] = (0, 0)
     option: str = "english"  # national option used to decode the text
+    texts: Collection[bytes] = ()  # texts of the subtitles
 
 
 def measure(args: argparse.Namespace, program_name: str) -> int:
@@ -466,8 +484,9 @@ def measure_recording(request: Request, command_paths: CommandPaths,
     try:
         refuse_files(request)
         pair = measure_pair(make_pair(request, command_paths, folder))
-        if len(pair.options) == 1 and request.option not in pair.options:
-            request = dataclasses.replace(request, option=min(pair.options))
+        sent = find_sent_options(pair.option_bits, request.option, pair.texts)
+        if len(sent) == 1 and request.option != sent[0].option.word:
+            request = dataclasses.replace(request, option=sent[0].option.word)
             pair = measure_pair(make_pair(request, command_paths, folder))
         return pair._replace(option=request.option)
     except Unclear as reason:
@@ -515,8 +534,10 @@ def measure_pair(pair: PairJudge) -> MeasuredRecording:
     times = [(one.begin, one.end) for one in subtitles]
     sent = [(find_subtitles(part, subtitles), decode_pages(part)) for part in parts]
     headers = [part.count_headers() for part in parts]
-    sent_options = {word for part in parts for word in part.find_options()}
-    word = min(sent_options) if len(sent_options) == 1 else request.option
+    texts = {one.text for one in subtitles}
+    option_bits = {bits for part in parts for bits in part.find_option_bits()}
+    sent_options = find_sent_options(option_bits, request.option, texts)
+    word = sent_options[0].option.word if len(sent_options) == 1 else request.option
     return MeasuredRecording(
         *find_pid(pair),
         [repeats for part in parts if (repeats := measure_repeats(
@@ -527,11 +548,12 @@ def measure_pair(pair: PairJudge) -> MeasuredRecording:
          sum(count for counts in headers for header,
              count in counts.items() if keeps_page(header))),
         not any(describe_control_bits(header, word) for counts in headers for header in counts),
-        sent_options,
+        option_bits,
         [sending for sent_pair in sent
          for sending in find_decoded_subtitles(request.stl, *sent_pair, option)],
         (sum(subtract_origin(part.origin or 0, pts) % TICKS > 0 for part in parts
-             for pts in part.list_pts()), sum(len(part.list_pts()) for part in parts)))
+             for pts in part.list_pts()), sum(len(part.list_pts()) for part in parts)),
+        texts=texts)
 
 
 def add_part_packets(programme: PartSearch, part: Part) -> Part:
@@ -581,10 +603,14 @@ def make_profile_lines(requests: Sequence[Request],
            "keep the lines that are true of your site.")
     are_known = [request.origin is not None or request.start is not None for request in requests]
     counts = [item.headers for item in recordings]
-    options = {option for item in recordings for option in item.options}
+    sent_options = find_sent_options(
+        {bits for item in recordings for bits in item.option_bits}, recordings[0].option,
+        {text for item in recordings for text in item.texts})
+    option = sent_options[0].option if len(sent_options) == 1 else \
+        OPTION_BY_WORD[recordings[0].option]
     findings = [
         Finding(f"--page {page_name(*first.page)}", []), propose_pid(recordings),
-        propose_option(options, recordings[0].option),
+        propose_option(sent_options, recordings[0].option),
         propose_repeat_limit([repeats for item in recordings for repeats in item.repeats]),
         propose_pace([pace for item in recordings for pace in item.paces]),
         *propose_lateness([delays for item, is_known in zip(recordings, are_known) if is_known
@@ -595,8 +621,7 @@ def make_profile_lines(requests: Sequence[Request],
                            sum(item.off_frame[1] for item in recordings))),
         propose_keeping(sum(count for count, _ in counts), sum(count for _, count in counts),
                         all(item.is_alone for item in recordings)),
-        propose_layout([sending for item in recordings for sending in item.sendings],
-                       OPTION_BY_WORD[recordings[0].option])]
+        propose_layout([sending for item in recordings for sending in item.sendings], option)]
     for finding in findings:
         yield from finding.list_profile_lines()
 

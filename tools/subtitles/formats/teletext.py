@@ -3,7 +3,7 @@ from __future__ import annotations
 
 import functools
 import unicodedata
-from typing import Iterator, NamedTuple
+from typing import Collection, Iterator, NamedTuple
 
 
 # Hamming 8/4 codes of 0 to F (EN 300 706)
@@ -77,7 +77,7 @@ def decode_text(text: bytes) -> str:
     return decoded
 
 
-# National options (EN 300 706, Latin national option sub-sets of the default region)
+# National options (EN 300 706, Latin national option sub-sets)
 #
 # To add an option, add a row here and a word in `tools/completion.bash`. The tools use this table
 # to search a recording, to draw a page and to give advice. The verdict depends only on the program.
@@ -99,38 +99,77 @@ class NationalOption(NamedTuple):
     cells: str  # hexadecimal codes in a text for each of `NATIONAL_CODES`; `-` if there are none
     languages: str  # language codes in a GSI block (LC)
     tracks: str  # language codes in a PMT
+    # Regions in which the control bits select this option. The judgement assumes a receiver that is
+    # set to the first region.
+    regions: str
+
+    @property
+    def region(self) -> int:
+        """Return the region to which a receiver must be set."""
+        return int(self.regions.split()[0], 2)
+
+    @property
+    def number(self) -> int:
+        """Return a number that no other option has: 8 times the region, plus `bits`."""
+        return 8 * self.region + self.bits
 
 
 ENGLISH = NationalOption(
     "english", "English", 0, "£$@←½→↑#—¼‖¾÷",
-    "A3 24,A4 40 - - - - 23 - - - - -", "09", "eng")
+    "A3 24,A4 40 - - - - 23 - - - - -", "09", "eng", "0000 0010")
 GERMAN = NationalOption(
     "german", "German", 4, "#$§ÄÖÜ^_°äöüß",
-    "23 24,A4 A7 C841 C84F C855 - - B0 C861 C86F C875 FB", "08", "deu ger")
+    "23 24,A4 A7 C841 C84F C855 - - B0 C861 C86F C875 FB", "08", "deu ger",
+    "0000 0001 0010 0100")
 SWEDISH = NationalOption(
     "swedish", "Swedish, Finnish, Hungarian", 2, "#¤ÉÄÖÅÜ_éäöåü",
-    "23 A8 C245 C841 C84F CA41 C855 5F C265 C861 C86F CA61 C875", "27 28 1B", "swe fin hun")
+    "23 A8 C245 C841 C84F CA41 C855 5F C265 C861 C86F CA61 C875", "27 28 1B", "swe fin hun",
+    "0000 0001 0010")
 ITALIAN = NationalOption(
     "italian", "Italian", 6, "£$é°ç→↑#ùàòèì",
-    "A3 24,A4 C265 B0 CB63 AE AD 23 C175 C161 C16F C165 C169", "15", "ita")
+    "A3 24,A4 C265 B0 CB63 AE AD 23 C175 C161 C16F C165 C169", "15", "ita",
+    "0000 0001 0010")
 FRENCH = NationalOption(
     "french", "French", 1, "éïàëêùî#èâôûç",
-    "C265 C869 C161 C865 C365 C175 C369 23 C165 C361 C36F C375 CB63", "0F", "fra fre")
+    "C265 C869 C161 C865 C365 C175 C369 23 C165 C361 C36F C375 CB63", "0F", "fra fre",
+    "0000 0001 0010")
 SPANISH = NationalOption(
     "spanish", "Portuguese, Spanish", 5, "ç$¡áéíóú¿üñèà",
-    "CB63 24,A4 A1 C261 C265 C269 C26F C275 BF C875 C46E C165 C161", "0A 21", "spa por")
+    "CB63 24,A4 A1 C261 C265 C269 C26F C275 BF C875 C46E C165 C161", "0A 21", "spa por",
+    "0000 0010")
 CZECH = NationalOption(
     "czech", "Czech, Slovak", 3, "#ůčťžýířéáěúš",
     "23 CA75 CF63 CF74 CF7A C279 C269 CF72 C265 C261 CF65 C275 CF73", "06 25",
-    "ces cze slk slo")
+    "ces cze slk slo", "0000 0001 0100")
+POLISH = NationalOption(
+    "polish", "Polish", 0, "#ńąŻŚŁćóężśłź",
+    "23 C26E CE61 C75A C253 E8 C263 C26F CE65 C77A C273 F8 C27A", "20", "pol", "0001")
+TURKISH = NationalOption(
+    "turkish", "Turkish", 3, "₺ğİŞÖÇÜĞışöçü",
+    "- C667 C749 CB53 C84F CB43 C855 C647 F5 CB73 C86F CB63 C875", "29", "tur", "0010 0110")
+CROATIAN = NationalOption(
+    "croatian", "Croatian, Slovenian, Serbian", 5, "#ËČĆŽĐŠëčćžđš",
+    "23 C845 CF43 C243 CF5A E2 CF53 C865 CF63 C263 CF7A F2 CF73", "04 26 24",
+    "hrv scr srp scc slv", "0011")
+ROMANIAN = NationalOption(
+    "romanian", "Romanian", 7, "#¤ŢÂŞĂÎıţâşăî",
+    "23 A8 CB54 C341 CB53 C641 C349 F5 CB74 C361 CB73 C661 C369", "22", "ron rum", "0011")
+ESTONIAN = NationalOption(
+    "estonian", "Estonian", 2, "#õŠÄÖŽÜÕšäöžü",
+    "23 C46F CF53 C841 C84F CF5A C855 C44F CF73 C861 C86F CF7A C875", "0C", "est", "0100")
+# Also for Latvian, which lacks seven small letters in it: no language code chooses it for Latvian.
+LITHUANIAN = NationalOption(
+    "lithuanian", "Lithuanian", 6, "#$ŠėęŽčūšąųžį",
+    "23 24,A4 CF53 C765 CE65 CF5A CF63 C575 CF73 CE61 CE75 CF7A CE69", "1A", "lit", "0100")
 
-OPTIONS = (ENGLISH, GERMAN, SWEDISH, ITALIAN, FRENCH, SPANISH, CZECH)
+OPTIONS = (ENGLISH, GERMAN, SWEDISH, ITALIAN, FRENCH, SPANISH, CZECH, POLISH, TURKISH, CROATIAN,
+           ROMANIAN, ESTONIAN, LITHUANIAN)
 OPTION_WORDS = tuple(one.word for one in OPTIONS)
 OPTION_BY_WORD = {one.word: one for one in OPTIONS}
-OPTION_BY_BITS = {one.bits: one for one in OPTIONS}
-RESERVED = 7  # value of C12 to C14 that no option of the default region uses
-# Language codes in a PMT for languages that need characters outside the default region.
-OTHER_REGIONS = ("ara bul ell est gre heb hrv lit pol ron rum rus scc scr slv srp ukr").split()
+OPTION_BY_NUMBER = {8 * int(region, 2) + one.bits: one
+                    for one in OPTIONS for region in one.regions.split()}
+# Language codes in a PMT for languages that need other than Latin characters.
+OTHER_REGIONS = "ara bul ell gre heb rus ukr".split()
 UNKNOWN_CHARACTER = "\u25a1"  # shown for a character of an unknown option
 ACCENT_BYTES = {byte for byte, mark in ACCENTS.items() if mark != " "}
 
@@ -145,9 +184,16 @@ def choose_track_option(language: str) -> NationalOption | None:
     return next((option for option in OPTIONS if language.lower() in option.tracks.split()), None)
 
 
-def reverse_option_bits(option: NationalOption) -> int:
-    """Return the bits of an option in the order of packets X/28 and M/29: 4 C12 + 2 C13 + C14."""
-    return sum((option.bits >> at & 1) << 2 - at for at in range(3))
+def select_option(bits: int, judged: NationalOption) -> NationalOption | None:
+    """Return the option that C12 to C14 of a header (`bits`) select in the region of the option
+    `judged`, or else in the default region. Return `None` if they select no option there."""
+    return OPTION_BY_NUMBER.get(8 * judged.region + bits, OPTION_BY_NUMBER.get(bits))
+
+
+def reverse_bits(bits: int) -> int:
+    """Return the bits of an option (C12 + 2 C13 + 4 C14) in the order of packets X/28 and M/29,
+    4 C12 + 2 C13 + C14, or the other way round."""
+    return sum((bits >> at & 1) << 2 - at for at in range(3))
 
 
 @functools.lru_cache(maxsize=None)
@@ -179,6 +225,33 @@ def has_characters(text: bytes, option: NationalOption) -> bool:
     return None not in encode_line(character_codes, option)
 
 
+class SentOption(NamedTuple):
+    """The options of all regions whose C12 to C14 a header has, and those of them that have all
+    characters of some texts."""
+
+    options: list[NationalOption]
+    complete_options: list[NationalOption]
+
+    @property
+    def option(self) -> NationalOption:
+        """Return the first option that has all characters, or else the first option."""
+        return [*self.complete_options, *self.options][0]
+
+    @property
+    def words(self) -> str:
+        """Return the names of the options."""
+        return " or ".join(option.word for option in self.options) + (
+            ", by the region to which the receiver is set" if len(self.options) > 1 else "")
+
+
+def find_sent_option(bits: int, judged: NationalOption, texts: Collection[bytes]) -> SentOption:
+    """Return the options whose C12 to C14 are `bits`. If `judged` is one, it is the first."""
+    options = sorted((option for option in OPTIONS if option.bits == bits),
+                     key=lambda option: option != judged)
+    return SentOption(options, [option for option in options
+                                if all(has_characters(text, option) for text in texts)])
+
+
 def read_character_bytes(text: bytes, at: int) -> bytes:
     """Return the byte at an offset. If it is an accent, add the letter after it."""
     is_accent_pair = text[at] in ACCENT_BYTES and text[at + 1:at + 2].isalpha()
@@ -206,9 +279,10 @@ BLOCK = "\u25a0"  # the character displayed for code 7F
 @functools.lru_cache(maxsize=None)
 def make_character_table(option: int) -> list[str]:
     """Return the character of each code 00 to 7F (EN 300 706, Latin G0). A spacing attribute is a
-    space. `option` is C12 + 2 C13 + 4 C14 of a page header."""
+    space. `option` is the number of a national option. In the default region, it is C12 + 2 C13 +
+    4 C14 of a page header."""
     table = [" "] * 32 + [chr(code) for code in range(32, 127)] + [BLOCK]
-    national_characters = OPTION_BY_BITS.get(option)
+    national_characters = OPTION_BY_NUMBER.get(option)
     for code, character in zip(NATIONAL_CODES, national_characters.characters if national_characters
                                else UNKNOWN_CHARACTER * len(NATIONAL_CODES)):
         table[code] = character

@@ -522,7 +522,7 @@ class CauseDescriber:
     def __init__(self, causes: Causes, option: str) -> None:
         self.causes, self.subtitles = causes, causes.expected.subtitles
         self.pages = causes.expected.pages
-        self.option = OPTION_BY_WORD[option].bits
+        self.option = OPTION_BY_WORD[option].number
 
     def make_json(self, cause: Cause) -> Members:
         subtitle = self.subtitles[cause.subtitle_index]

@@ -294,7 +294,7 @@ def make_subtitle_rows(part: Part, severity: Severity, valid_subtitles: ValidSub
 
 def make_judged_rows(part: Part, severity: Severity) -> Iterator[Members]:
     """Yield the JSON values of the judged subtitles."""
-    judge, option = CueJudge(part, severity), OPTION_BY_WORD[part.request.option].bits
+    judge, option = CueJudge(part, severity), OPTION_BY_WORD[part.request.option].number
     start = find_recording_start(part)
     for place, cue in enumerate(find_cues(part)):
         subtitle, verdict = cue.subtitle, judge.judge(cue)

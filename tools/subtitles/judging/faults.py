@@ -156,7 +156,7 @@ def describe_subtitle_at(frame: int, part: Part) -> str:
     count, is_due = due.count_begun(frame)
     if not is_due:
         return f"the page after {due.subtitles[count - 1].name}" if count else "the page"
-    text = format_page_text(due.pages[count - 1], OPTION_BY_WORD[part.request.option].bits)
+    text = format_page_text(due.pages[count - 1], OPTION_BY_WORD[part.request.option].number)
     return f'{due.subtitles[count - 1].name}, "{text}",'
 
 
@@ -174,7 +174,7 @@ def describe_parity_fault(fault: FaultLine, part: Part) -> str:
         subject = "a byte"
     elif code > SPACE:
         subject = 'the character ' \
-            f'"{make_character_table(OPTION_BY_WORD[part.request.option].bits)[code]}"'
+            f'"{make_character_table(OPTION_BY_WORD[part.request.option].number)[code]}"'
     else:
         subject = f"a byte ({describe_code(code)})"
     return f"{subject} of {describe_subtitle_at(fault.frame, part)} has even parity"
@@ -276,7 +276,7 @@ class PartFaults:
 
     def __init__(self, verdict: Verdict, part: Part) -> None:
         self.verdict, self.part, self.request = verdict, part, verdict.request
-        self.letters: list[str] = make_character_table(OPTION_BY_WORD[self.request.option].bits)
+        self.letters: list[str] = make_character_table(OPTION_BY_WORD[self.request.option].number)
         self.read_meanings = {number: (remove_markup(meaning.meaning),
                                        remove_markup(meaning.remedy))
                               for number, meaning in read_meanings().items()}

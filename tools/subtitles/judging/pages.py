@@ -290,7 +290,7 @@ def find_visibility(cells: bytes) -> Visibility:
 
 def describe_hidden_characters(cells: bytes, option: str) -> str:
     """Describe which characters of a row are hidden, by which decoders, and why."""
-    table = make_character_table(OPTION_BY_WORD[option].bits)
+    table = make_character_table(OPTION_BY_WORD[option].number)
 
     def text(several: Sequence[Cell]) -> str:
         return '"' + "".join(table[cell.code] for cell in several) + '"'

@@ -15,7 +15,6 @@ from ..common.times import (
     subtract_pts_within)
 from ..formats.listing import EMPTY, FaultLine, SKIPPED_PACKETS, STL_FAULTS, UNDECIDED
 from ..formats.stl import Subtitle, SubtitleFile
-from ..formats.teletext import OPTION_BY_BITS, RESERVED
 from ..recording.recording import Recording
 from ..request.commands import Listener, MAX_LIST_LINES, OutputNames
 from ..request.request import Request, Unclear
@@ -180,12 +179,11 @@ class Part:
         """Return the PTS of the PES packets in the part that have all `flags`."""
         return array.array("q", self.packets.pts(self.pes, flags) if self.pes else ())
 
-    def find_options(self) -> set[str]:
-        """Return the national options in the page headers."""
-        bits = {read_national_option(header)
+    def find_option_bits(self) -> set[int]:
+        """Return the values of C12 to C14 in the page headers."""
+        return {read_national_option(header)
                 for run in self.packets.list_runs_between(*self.pes or NO_RANGE)
                 for header in parse_headers(run.control)}
-        return {OPTION_BY_BITS[bit].word for bit in bits if bit != RESERVED}
 
     def count_headers(self) -> collections.Counter[bytes]:
         """Count how often each page header occurs in the PES packets that `check` reads."""

@@ -447,16 +447,16 @@ def describe_single_cause(cause: Cause, causes: Causes, option: str) -> str:
     subtitle = causes.expected.subtitles[cause.subtitle_index]
     if cause.name == TEXT_IN_PAUSE:
         sent = format_page_text(cause.sent_page,
-                                OPTION_BY_WORD[option].bits) if cause.sent_page else ""
+                                OPTION_BY_WORD[option].number) if cause.sent_page else ""
         return f"another text was sent in a pause, {cause.details}" + f': "{sent}"' * bool(
             cause.sent_page)
     text = format_page_text(causes.expected.pages[cause.subtitle_index],
-                            OPTION_BY_WORD[option].bits)
+                            OPTION_BY_WORD[option].number)
     description = f"appeared {counted(cause.frames or 0, 'frame')} {cause.name}" \
         if cause.name in (LATE, EARLY) else CAUSE_PREDICATES[cause.name][0]
     more = f" ({cause.details})" if cause.details else ""
     sent = format_page_text(cause.sent_page,
-                            OPTION_BY_WORD[option].bits) if cause.sent_page and cause.name in (
+                            OPTION_BY_WORD[option].number) if cause.sent_page and cause.name in (
         WRONG_TEXT, OTHER_TEXT) else ""
     name = f"{subtitle.name} at {format_frame(subtitle.begin)}"
     return f'{name} {description}{more}: expected "{text}", received "{sent}"' \

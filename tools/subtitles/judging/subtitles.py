@@ -70,8 +70,9 @@ class OptionAdvice:
     def complete_options(self) -> list[NationalOption]:
         """Return the options, except the chosen one, that contain all characters of the file."""
         texts = {self.subtitles.text(block) for block in self.subtitles.list_last_blocks()}
-        return [option for option in OPTIONS if option.word != self.option
-                and all(has_characters(text, option) for text in texts)]
+        options = [option for option in OPTIONS if option.word != self.option
+                   and all(has_characters(text, option) for text in texts)]
+        return [option for option in options if not option.region] or options
 
     def advise(self, block: int, offset: int) -> str:
         """Return advice on the byte at `offset` in the text whose last TTI block is `block`."""
@@ -84,9 +85,10 @@ def advise_on_character(letter: bytes, complete_options: list[NationalOption]) -
     """Return advice on a character that the national option lacks. `complete_options` lists the
     options that contain all characters of the file."""
     if complete_options:
-        verb = "has" if len(complete_options) == 1 else "have"
+        verb, its = ("has", "its") if len(complete_options) == 1 else ("have", "their")
         words = join_words([option.word for option in complete_options], "or")
-        return f"use --option {words}, which {verb} all the characters in the file"
+        return f"use --option {words}, which {verb} all the characters in the file" + (
+            f", if receivers are set to {its} region" if complete_options[0].region else "")
     character = decode_character(letter)
     if character is None:
         return f"byte {letter[:1].hex().upper()} is not a character of code table 00: correct it"
@@ -94,8 +96,8 @@ def advise_on_character(letter: bytes, complete_options: list[NationalOption]) -
     if options:
         return f"no national option has all the characters in the file; {character} is in " \
             f"{join_words([option.word for option in options], 'and')}"
-    return (f"no national option has {character}: replace it (it needs another region, or packets "
-            "X/26, which are refused with fault 70)")
+    return (f"no national option has {character}: replace it (it needs other character sets, or "
+            "packets X/26, which are refused with fault 70)")
 
 
 def join_words(words: list[str], conjunction: str) -> str:

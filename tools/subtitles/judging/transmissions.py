@@ -13,7 +13,7 @@ from ..common.times import ALL_DAY, FrameRange, Span
 from ..formats.listing import CHANGED
 from ..formats.stl import Subtitle, SubtitleList, read_stl, decode_subtitles, parse_subtitles
 from ..formats.teletext import (
-    ERASE, INHIBIT, NEWSFLASH, OPTION_BY_BITS, OPTION_BY_WORD, Page, RESERVED, SUBTITLE, SUPPRESS,
+    ERASE, INHIBIT, NEWSFLASH, OPTION_BY_WORD, Page, SUBTITLE, SUPPRESS, select_option,
     has_bit, page_name)
 from ..request.request import Request, Unclear, IncompleteAnswer
 from ..stream.packets import CLOSED, HEADER, PES, PacketRun, Packets, parse_headers, read_subcode
@@ -95,11 +95,12 @@ def describe_control_bits(header: bytes, option: str, erase_fault: str = "") -> 
     """Return messages about a header's control bits. The first is `erase_fault`, about C4."""
     faults = [erase_fault] if erase_fault else []
     faults += [words for bit, is_set, words in CONTROL_BIT_FAULTS if has_bit(header, bit) != is_set]
-    bits = read_national_option(header)
-    if bits == RESERVED:
+    bits, judged = read_national_option(header), OPTION_BY_WORD[option]
+    sent = select_option(bits, judged)
+    if sent is None:
         faults.append("C12, C13 and C14 are set, which is reserved")
-    elif bits != OPTION_BY_WORD[option].bits:
-        faults.append(f"the header is {OPTION_BY_BITS[bits].name}, but --option is {option}")
+    elif bits != judged.bits:
+        faults.append(f"the header is {sent.name}, but --option is {option}")
     return faults
 
 

@@ -173,7 +173,7 @@ class PageReader:
                               OutputNames(result.page, self.folder, None), listener)
         recording.read(is_summed=False)
         clock = find_clock(request, recording)
-        result.reading = reading = read_pages(recording.packets, request, clock)
+        result.reading = reading = read_pages(recording.packets, request, clock, result.languages)
         result.clock = clock.source if clock else FIRST_PES
         request.option, request.origin = reading.option.word, None if clock and \
             clock.source != GIVEN else reading.origin
@@ -187,7 +187,8 @@ class PageReader:
             request = dataclasses.replace(request, recording=other, pid=None, pes=None)
         else:
             request = dataclasses.replace(request, stl=other, kept_stl=None)
-        found = PageResult(result.page, request.pid, (), make_verdict(request, listener))
+        found = PageResult(result.page, request.pid, result.languages,
+                           make_verdict(request, listener))
         names = OutputNames(result.page, self.folder, None)
         names.set_subtitle_file(request.stl_path)
         try:

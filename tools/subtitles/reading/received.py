@@ -14,7 +14,7 @@ from ..formats.stl import TTI
 from ..formats.stl_writer import (
     StoredPage, encode_time_code, make_gsi_block, make_subtitle_blocks, store_page)
 from ..formats.teletext import (
-    NationalOption, OPTION_BY_BITS, RESERVED, choose_language_option, choose_track_option)
+    ENGLISH, NationalOption, choose_language_option, choose_track_option, find_sent_option)
 from ..judging.pages import is_partial_page
 from ..request.request import Request, Unclear
 from ..stream.packets import (
@@ -114,17 +114,30 @@ def choose_origin(packets: Packets, pes: Range, inside: Range | None) -> int:
     return wrap_pts(header - TICKS * max(subtract_pts(first, header) // TICKS, 0))
 
 
-def choose_header_option(packets: Packets, pes: Range) -> NationalOption:
-    """Return the national option of most headers. Raise `Unclear` if all have reserved bits."""
+def find_header_bits(packets: Packets, pes: Range) -> int:
+    """Return C12 to C14 of most headers."""
     counts: collections.Counter[int] = collections.Counter()
     for run in packets.list_runs_between(*pes):
         for header in () if run.fault else parse_headers(run.control):
             counts[read_national_option(header)] += run.length
-    del counts[RESERVED]
-    if not counts:
-        raise Unclear("C12, C13 and C14 are set in each header of the page, which is reserved: no "
-                      "national option has its characters")
-    return OPTION_BY_BITS[counts.most_common(1)[0][0]]
+    return counts.most_common(1)[0][0]
+
+
+def choose_header_option(bits: int, languages: Sequence[str]) -> tuple[NationalOption, list[str]]:
+    """Return the national option whose C12 to C14 are `bits`: that of the first announced language
+    with such an option, or else that of the default region. Return a note if several regions have
+    one and no language decides it. Raise `Unclear` if the default region has none."""
+    for option in map(choose_track_option, languages):
+        if option and option.bits == bits:
+            return option, []
+    sent = find_sent_option(bits, ENGLISH, ())
+    option = sent.options[0]
+    if option.region:
+        raise Unclear("C12, C13 and C14 are set in the headers of the page, which is reserved in "
+                      f"region 0000: {option.word} has these bits, but the announced languages do "
+                      "not choose it")
+    return option, [f"C12 to C14 of the headers select {sent.words}: no announced language decides "
+                    f"it, so the text was read as {option.word}"] * (len(sent.options) > 1)
 
 
 def list_spans(timeline: Timeline) -> Iterator[ShownPage]:
@@ -162,11 +175,12 @@ def mark_cuts(pages: list[ShownPage]) -> list[ShownPage]:
     return pages
 
 
-def read_pages(packets: Packets, request: Request, clock: Clock | None) -> Reading:
+def read_pages(packets: Packets, request: Request, clock: Clock | None,
+               languages: Sequence[str]) -> Reading:
     """Return what a receiver shows on the page of `request`. If `clock` is `None`, choose an
     origin. Raise `Unclear` if nothing can be read."""
     pes = find_header_range(packets, request.pes)
-    option = choose_header_option(packets, pes)
+    option, notes = choose_header_option(find_header_bits(packets, pes), languages)
     clock = clock or Clock(choose_origin(packets, pes, request.pes), GIVEN)
     origin = clock.origin
     back = find_step_back(packets, pes)
@@ -191,7 +205,7 @@ def read_pages(packets: Packets, request: Request, clock: Clock | None) -> Readi
                          f"{format_frame(page.end)}: {page.stored}", format_frame(page.begin))
                  for page in stored if isinstance(page.stored, str)]
     return Reading(pes, clock, timeline.frames[0], timeline.last, option, stored, problems,
-                   describe_beginning(pes, request.pes, timeline))
+                   [*notes, *describe_beginning(pes, request.pes, timeline)])
 
 
 def describe_beginning(pes: Range, inside: Range | None, timeline: Timeline) -> list[str]:

@@ -135,7 +135,7 @@ class PageResult:
             rows.append({
                 "number": number if page.is_written else None, "in": format_frame(page.begin),
                 "out": format_frame(page.end), "cut": page.cut,
-                "text": format_page_text(page.rows, self.reading.option.bits),
+                "text": format_page_text(page.rows, self.reading.option.number),
                 "certain": not doubt, "reason": doubt or None,
                 "note": f"differs {LIKELY_ERROR}" if at in errors else None})
         return rows

@@ -16,7 +16,8 @@ from ..common.times import (
 from ..formats.listing import NEVER_SENT, NamedFault
 from ..formats.stl import SubtitleFile
 from ..formats.teletext import (
-    OPTION_BY_WORD, OTHER_REGIONS, Page, choose_track_option, page_name, reverse_option_bits)
+    OPTION_BY_NUMBER, OPTION_BY_WORD, OTHER_REGIONS, Page, choose_track_option, page_name,
+    reverse_bits)
 from ..request.request import LC, Request, Unclear
 from ..stream.gaps import (
     ANOMALY_TEXTS, SECOND, explain_refusal, find_clock_jumps, find_pts_anomalies)
@@ -124,15 +125,24 @@ def find_option_notices(languages: list[str], request: Request) -> Iterator[Noti
 
 def find_character_set_notices(packets: Packets, request: Request) -> Iterator[Notice]:
     """Yield warnings about packets whose character set is not that of the national option."""
-    for number, designation, region, option in packets.character_sets:
-        if region is None or option is None:
+    judged = OPTION_BY_WORD[request.option]
+    for number, designation, region, bits in packets.character_sets:
+        if region is None or bits is None:
             set_name = "an unreadable character set"
-        elif region or option != reverse_option_bits(OPTION_BY_WORD[request.option]):
-            set_name = f"character set {option:03b} of region {region:04b}"
+        elif OPTION_BY_NUMBER.get(8 * region + reverse_bits(bits)) != judged:
+            set_name = f"{describe_character_set(region, bits)}, but --option {judged.word} is " + \
+                describe_character_set(judged.region, reverse_bits(judged.bits))
         else:
             continue
         yield Notice("character_set", f"packet {request.page_name[0]}/{number}/{designation} "
                      f"names {set_name}: receivers above level 1 may show other characters")
+
+
+def describe_character_set(region: int, bits: int) -> str:
+    """Return the name of a character set. `bits` are in the order of packets X/28 and M/29."""
+    option = OPTION_BY_NUMBER.get(8 * region + reverse_bits(bits))
+    return f"character set {bits:03b} of region {region:04b}" + (
+        f" ({option.name})" if option else "")
 
 
 def format_pages(announced: list[Announced]) -> str:

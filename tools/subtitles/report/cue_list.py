@@ -63,7 +63,7 @@ class CueList:
     def __init__(self, part: Part, severity: Severity, valid_subtitles: ValidSubtitles |
                  None) -> None:
         self.part, self.severity, self.valid_subtitles = part, severity, valid_subtitles
-        self.option = OPTION_BY_WORD[part.request.option].bits
+        self.option = OPTION_BY_WORD[part.request.option].number
         self.start, self.causes = find_recording_start(part), part.causes
         self.judge, self.cues = CueJudge(part, severity), [*find_cues(part)]
         self.rows = sorted([*self.make_judged_rows(), *self.make_refused_rows()],

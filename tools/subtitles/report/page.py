@@ -199,8 +199,9 @@ class PartView:
                              and (number in (PARITY, CHANGED) or
                                   number == CONTENT
                                                              and not first_fault_rows)]
+        option = OPTION_BY_WORD[request.option]
         # C4, C6, C7 set
-        blank = bytes([0, 0, 0, 8, 0, 8, 1, OPTION_BY_WORD[request.option].bits << 1])
+        blank = bytes([0, 0, 0, 8, 0, 8, 1, option.bits << 1])
         for name, subtitle, frame in first_fault_rows:
             expected_state = due.timeline.get_state_at(frame) if due.timeline else None
             rows, header = BLANK_PAGE, blank
@@ -213,7 +214,8 @@ class PartView:
             yield markup('<div class="kind"><h3>{}: {}{}</h3>{}</div>',
                          name[0].upper() + name[1:], words,
                          offset and f", {offset} into the recording",
-                         draw_picture_pair(format_frame(frame), rows, header, state))
+                         draw_picture_pair(format_frame(frame), rows, header, state,
+                                           option.region))
 
     def make_fault_table(self) -> Markup:
         """Return a table with a row for each fault number."""

@@ -190,11 +190,12 @@ def begin_picture(kind: str, shown_rows: RowRange) -> Markup:
 
 
 def draw_picture(rows: Rows, header: bytes, shown_rows: RowRange,
-                 different: Iterable[Place] = ()) -> Markup:
-    """Draw rows of a page as SVG, with outlines around differing cells."""
+                 different: Iterable[Place] = (), region: int = 0) -> Markup:
+    """Draw rows of a page as SVG, with outlines around differing cells, for a receiver that is set
+    to a region."""
     parts = [begin_picture("page", shown_rows)]
     tall: set[int] = set()
-    option, has_boxes = read_national_option(header), is_boxed(header)
+    option, has_boxes = 8 * region + read_national_option(header), is_boxed(header)
     for number, row in enumerate(rows[shown_rows[0] - 1:shown_rows[1]], shown_rows[0]):
         if (row != BLANK_ROW or not has_boxes) and number - 1 not in tall:
             row_markup, is_tall = draw_row(row, number, option, has_boxes)
@@ -224,13 +225,13 @@ def find_differences(expected: Rows, decoded: Rows) -> list[Place]:
 NO_TEXT = "no text"
 
 
-def draw_picture_pair(time: str, expected: Rows, header: bytes, state: ReceiverState |
-                      None) -> Markup:
+def draw_picture_pair(time: str, expected: Rows, header: bytes, state: ReceiverState | None,
+                      region: int = 0) -> Markup:
     """Draw the expected and the decoded page at the end of a frame."""
     decoded = state.rows if state and state.is_received else None
     shown_rows = find_used_rows([expected, decoded] if decoded else [expected])
     left = make_figure(f"Expected at {time}", NO_TEXT * (expected == BLANK_PAGE),
-                       draw_picture(expected, header, shown_rows))
+                       draw_picture(expected, header, shown_rows, (), region))
     if state is None or decoded is None or state.header is None:
         reason = "not known" if state is None else "nothing received yet"
         return markup('<div class="pictures">{}{}</div>', left, make_figure(
@@ -247,7 +248,7 @@ def draw_picture_pair(time: str, expected: Rows, header: bytes, state: ReceiverS
                      "the previous page")
     return markup('<div class="pictures">{}{}</div>', left, make_figure(
         f"Decoded at {time}", "; ".join(words), draw_picture(decoded, state.header, shown_rows,
-                                                             different)))
+                                                             different, region)))
 
 
 def make_figure(caption: str, words: str, picture: Markup) -> Markup:
