@@ -24,6 +24,7 @@ from ..request.request import (
 from ..stream.packets import HEADER, Range
 from .causes import Causes
 from .check import CheckOutput, check_file_alone, print_file_check_command, run_check
+from .desync import find_desync
 from .faults import LENGTH_FAULTS, describe_block_subtitle, describe_first_hint, describe_hint
 from .pages import describe_drawing_differences, find_hidden_rows, may_hide_rows
 from .part import Part, choose_parts, find_part_causes, refuse_missing_subtitles, report_causes
@@ -31,7 +32,7 @@ from .sentence import WorstFault
 from .status import NOT_ANSWERED, REFUSED, VALID
 from .subtitles import advise_on_title, draw_valid_pages, find_valid_subtitles, has_valid_subtitles
 from .timing import (
-    NO_CLOCK, PartClocks, PartSearch, find_desync, find_part_packets, find_parts, get_given_clock,
+    NO_CLOCK, PartClocks, PartSearch, find_part_packets, find_parts, get_given_clock,
     measure_part_pace)
 from .transmissions import ExpectedPages, count_keeping_headers, read_subtitles, schedule_pages
 from .verdict import DELAYING_FAULTS, Verdict, find_gaps, measure_delay

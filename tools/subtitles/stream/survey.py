@@ -11,6 +11,7 @@ from ..common.command_line import (
 from ..formats.teletext import Page, page_name
 from .packets import GapMarker, PCRStep, PES, PacketRun, Packets, PageChange, Texts
 from .pictures import VideoLead
+from .steps import StepRange
 
 
 # The manual describes each output line. Unknown lines of a later version are skipped.
@@ -96,6 +97,7 @@ class Survey:
         self.by_pid: dict[int, Packets] = {}
         self.videos: dict[int, Video] = {}
         self.leads: dict[tuple[int, int], list[VideoLead]] = {}  # keys: PIDs of Teletext and video
+        self.steps: dict[int, list[StepRange]] = {}  # keys: PIDs of video
         self.clocks: dict[int, tuple[int, int]] = {}  # first and last PCR of each PCR PID
 
     def read_line(self, line: str) -> None:
@@ -215,6 +217,10 @@ class Survey:
     def parse_lead(self, pid: str, pts: str, ticks: str, video: str, number: str, *_: str) -> None:
         self.leads.setdefault((int(pid), int(video)), []).append(
             VideoLead(int(pts), int(ticks), int(number)))
+
+    def parse_steps(self, pid: str, *words: str) -> None:
+        least, least_at, most, most_at = map(int, words[:4])
+        self.steps.setdefault(int(pid), []).append(StepRange(least, least_at, most, most_at))
 
     def parse_pictures(self, pid: str, lost: str, scrambled: str, passed: str = "",
                        *_: str) -> None:
