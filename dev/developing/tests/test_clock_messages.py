@@ -389,7 +389,8 @@ class FirstPictures(unittest.TestCase):
         both = list_programme_lines((VIDEO, MPEG_2), (0x201, H_264))
         other = [line.replace("programme 1", "programme 2") for line in moved]
         pictures = make_picture_lines([0, 1])[len(first):]
-        rows = {"moved": ([*first, *moved], True), "there and back": ([*first, *moved, *first], True),
+        rows = {"moved": ([*first, *moved], True),
+                "there and back": ([*first, *moved, *first], True),
                 "then both": ([*first, *both], True), "first both": ([*both, *first], False),
                 "first none": ([*list_programme_lines(), *first, *moved], True),
                 "the other one first": ([*moved, *first], False),

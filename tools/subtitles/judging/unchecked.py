@@ -133,8 +133,8 @@ def find_late_pictures(leads: Sequence[VideoLead], samples: Sequence[tuple[int, 
             continue
         if len(late) >= MIN_LATE:
             begin, end = compute_time(late[0], origin), compute_time(late[-1], origin)
-            yield Unchecked(JUMP, f"{DRIFT} from {begin} to {end}, where the video's decoding times "
-                            "lie behind the PCR: pictures may be lost", number, begin, end)
+            yield Unchecked(JUMP, f"{DRIFT} from {begin} to {end}, where the video's decoding "
+                            "times lie behind the PCR: pictures may be lost", number, begin, end)
         late.clear()
 
 
