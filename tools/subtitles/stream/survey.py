@@ -260,7 +260,8 @@ class Survey:
         """Raise `ProgramInterrupted` if the output is incomplete or the exit status is not 0."""
         if self.unexpected_line or status or not self.is_complete:
             raise ProgramInterrupted("survey gave no complete result: "
-                                     f"{self.unexpected_line or 'it did not end'}, status {status}")
+                                     f"{self.unexpected_line or 'it did not end'}, status "
+                                     f"{status}", status)
 
 
 def survey(program: str, name: str, page: Page, pid: int | None = None,
