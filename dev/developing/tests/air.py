@@ -63,7 +63,7 @@ class FakeChecker:
 
 
 def outcome(name: str, verdict: str, reason: str) -> Outcome:
-    return Outcome({**make_unjudged(name, reason), "verdict": verdict,
+    return Outcome({**make_unjudged(name, reason, "undecided"), "verdict": verdict,
                     "inputs": {"recording": {}}},
                    reason)
 

@@ -218,7 +218,7 @@ class CompleteBatches(Case):
                 self.must("objects", (names, have["status"]) == (["one", "two", "three"], status))
                 self.must("the folder went", not os.path.exists(self.seen[0].folder))
         self.batch("accepted, accepted, accepted", json=self.path("all"),
-                   unwritten={"two": make_unjudged("two", "in use")})
+                   unwritten={"two": make_unjudged("two", "in use", "resource")})
         self.must("in no file", [one["verdict"] for one in json.loads(self.read("all"))["pairs"]]
                   == ["accepted", "not judged", "accepted"])
         for out, more in ((None, ""), (self.path("out"), "; --resume judges the others")):
@@ -339,8 +339,8 @@ class ForkedPairs(Case):
         none = self.judge_item(self.calls, BatchItem("two", None, "no pair"))
         self.must("no pair", (none.name, none.verdict, none.line) == (
             "two", "not judged", "no pair") and read_result(self.path("out/two.json")) ==
-                  make_unjudged(
-                "two", "no pair") and {*os.listdir(self.path("out"))} == {"one.json", "two.json"})
+                  make_unjudged("two", "no pair", "input") and
+                  {*os.listdir(self.path("out"))} == {"one.json", "two.json"})
         with mock.patch("os.fork", side_effect=BlockingIOError(11, "Try again")):
             gone = self.judge_item(self.calls, self.item("accepted"))
         self.must("no call", gone.line == "a process could not be started: Try again", gone)
@@ -348,10 +348,10 @@ class ForkedPairs(Case):
             self.calls.start(self.item("waits", name))
         self.calls.stop()
         self.must("all are ended", not self.calls.running_pairs)
-        self.calls.record_unjudged(BatchItem("three", None, "x"), "stopped")
+        self.calls.record_unjudged(BatchItem("three", None, "x"), "stopped", "signal")
         self.must("nothing is written then", not os.path.exists(self.path("out/three.json")))
         nowhere = PairRunner(self.command_paths, self.path("temporary"), self.path("none"), False)
-        row = nowhere.record_unjudged(BatchItem("four", None, "x"), "why")
+        row = nowhere.record_unjudged(BatchItem("four", None, "x"), "why", "input")
         self.must("it has no place", row.verdict == "not judged" and row.line.startswith("why; ")
                   and nowhere.unwritten_results["four"]["reason"] == row.line, row)
 

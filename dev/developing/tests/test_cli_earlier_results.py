@@ -87,7 +87,7 @@ class CurrentResults(Case):
             self.must(name, not is_current(accepted_pair, request, other))
         self.must("the prover's line is no matter",
                   is_current(accepted_pair, request, PROGRAM._replace(proved="logic=proved")))
-        self.must("none", not is_current(make_unjudged("one", "why"), request, PROGRAM))
+        self.must("none", not is_current(make_unjudged("one", "why", "input"), request, PROGRAM))
         sums = set()
         for data in (b"one", b"two"):  # contents of equal size
             os.utime(self.write("program", data), (0, 0))
@@ -138,17 +138,17 @@ class StoredResults(Case):
             {**causes, "5 X": 120}, [f"refused {number}" for number in range(100)], 1.5, "a hint",
             sentence=found_row.sentence, clock=found_row.clock),
                   found_row)
-        self.must("none", make_row(make_unjudged("name", "why"), "name") == Row(
+        self.must("none", make_row(make_unjudged("name", "why", "input"), "name") == Row(
             "name", "name", "not judged", 2, "why", 0, {}, [], 0.0, ""))
         none: dict[str, Any] = {"format": FORMAT, "verdict": "not judged", "status": 2, "name": "a",
-                                "reason": "why"}
-        self.must("not judged", make_unjudged("a", "why") == none)
+                                "reason": "why", "not_judged_kind": "input"}
+        self.must("not judged", make_unjudged("a", "why", "input") == none)
         self.must("reason", make_row(make_result("not judged"), "x").line == "why")
         self.must("the lead",
                   make_row(make_result(line="refused 10 A", worst_fault="refused 72 B"),
                            "x").line == "refused 72 B")
         self.must("judged", make_row(make_result(), "x").is_judged and not make_row(
-            make_unjudged("x", "why"), "x").is_judged)
+            make_unjudged("x", "why", "input"), "x").is_judged)
 
     def test_refuses_results_of_another_format_or_shape(self) -> None:
         path = self.path("one.json")
@@ -170,8 +170,8 @@ class StoredResults(Case):
             judged = f"does not match docs/verdict.schema.json at {where}: judge it again" \
                 if where else "has format 3, but this version reads format 8: judge it again"
             result = read_result(path)
-            self.must(f"{change}", result == make_unjudged("one", f"its JSON result {judged}"),
-                      result)
+            self.must(f"{change}", result == make_unjudged("one", f"its JSON result {judged}",
+                                                           "input"), result)
         goods: list[dict[str, Any]] = [{}, {"faults": [FAULT, FAULT]}, {"seconds": 5},
                                        make_result("not judged"), make_result("waived"),
                                        make_result("lost")]
@@ -196,7 +196,7 @@ class StoredResults(Case):
                    [reason])
 
     def test_refuses_an_inconsistent_result_without_a_pair(self) -> None:
-        none = make_unjudged("one", "why")
+        none = make_unjudged("one", "why", "input")
         others: list[dict[str, Any]] = [{}, {"line": "accepted"}]
         for word, status, reason, opened in itertools.product(
                 (*STATUSES, "other", None), (0, 1, 2, None), ("why", "", None), others):

@@ -58,7 +58,8 @@ ANSWERS: dict[str, tuple[list[str], str | None, str | None]] = {
     "usage": (["usage 0 Words"], None, None), "a fault of the machine": (["fault 90 Open"], None,
                                                                          None),
     "nothing": ([], None, None)}
-ENDS = ("exit 0", "exit 1", "exit 2", "kill -9 $$")
+# How `check` ends, and the exit status of qc if its answer does not agree
+ENDS = {"exit 0": 70, "exit 1": 70, "exit 2": 2, "kill -9 $$": 2, "kill -11 $$": 70}
 
 
 class EndedCall(NamedTuple):
@@ -117,13 +118,13 @@ class Programs(CallCase):
     def test_judges_only_by_a_valid_answer_of_check(self) -> None:
         for (name, (lines, of_file, of_pair)), end in itertools.product(ANSWERS.items(), ENDS):
             alone = self.fake_program(alone=lines, then_alone=end, then="exit 9")
-            status = 2 if end != of_file else 0 if lines == EMPTY else 1
+            status = ENDS[end] if end != of_file else 0 if lines == EMPTY else 1
             self.check_judged(f"{name}, {end}, alone", status, self.qc(
                 HELLO[0], "--file-only", "-p", alone, "--json", "one.json"))
             if end != of_file:
-                self.check_judged(f"{name}, {end}, with a recording", 2,
+                self.check_judged(f"{name}, {end}, with a recording", ENDS[end],
                                   self.judge(alone, "--json", "one.json"))
-            status = 2 if end != of_pair else 0 if end == "exit 0" else 1
+            status = ENDS[end] if end != of_pair else 0 if end == "exit 0" else 1
             self.check_judged(f"{name}, {end}", status, self.judge(
                 self.fake_program(*lines, then=end), "--json", "one.json"))
 
@@ -131,8 +132,8 @@ class Programs(CallCase):
         known = self.object()
         with self.subTest(name):
             self.assertEqual((ended.status, known["status"], known["line"] is None),
-                             (status, status, status == 2), ended)
-            if status == 2:
+                             (status, status, status in (2, 70)), ended)
+            if status in (2, 70):
                 self.assertEqual(known["verdict"], "not judged")
                 self.assertTrue(known["reason"].startswith("check gave no verdict: "), ended)
                 self.assertEqual(ended.told, [f"qc: {known['reason']}"])
@@ -155,7 +156,9 @@ class Programs(CallCase):
                                       "one.json")
                     known = self.object()
                     self.assertEqual((process.status, known["status"], known["verdict"],
-                                      known.get("line")), (2, 2, "not judged", None), process)
+                                      known.get("line")),
+                                     (*[2 if "kill -9" in does else 70] * 2, "not judged", None),
+                                     process)
                     self.assertTrue(known["reason"] and process.told and not any(
                         line.startswith("accepted") for line in process.printed[-1:]), process)
                     self.assertTrue(all(line.startswith("qc: ") for line in process.told), process)
@@ -208,22 +211,26 @@ class Programs(CallCase):
 
 class UsageErrors(CallCase):
     def test_writes_a_result_for_wrong_arguments(self) -> None:
-        for words in ((*HELLO, "--every", "x"), (*HELLO, "--none"), (HELLO[0], "none.ts"), (),
-                      ("none.stl",), (*HELLO, "more"), (*HELLO, "-p", "none"), ("--page", "8ff"),
-                      (*HELLO, "--severity", "none"), ("--batch", "none"), ("--collect", "none"),
-                      ("--watch", "none"), (*HELLO, "--jobs", "2"), (*HELLO, "--csv", "none/one")):
+        for words, status in (
+                ((*HELLO, "--every", "x"), 64), ((*HELLO, "--none"), 64), ((), 64),
+                ((*HELLO, "more"), 64), (("--page", "8ff"), 64), ((*HELLO, "--jobs", "2"), 64),
+                ((HELLO[0], "none.ts"), 2), (("--file-only", "none.stl"), 2), ((*HELLO, "-p", "none"), 2),
+                ((*HELLO, "--severity", "none"), 2), (("--batch", "none"), 2),
+                (("--collect", "none"), 2), (("--watch", "none"), 64),
+                ((*HELLO, "--csv", "none/one"), 2)):
             for request in (("--json", "one.json"), ("--json=one.json",)):
                 with self.subTest(words=words, asked=request):
                     self.write("one.json", b'{"format": 2, "verdict": "accepted", "status": 0}')
                     process = self.qc(*request, *words)
                     known = self.object()
-                    self.assertEqual((process.status, len(process.told)), (2, 1), process)
-                    self.assertEqual((known["verdict"], known["status"]), ("not judged", 2))
+                    known = known["pairs"][0] if "pairs" in known else known
+                    self.assertEqual((process.status, len(process.told)), (status, 1), process)
+                    self.assertEqual((known["verdict"], known["status"]), ("not judged", status))
                     self.assertEqual(process.told, [f"qc: {known['reason']}"])
 
     def test_prints_a_result_for_wrong_arguments(self) -> None:
         process = self.qc("--none", "--json", "-")
-        self.assertEqual((process.status, json.loads("".join(process.printed))["status"]), (2, 2),
+        self.assertEqual((process.status, json.loads("".join(process.printed))["status"]), (64, 64),
                          process)
 
     def test_never_overwrites_an_input(self) -> None:
@@ -232,7 +239,8 @@ class UsageErrors(CallCase):
             for words in (["one.stl", "one.pes", "--every", "x"], ["one.stl", "--none"],
                           ["--batch", "list", "--every", "x"], ["--severity", "list", "one.stl"]):
                 process = self.qc(*words, "--json", name)
-                self.assertEqual((process.status, self.read(name)), (2, b"an input"), (name, words))
+                self.assertEqual((process.status, self.read(name)), (
+                    2 if "--severity" in words else 64, b"an input"), (name, words))
         program = self.fake_program(ACCEPTED)
         os.mkdir(self.path("in"))
         for name, data in (("list", f"{HELLO[0]} {self.path('in/one.pes')}\n".encode()),
@@ -266,8 +274,9 @@ class Bugs(CallCase):
         with mock.patch(f"subtitles.{place}", side_effect=error):
             process = self.judge(self.fake_program(ACCEPTED), "--json", "one.json")
         known = self.object()
-        self.assertEqual((process.status, len(process.told)), (2, 1), process)
-        self.assertEqual((known["verdict"], known["status"]), ("not judged", 2), known)
+        self.assertEqual((process.status, len(process.told)), (70, 1), process)
+        self.assertEqual((known["verdict"], known["status"], known["not_judged_kind"]),
+                         ("not judged", 70, "bug"), known)
         self.assertIsNone(known.get("line"))
         self.assertEqual(process.told, [f"qc: {known['reason']}"])
         self.assertIn(str(error).strip("'"), known["reason"])

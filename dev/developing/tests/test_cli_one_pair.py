@@ -9,6 +9,7 @@ import itertools
 import json
 import os
 import re
+import signal
 from typing import Any, Sequence
 from unittest import mock
 
@@ -18,14 +19,14 @@ from subtitles.cli.single import (
     make_pair_title, now, print_verdict, refuse_outputs, remove_results, report_pair)
 from subtitles.clock.start import (
     Clock, ESTIMATED_LATER_NOTE, ESTIMATED_NOTE, GIVEN, RECORDING, TimedPart)
-from subtitles.common.command_line import Stop, ProgramInterrupted
+from subtitles.common.command_line import ProgramInterrupted, Stop, UsageError
 from subtitles.common.markup import HEAD
 from subtitles.formats.listing import NamedFault
 from subtitles.judging.check import CheckOutput
 from subtitles.judging.coverage import describe_unchecked
 from subtitles.judging.part import Part
 from subtitles.judging.status import Severity
-from subtitles.judging.verdict import Gap, Unjudged, Verdict
+from subtitles.judging.verdict import FailedOutput, Gap, Unjudged, Verdict
 from subtitles.recording.notices import Notice
 from subtitles.report import page as report_page
 from subtitles.request.commands import CommandPaths, OutputNames
@@ -133,7 +134,7 @@ class LastLines(Case):
 
     def test_prints_why_a_pair_is_not_judged(self) -> None:
         said = self.said(self.verdict([], unjudged=Unjudged(
-            "one\ntwo", ("first", "second", "third"))))
+            "one\ntwo", "undecided", ("first", "second", "third"))))
         self.must("why", said == ["! one", "! two", "! try: first", "! or: second", "! or: third"],
                   said)
         rows: list[tuple[list[Part], str]] = [
@@ -141,7 +142,7 @@ class LastLines(Case):
             ([make_part(0, 9, 0, make_answer(REFUSED))], "2 faults so far")]
         for parts, words in rows:
             said = self.said(self.verdict(parts, unjudged=Unjudged(
-                "stopped at x", is_stopped=True)))
+                "stopped at x", "signal", is_stopped=True)))
             self.must(words, said[-2:] == [words, "! not judged: stopped at x"], said)
 
     def test_prints_not_judged_after_a_line_of_the_program(self) -> None:
@@ -151,7 +152,7 @@ class LastLines(Case):
         for last, expected in rows:
             heard = LineRecorder()
             heard.last_line = last
-            print_verdict(self.verdict([], unjudged=Unjudged("why")), heard)
+            print_verdict(self.verdict([], unjudged=Unjudged("why", "undecided")), heard)
             self.must(last, heard.lines == [*expected, "! why"], heard.lines)
 
 
@@ -303,7 +304,7 @@ class OutputFilesOfPair(Case):
             files = self.files(self.verdict(), **outputs, out=self.path("out"))
             files.write()
             self.must(name, len(files.verdict.failed_outputs) == 1
-                      and nowhere in files.verdict.failed_outputs[0])
+                      and nowhere in files.verdict.failed_outputs[0].reason)
             self.must(f"{name}: object", json.loads(self.read("out/one.json"))["verdict"] ==
                       "not judged")
             if name != "csv":
@@ -331,7 +332,8 @@ class OutputFilesOfPair(Case):
             self.must("failed", not files.try_to_write(
                 Output(path, fail, is_json=is_json, is_raw=is_raw)))
             self.must(f"{is_json} {is_raw}", os.path.exists(path) == is_json and
-                      "wrong" in files.verdict.failed_outputs[0], files.verdict.failed_outputs)
+                      "wrong" in files.verdict.failed_outputs[0].reason
+                      and files.verdict.status == 70, files.verdict.failed_outputs)
         self.must("why", "wrong" in json.loads(self.read("True.json"))["reason"])
 
     def test_writes_the_first_hundred_faults_of_all_parts(self) -> None:
@@ -362,20 +364,29 @@ class OutputFilesOfPair(Case):
         self.must("written again", pair.verdict.status == 2 and written.call_count == 2)
 
     def test_each_error_ends_as_final_or_not(self) -> None:
-        rows: list[tuple[BaseException | None, bool]] = [
-            (None, True), (Unclear("a", "b"), True), (IncompleteAnswer("a"), False),
-            (Stop("a"), True),
-            (ProgramInterrupted("a"), False), (OSError(5, "a"), False), (MemoryError(), False),
-            (KeyError("a"), True), (RecursionError(), True), (KeyboardInterrupt(), False)]
-        for reason, is_final in rows:
+        rows: list[tuple[BaseException | None, bool, str | None, int]] = [
+            (None, True, None, 1), (Unclear("a", "b"), True, "undecided", 2),
+            (IncompleteAnswer("a", -signal.SIGKILL), False, "signal", 2),
+            (IncompleteAnswer("a", -signal.SIGSEGV), False, "bug", 70),
+            (IncompleteAnswer("a", 0), False, "bug", 70),
+            (IncompleteAnswer("a", 2), False, "resource", 2),
+            (Stop("a"), True, "input", 2), (UsageError("a"), True, "usage", 64),
+            (ProgramInterrupted("a", -signal.SIGTERM), False, "signal", 2),
+            (ProgramInterrupted("a", -signal.SIGABRT), False, "bug", 70),
+            (FilesInUse("a"), True, "resource", 2),
+            (OSError(5, "a"), False, "resource", 2), (FileNotFoundError(2, "a"), False, "input", 2),
+            (MemoryError(), False, "resource", 2), (KeyError("a"), True, "bug", 70),
+            (RecursionError(), True, "bug", 70), (KeyboardInterrupt(), False, "signal", 2)]
+        for reason, is_final, kind, status in rows:
             verdict = self.verdict()
             pair = mock.Mock(verdict=verdict, **{"judge.side_effect": reason})
             with mock.patch.object(single, "ignore_signals"):
                 judge_pair(pair, mock.Mock())
             is_stopped = isinstance(reason, KeyboardInterrupt)
-            self.must(f"{reason!r}", (verdict.is_final, verdict.is_stopped, verdict.status) ==
-                      (is_final, is_stopped, 1 if reason is None else 2), verdict.unjudged)
-        verdict.unjudged, verdict.failed_outputs = None, ["an output"]
+            self.check(f"{reason!r}", (verdict.is_final, verdict.is_stopped,
+                                       verdict.not_judged_kind, verdict.status),
+                       (is_final, is_stopped, kind, status))
+        verdict.unjudged, verdict.failed_outputs = None, [FailedOutput("an output", "resource")]
         self.must("an output", not verdict.is_final)
 
     def test_a_bug_in_a_forked_call_leaves_a_result(self) -> None:
@@ -385,8 +396,8 @@ class OutputFilesOfPair(Case):
             status = batch.judge_forked_pair(asked, PairOptions(
                 self.bench.program, json=self.path("one.json"), name="one"))
         known = json.loads(self.read("one.json"))
-        self.must("not judged", status == 2 and known["verdict"] == "not judged" and
-                  "one" in known["reason"], known)
+        self.must("not judged", (status, known["status"], known["not_judged_kind"]) ==
+                  (70, 70, "bug") and "one" in known["reason"], known)
 
 
 class Pages(Case):
@@ -449,7 +460,7 @@ class Pages(Case):
 
     def test_has_a_page_if_not_judged(self) -> None:
         verdict = self.several()
-        verdict.unjudged = Unjudged("no clock <\nnone", ("tools/qc a b --origin T",))
+        verdict.unjudged = Unjudged("no clock <\nnone", "undecided", ("tools/qc a b --origin T",))
         verdict.notes, verdict.warnings = ["a note"], [Notice("kind", "strange")]
         page = markup_text(report_page.make_report_page(verdict, CommandPaths(
             "tools/qc", self.bench.program)))

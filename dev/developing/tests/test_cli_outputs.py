@@ -50,7 +50,7 @@ OBJECTS: list[dict[str, Any]] = [
     make_result("refused", line="refused 72", faults=[
         fault(72, subtitle=subtitle(7, "1", "2"), cause=CAUSE,
               expected={"code": "41", "character": "A"}, decoded=NO_CELL), fault(38, pes=5)]),
-    make_unjudged("two", "no file\nat all"),
+    make_unjudged("two", "no file\nat all", "input"),
     make_result("accepted", request={**PLAIN, "stl": "three.stl", "recording": None},
                 line="accepted")]
 

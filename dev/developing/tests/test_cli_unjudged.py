@@ -309,7 +309,7 @@ class OutputsAndSignals(CallCase):
         for words in ([*HELLO, "--keep"], ["--batch", "list", "--keep"],
                       ["--batch", "list", "--resume"], ["--watch", self.folder]):
             process = self.qc(*words)
-            self.must(f"{words}", process.status == 2 and not process.printed and
+            self.must(f"{words}", process.status == 64 and not process.printed and
                       " needs -o" in process.told[0], process)
 
     def test_prints_profile_options_first_and_each_hint_once(self) -> None:

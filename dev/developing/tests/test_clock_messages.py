@@ -384,6 +384,22 @@ class FirstPictures(unittest.TestCase):
             printed = Clock(0, START, delay, picture_offset=away).question()
             self.assertTrue(printed.startswith(words) and bool(printed) == bool(words), printed)
 
+    def test_uses_the_first_video_pid_of_a_programme(self) -> None:
+        first, moved = list_programme_lines((VIDEO, MPEG_2)), list_programme_lines((0x201, H_264))
+        both = list_programme_lines((VIDEO, MPEG_2), (0x201, H_264))
+        other = [line.replace("programme 1", "programme 2") for line in moved]
+        pictures = make_picture_lines([0, 1])[len(first):]
+        rows = {"moved": ([*first, *moved], True),
+                "there and back": ([*first, *moved, *first], True),
+                "then both": ([*first, *both], True), "first both": ([*both, *first], False),
+                "first none": ([*list_programme_lines(), *first, *moved], True),
+                "the other one first": ([*moved, *first], False),
+                "of two programmes": ([*first, *other], False)}
+        for name, (lines, is_found) in rows.items():
+            result = self.said([*lines, *pictures])
+            self.assertEqual(isinstance(result, FirstPicture) and result.pid == VIDEO, is_found,
+                             (name, result))
+
     def test_reports_why_there_is_no_first_picture(self) -> None:
         two = list_programme_lines((VIDEO, MPEG_2), (0x201, H_264))
         rows: list[tuple[list[str], bool, str]] = [

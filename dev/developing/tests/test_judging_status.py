@@ -64,7 +64,11 @@ WRONG = {
     "no fault, counted": CheckSummary(1, fault_count=0, printed_total=0)}
 LOSSES: Sequence[Sequence[bool]] = (
     (), (False,), (True,), (True, False, False), (False, True), (False, False, True), (True, True))
-OUTPUTS: Sequence[Sequence[str]] = ((), ("one.json: full",), ("one.csv: full", "one.xml: full"))
+# The kinds of errors, and the status to which they lead
+ERRORS: dict[tuple[str, ...], int] = {
+    ("input",): 2, ("undecided",): 2, ("resource",): 2, ("signal",): 2, ("usage",): 64,
+    ("bug",): 70, ("resource", "usage"): 64, ("signal", "bug"): 70, ("usage", "bug"): 70,
+    ("bug", "usage", "input"): 70}
 # Whether a clock is known, and whether --relative is given.
 CLOCKS: Sequence[dict[str, Any]] = (
     {"has_clock": True}, {"has_clock": False},
@@ -84,6 +88,12 @@ def decide_by_clock(word: str, clock: dict[str, Any]) -> tuple[str, int]:
     if clock["has_clock"] or word not in (ACCEPTED, WAIVED):
         return word, STATUSES[word]
     return RELATIVE, 0 if "is_relative_allowed" in clock else 3
+
+
+def get_outcome(decision: Decision) -> tuple[str, int]:
+    """Return the verdict and the exit status. Other tests check the status of `not judged`, which
+    its kind decides."""
+    return decision.word, 2 if decision.word == NOT_JUDGED else decision.status
 
 
 NAMED = make_severity(f"{WARNING} warning")
@@ -108,7 +118,7 @@ class Decisions(unittest.TestCase):
             for names in itertools.product(kinds, repeat=count):
                 expected = decide_by_clock(self.decide_expected_word(names), clock)
                 result = decide(Grounds([kinds[name] for name in names], NAMED, **clock))
-                if (result.word, result.status) != expected:
+                if get_outcome(result) != expected:
                     self.fail(f"{names} {clock}: {result}, and not {expected}")
 
     @staticmethod
@@ -146,14 +156,12 @@ class Decisions(unittest.TestCase):
                 for clock in CLOCKS:
                     result = decide(Grounds([kinds[part] for part in parts], severity,
                                             named_faults=[name], **clock))
-                    self.assertEqual((result.word, result.status), decide_by_clock(word, clock),
+                    self.assertEqual(get_outcome(result), decide_by_clock(word, clock),
                                      (name, is_error, parts, clock))
-        for reasons, failed in ((["why"], ()), ((), ["full"])):
-            self.assertEqual(decide(Grounds([], NAMED, reasons=reasons, failed_outputs=failed,
-                                            named_faults=[NEVER_SENT])).word, NOT_JUDGED,
-                             (reasons, failed))
+        self.assertEqual(decide(Grounds([], NAMED, error_kinds=["input"],
+                                        named_faults=[NEVER_SENT])).word, NOT_JUDGED)
         self.assertEqual(decide(Grounds([], warned, named_faults=[NEVER_SENT])),
-                         Decision(NOT_JUDGED, NOTHING_READ))
+                         Decision(NOT_JUDGED, NOTHING_READ, "undecided"))
 
     def check_decision(self, name: str, seen: Grounds, is_allowed: bool,
                        clock: dict[str, Any]) -> None:
@@ -172,27 +180,29 @@ class Decisions(unittest.TestCase):
             expected = ACCEPTED if name == "accepted" else WAIVED
         with self.subTest(name, losses=losses, allowed=is_allowed, warnings=warnings,
                           strict=seen.is_strict, clock=clock):
-            self.assertEqual((result.word, result.status), decide_by_clock(expected, clock))
+            self.assertEqual(get_outcome(result), decide_by_clock(expected, clock))
 
     def test_is_not_judged_after_a_failure(self) -> None:
         for name, printed in (RIGHT | WRONG).items():
-            for failed, reasons in itertools.product(OUTPUTS, ((), ("stopped",))):
-                result = decide(Grounds([printed, printed], NAMED, reasons=reasons,
-                                        failed_outputs=failed,
+            for kinds, status in ERRORS.items():
+                result = decide(Grounds([printed, printed], NAMED, error_kinds=kinds,
                                         has_clock=True))
-                is_clean = not failed and not reasons
-                with self.subTest(name, failed=failed, reasons=reasons):
-                    self.assertEqual(result.word, self.decide_expected_word([name]) if is_clean
-                                     else NOT_JUDGED)
-                    self.assertEqual(result.status == 2, result.word == NOT_JUDGED)
+                with self.subTest(name, kinds=kinds):
+                    self.assertEqual((result.word, result.status), (NOT_JUDGED, status))
+                    self.assertIn(result.not_judged_kind, kinds)
+            result = decide(Grounds([printed, printed], NAMED, has_clock=True))
+            self.assertEqual(result.word, self.decide_expected_word([name]))
+            self.assertEqual(result.not_judged_kind is None, result.word != NOT_JUDGED)
 
     def test_gives_a_reason_if_not_judged(self) -> None:
         accepted, unread = RIGHT["accepted"], RIGHT["waived, not read"]
-        rows: list[tuple[list[CheckSummary], str]] = [
-            ([], NOT_ANSWERED), ([accepted, WRONG["silent"]], NOT_ANSWERED),
-            ([unread], NOTHING_READ), ([accepted, accepted, unread], NOTHING_READ)]
-        for parts, expected in rows:
-            self.assertEqual(decide(Grounds(parts, NAMED)), Decision(NOT_JUDGED, expected), parts)
+        rows: list[tuple[list[CheckSummary], str, str]] = [
+            ([], NOT_ANSWERED, "bug"), ([accepted, WRONG["silent"]], NOT_ANSWERED, "bug"),
+            ([unread], NOTHING_READ, "undecided"),
+            ([accepted, accepted, unread], NOTHING_READ, "undecided")]
+        for parts, reason, kind in rows:
+            self.assertEqual(decide(Grounds(parts, NAMED)), Decision(NOT_JUDGED, reason, kind),
+                             parts)
         self.assertEqual(decide(Grounds([accepted], NAMED, has_clock=True)), Decision(ACCEPTED))
 
 
@@ -204,15 +214,19 @@ class BatchStatus(unittest.TestCase):
             ([0, 3, 0], False, 3), ([3, 1], False, 1), ([1, 3], False, 1), ([0, 3, 1], False, 1),
             ([2], False, 2), ([1, 2, 0], False, 2), ([2, 1], False, 2), ([3, 2], False, 2),
             ([2, 3], False, 2), ([], False, 2), ([4], False, 2), ([0, -9], False, 2),
-            ([0], True, 2), ([3], True, 2), ([], True, 2)]
+            ([0], True, 2), ([3], True, 2), ([], True, 2),
+            ([2, 64], False, 64), ([64, 70], False, 70), ([1, 70, 0], False, 70),
+            ([64, 1, 3], False, 64), ([70, 64, 2, 1, 3, 0], True, 70), ([64, 0], True, 64),
+            ([0, 71], False, 2)]
         for statuses, is_stopped, status in rows:
             with self.subTest(statuses=statuses, stopped=is_stopped):
                 self.assertEqual(combine_statuses(statuses, is_stopped), status)
 
     def test_rejects_a_result_with_another_status(self) -> None:
-        for word, status, ended in itertools.product([*STATUSES, "fine"], range(5),
-                                                     (0, 1, 2, 3, -9, -15)):
-            is_possible = status == STATUSES.get(word) or (word, status) == (RELATIVE, 0)
+        for word, status, ended in itertools.product(
+                [*STATUSES, "fine"], (*range(5), 64, 70), (0, 1, 2, 3, 64, 70, -9, -15)):
+            is_possible = status == STATUSES.get(word) or (word, status) in (
+                (RELATIVE, 0), (NOT_JUDGED, 64), (NOT_JUDGED, 70))
             with self.subTest(word, status=status, ended=ended):
                 self.assertEqual(matches_exit_status(word, status, ended),
                                  is_possible and status == ended)

@@ -18,13 +18,13 @@ from subtitles.clock.start import (
 from subtitles.common.command_line import CONTROL_CHARACTERS
 from subtitles.common.times import CLOCK, TICKS
 from subtitles.formats.stl import SubtitleFile
-from subtitles.judging import timing
+from subtitles.judging import desync, timing
 from subtitles.judging.pages import (
     ATTRIBUTES, describe_attribute_difference, describe_code, describe_extra_rows, describe_move,
     format_page_text, is_partial_page, is_text_moved, join_page_text)
 from subtitles.judging.subtitles import OptionAdvice
 from subtitles.judging.timing import (
-    PartSearch, find_desync, find_subtitle_packets, list_timed_parts, report_estimated_origin)
+    PartSearch, find_subtitle_packets, list_timed_parts, report_estimated_origin)
 from subtitles.judging.transmissions import describe_control_bits
 from subtitles.judging.unchecked import summarize_pictures
 from subtitles.recording.notices import (
@@ -93,12 +93,13 @@ class PartClocks(unittest.TestCase):
         leads = {(9, video): several for video, several in known.items()}
         survey: Any = SimpleNamespace(leads=leads, find_programmes=lambda pid: [
             SimpleNamespace(kinds={pid: 6, 1: 2, 2: 2}), SimpleNamespace(kinds={pid: 6, 3: 27})])
-        with mock.patch.object(timing, "locate_departures", lambda several: several):
+        with mock.patch.object(desync, "locate_video_departures",
+                               lambda survey, video, several, sent: several):
             for source, count in ((GIVEN, 2), (RECORDING, 2), (START, 3), (TCP, 3)):
-                desync = find_desync(survey, 9, TimedPart(10, 100, Clock(0, source)), 0, 7)
-                self.assertEqual([fault.part for fault in desync.faults], [7] * count, source)
-                self.assertEqual([" at 1 place where " in text
-                                  for text in summarize_pictures(desync.unchecked)], [True],
+                found = desync.find_desync(survey, 9, TimedPart(10, 100, Clock(0, source)), 0, 7)
+                self.assertEqual([fault.part for fault in found.faults], [7] * count, source)
+                self.assertEqual([" decoding times jump" in text
+                                  for text in summarize_pictures(found.unchecked)], [True],
                                  (source, count))
 
 

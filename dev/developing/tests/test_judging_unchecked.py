@@ -6,9 +6,9 @@ from typing import Sequence
 from subtitles.clock.start import Clock, GIVEN, TimedPart
 from subtitles.common.checks import HOLE, JUMP, NO_VIDEO, STEADY, UNREAD
 from subtitles.common.times import TICKS
+from subtitles.judging.desync import find_desync
 from subtitles.judging.status import (
     ACCEPTED, CheckSummary, Grounds, NOT_JUDGED, REFUSED, Severity, decide)
-from subtitles.judging.timing import find_desync
 from subtitles.stream.survey import Survey
 from .bench import Case
 
@@ -59,6 +59,11 @@ class Pictures(Case):
                                + make_leads(2500, 4500), both, [JUMP, JUMP]),
             "it grows": (make_leads(500, 4500, 6, 0.02), f"{VIDEO}:27", [STEADY]),
             "it grows a little": (make_leads(500, 4500, 6, 0.005), f"{VIDEO}:27", [])}
+        ahead = [f"ahead {PID} {TICKS * frame} {TICKS * 20}" for frame in range(505, 4500, 25)]
+        for lost, told in ((10, []), (15, []), (16, [JUMP]), (50, [JUMP]), (-50, [])):
+            rows[f"{lost} lost, the decoding times go on"] = (
+                [*ahead, *make_leads(500, 2500), *make_leads(2500, 4500, 6 + lost)],
+                f"{VIDEO}:27", told)
         for name, (lines, streams, kinds) in rows.items():
             self.check(name, self.find_kinds(lines, streams), kinds)
         self.check("pauses", self.find_kinds(

@@ -19,8 +19,8 @@ from subtitles.judging.part import Part, belongs_to_part, find_part_causes
 from subtitles.judging.status import Severity
 from subtitles.judging.subtitles import SubtitleCounts, ValidSubtitles
 from subtitles.judging.verdict import (
-    DELAYING_FAULTS, DelaySpread, Gap, Unjudged, Verdict, count_fault_numbers, find_gaps, make_gaps,
-    summarize_delays)
+    DELAYING_FAULTS, DelaySpread, FailedOutput, Gap, Unjudged, Verdict, count_fault_numbers,
+    find_gaps, make_gaps, summarize_delays)
 from subtitles.recording.notices import Notice
 from subtitles.request.commands import OutputNames
 from subtitles.request.request import Request
@@ -120,18 +120,23 @@ class Verdicts(Case):
                       (word, line, lead or line), (verdict.word, verdict.line, verdict.worst_line))
 
     def test_is_not_judged_with_a_reason_or_a_failed_output(self) -> None:
-        rows: list[tuple[Unjudged | None, list[str], str, bool]] = [
-            (Unjudged("why"), [], "why", True), (None, ["full", "broken"], "full\nbroken", False),
-            (Unjudged("why"), ["full"], "why\nfull", False),
-            (Unjudged("why", is_temporary=True), [], "why", False),
-            (Unjudged("why", is_stopped=True), [], "why", False)]
-        for refused, (unjudged, failed, why, is_final) in itertools.product(((), (0,), (2,)), rows):
+        full, broken = FailedOutput("full", "resource"), FailedOutput("broken", "bug")
+        rows: list[tuple[Unjudged | None, list[FailedOutput], str, int, bool]] = [
+            (Unjudged("why", "undecided"), [], "why", 2, True),
+            (Unjudged("why", "usage"), [], "why", 64, True),
+            (None, [full, broken], "full\nbroken", 70, False),
+            (Unjudged("why", "input"), [full], "why\nfull", 2, False),
+            (Unjudged("why", "bug"), [full], "why\nfull", 70, False),
+            (Unjudged("why", "resource", is_temporary=True), [], "why", 2, False),
+            (Unjudged("why", "signal", is_stopped=True), [], "why", 2, False)]
+        for refused, (unjudged, failed, why, status, is_final) in itertools.product(
+                ((), (0,), (2,)), rows):
             verdict = dataclasses.replace(make_part_verdict(self.three(*refused)),
                                           unjudged=unjudged, failed_outputs=failed)
             self.must(f"{refused} {unjudged} {failed}", (
                 verdict.word, verdict.status, verdict.line, verdict.subtitle_counts,
                 verdict.unjudged_reason,
-                verdict.is_final) == ("not judged", 2, None, None, why, is_final),
+                verdict.is_final) == ("not judged", status, None, None, why, is_final),
                       verdict.unjudged_reason)
         self.must("judged", make_part_verdict(self.three()).is_final)
 

@@ -334,7 +334,7 @@ class WholeCalls(Case):
         self.check("a file", self.read(one, "--origin", "0", "--against", stl).status, 0)
         more = self.write("two.pes", self.read_sent([*frames, (125, text), (150, blank)]))
         self.check("not on air", self.read(more, "--origin", "0", "--against", stl).status, 1)
-        self.check("no clock", self.read(one, "--against", stl).status, 2)
+        self.check("no clock", self.read(one, "--against", stl).status, 64)
 
     def read_sent(self, frames: list[tuple[int, list[bytes]]]) -> bytes:
         with open(self.send(*frames), "rb") as file:

@@ -80,7 +80,7 @@ class CompletePage(Case):
             verdict = self.verdict(kinds, is_estimated, "b" not in kinds)
             verdict.named_faults = [NamedFault("not shown", f"row {at}", block=at)
                                     for at in range(1, named + 1)]
-            verdict.unjudged = Unjudged(why, ("type <this>",)) if why else None
+            verdict.unjudged = Unjudged(why, "undecided", ("type <this>",)) if why else None
             page = markup_text(report_page.make_report_page(verdict, typed))
             box, text = (re.sub("<[^>]*>", "", item) for item in (
                 page.partition("</div></div>")[0], page))

@@ -23,7 +23,7 @@ from subtitles.cli.main import (
     OPTION_MODES, find_mode, make_parser, find_output_path, find_pair_name, read_jobs,
     parse_line_number, read_seconds, refuse_options)
 from subtitles.common import command_line
-from subtitles.common.command_line import Stop, run_main
+from subtitles.common.command_line import Stop, UsageError, run_main
 from subtitles.common.program import TOP, read
 from subtitles.request.commands import CommandPaths
 from subtitles.request.lines import make_line_request
@@ -150,16 +150,16 @@ class Modes(Case):
     def test_a_missing_recording_is_a_usage_error(self) -> None:
         """So a script with an unset variable does not pass."""
         for options in ("", "--strict", "--origin 0", "--profile house", "-o out"):
-            with self.assertRaises(Stop) as refused:
+            with self.assertRaises(UsageError) as refused:
                 main.dispatch("", "tools/qc", ["a.stl", *options.split()])
             self.check(options, str(refused.exception), NO_RECORDING)
 
-    def test_ends_a_wrong_call_with_status_2(self) -> None:
+    def test_ends_a_wrong_call_with_status_64(self) -> None:
         self.write("list", b"one.stl\n")
         for words in (["--file-only", "a.stl", "--jobs", "5"], ["--collect", ".", "-o", "out"],
                       ["--batch", "list", "--settled", "5"]):
             process = self.tool("qc", *words)
-            self.must(" ".join(words), process.status == 2 and len(process.told) == 1
+            self.must(" ".join(words), process.status == 64 and len(process.told) == 1
                       and f"{words[2]} may be given with " in process.told[0], process)
 
     def test_prints_the_names_of_tools_as_typed(self) -> None:
@@ -206,7 +206,7 @@ class PartialCommandLines(unittest.TestCase):
                     if kind == "other":
                         with open(path, "wb") as file:
                             file.write(b"other")
-                main.write_unjudged("one", paths, "the reason")
+                main.write_unjudged("one", paths, Stop("the reason"))
                 for option, kind in zip(main.MAKE_CONTENTS, kinds):
                     data = read(paths[option] or "") or ""
                     self.assertEqual(("the reason" in data, data == "other"),
@@ -223,32 +223,52 @@ class PartialCommandLines(unittest.TestCase):
                 self.assertRaises(argparse.ArgumentTypeError, taken, word)
 
 
-# Test that tools with wrong arguments print one line of error output, return 2 and write no file.
+# Test that tools with wrong arguments print one line of error output and write no file. The status
+# is 64 if no file can make the arguments right, otherwise 2.
 
 STL, PES = get_example_path("hello.stl"), get_example_path("hello.pes")
-WRONG: dict[str, list[list[str]]] = {
-    "poke": [[], ["none.stl"], [STL, "x"], [STL, "1=0"], [STL, "1=@3"], [STL, "1152=00"],
-             [STL, "0=@1150+3"], [STL, "-c", "-1"], [STL, "-c", "x"], [STL, "1=00", "--colour"],
-             [STL, "9" * 5000 + "=00"], [TOP]],
-    "qc": [[], ["none.stl"], [STL, "none.pes"], [STL, PES, PES], [STL, PES, "--page", "8FF"],
-           [STL, PES, "--every", "0"], [STL], ["--file-only"],
-           [STL, PES, "--option", "latin"], [STL, PES, "--layout", "fit,fit"],
-           [STL, PES, "--origin", "x"], [STL, PES, "--pid", "8191"],
-           [STL, PES, "--severity", "none"], [STL, PES, "-p", "none"],
-           ["--file-only", "--batch", STL], ["--batch"], ["--batch", "none"], [STL, "--jobs", "2"],
-           [STL, PES, "--json", "no/folder.json"], [STL, PES, "--csv", TOP],
-           [STL, PES, "--every", "9" * 5000], ["--batch", TOP, "--junit", "no/folder.xml"],
-           ["--batch", TOP, "--jobs", "9" * 5000]],
-    "pes2ts": [[], [PES], ["none.pes", "0x101"], [PES, "0x100"], [PES, "7"], [PES, "0x1fff"],
-               [PES, "0x101", "english"], [PES, "0x101", "--page", "8FF"]],
-    "install": [[], ["-x"], ["--", "-x"], ["--prefix"], [""], [PES], ["-p", "none", "to"],
-                ["to", "from"]],
-    "dist": [[PES], ["--colour"], ["--deb", PES]],
-    "release": [["none"], ["--note", "none"], ["--keep", "--compare"], ["--colour"]],
-    "reading-list": [[], ["none"], ["Good", "Robust"], ["Good", "--colour"]],
-    "slow-proofs": [[], ["none"]], "make-examples": [[], ["a", "b"]],
-    "check-manual": [["-p", "none"]], "check-preview": [["-p", "none"]],
+WRONG_USAGE: dict[str, list[list[str]]] = {
+    "air": [[], ["rest"], ["record"], ["judge", "schedule", "segments"], ["status"],
+            ["judge", "schedule", "segments", "-o", "out", "--pagee", "888"],
+            ["status", "out", "--max-age", "-1"]],
+    "read": [[], [PES, "--start", "tcp"], [PES, "--start", "10:00:00:00", "--origin", "0"],
+             [PES, "--against", STL]],
+    "poke": [[], [STL, "x"], [STL, "1=0"], [STL, "1=@3"], [STL, "-c", "-1"], [STL, "-c", "x"],
+             [STL, "1=00", "--colour"], [STL, "9" * 5000 + "=00"]],
+    "qc": [[], [STL], ["--file-only"], ["--file-only", STL, PES], [STL, PES, PES],
+           [STL, PES, "--page", "8FF"], [STL, PES, "--every", "0"], [STL, PES, "--option", "latin"],
+           [STL, PES, "--layout", "fit,fit"], [STL, PES, "--origin", "x"],
+           [STL, PES, "--pid", "8191"], ["--batch"], [STL, PES, "--jobs", "2"],
+           [STL, PES, "--every", "9" * 5000], ["--batch", TOP, "--jobs", "9" * 5000],
+           ["none.stl", "none.pes", "--start", "tcp", "--origin", "0"],
+           [STL, PES, "--late", "0:1,2:1/0:1", "--within", "1"], ["--watch", TOP],
+           ["--watch", TOP, "-o", "out", "--start", "tcp", "--origin", "0"],
+           [STL, PES, "--profile", "none", "--start", "tcp", "--origin", "0"],
+           ["--batch", "none", "--resume"], ["--measure", STL, PES, STL],
+           ["--measure", STL, PES, STL, PES, "--origin", "0"], [STL, PES, "--keep"]],
+    "pes2ts": [[], [PES], [PES, "0x1fff"], [PES, "0x100"], [PES, "7"], [PES, "0x101", "english"],
+               [PES, "0x101", "--page", "8FF"]],
+    "install": [[], ["-x"], ["--", "-x"], ["--prefix"], [""], ["to", "from"],
+                ["--remove", "-p", STL, "to"]],
+    "dist": [["--colour"]], "release": [["none"], ["--keep", "--compare"], ["--colour"]],
+    "reading-list": [[], ["Good", "Robust"], ["Good", "--colour"]],
+    "slow-proofs": [[]], "make-examples": [[], ["a", "b"]], "check-tools": [["--jobs", "0"]],
+    "edits": [["--release", "--tests"], ["--applies", "name"]],
     "check-every-place": [["--count", "x"], ["--recordings", "x"]], "faults": [["-v", "none"]],
+}
+WRONG_FILES: dict[str, list[list[str]]] = {
+    "air": [["judge", "schedule", "segments", "-o", "out"]],
+    "read": [["none.ts"], [PES, "--against", "none.stl", "--origin", "0"]],
+    "poke": [["none.stl"], [STL, "1152=00"], [STL, "0=@1150+3"], [TOP]],
+    "qc": [["--file-only", "none.stl"], [STL, "none.pes"], [STL, PES, "--severity", "none"],
+           [STL, PES, "-p", "none"],
+           ["--batch", "none"], [STL, PES, "--json", "no/folder.json"], [STL, PES, "--csv", TOP],
+           ["--batch", TOP, "--junit", "no/folder.xml"], [STL, PES, "--profile", "none"],
+           ["--watch", "none", "-o", "out"]],
+    "pes2ts": [["none.pes", "0x101"]],
+    "install": [[PES], ["-p", "none", "to"]], "dist": [[PES], ["--deb", PES]],
+    "release": [["--note", "none"]], "reading-list": [["none"]], "slow-proofs": [["none"]],
+    "check-manual": [["-p", "none"]], "check-preview": [["-p", "none"]],
 }
 
 
@@ -323,20 +343,25 @@ class WrongArguments(Case):
         self.addCleanup(os.chdir, os.getcwd())
         os.chdir(self.folder)
         for name in list_tool_names():
-            for words in [*WRONG.get(name, []), ["--colour"], ["---"]]:
+            usage = [*WRONG_USAGE.get(name, []), ["--colour"], ["---"]]
+            for words, status in [*((words, 64) for words in usage),
+                                  *((words, 2) for words in WRONG_FILES.get(name, []))]:
                 before = sorted(os.listdir(self.folder))
                 process = call_in_process(name, words) if is_python(get_tool_path(name)) else \
                     self.tool(name, *words)
                 self.check_no_internal_error(process.told)
-                self.must(f"{name} {' '.join(words)}", process.status == 2 and not process.out
+                self.must(f"{name} {' '.join(words)}", process.status == status and not process.out
                           and len(process.told) == 1 and process.told[0].startswith(name + ": ")
                           and sorted(os.listdir(self.folder)) == before, process)
 
     def test_writes_one_unjudged_entry_into_each_requested_file(self) -> None:
         names = {"--json": "one.json", "--csv": "one.csv", "--junit": "one.xml"}
         files = [f"{option}={self.path(name)}" for option, name in names.items()]
-        for words in ([STL, PES, "--page", "8FF"], [STL, PES, "--colour"],
-                      [STL, PES, "--jobs", "2"], ["none.stl", PES], [STL, PES, PES]) * 2:
+        usage, missing = (64, "usage"), (2, "input")
+        for words, expected in (
+                ([STL, PES, "--page", "8FF"], usage), ([STL, PES, "--colour"], usage),
+                ([STL, PES, "--jobs", "2"], usage), (["none.stl", PES], missing),
+                ([STL, PES, PES], usage)) * 2:
             process = self.tool("qc", *words, *files)
             there = [os.path.exists(self.path(name)) for name in names.values()]
             if not self.must(f"{words}: files", all(there), there):
@@ -345,7 +370,8 @@ class WrongArguments(Case):
             head, row, *more = csv.reader(self.read("one.csv").decode().splitlines())
             suite = tree.fromstring(self.read("one.xml"))
             reported = process.told[0].partition(": ")[2]
-            self.must(f"{words}", process.status == 2 and known["verdict"] == "not judged" and
+            self.must(f"{words}", (process.status, known["not_judged_kind"]) == expected and
+                      known["status"] == process.status and known["verdict"] == "not judged" and
                       known["reason"] == reported, known)
             item = dict(zip(head, row))
             cell = "'" * reported.startswith(FORMULA_BEGINNINGS) + reported

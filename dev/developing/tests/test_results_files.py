@@ -149,11 +149,11 @@ class WrittenResults(Case):
                       (not [*list_all_violations(known)]) == fits, find_misfit(known))
 
     def test_cuts_a_text_that_is_too_long(self) -> None:
-        self.must("cut", len(make_unjudged("x", "y" * 70_000)["reason"]) == 65_536 and
-                  find_misfit(make_unjudged("x", "y" * 70_000)) is None)
+        self.must("cut", len(make_unjudged("x", "y" * 70_000, "input")["reason"]) == 65_536 and
+                  find_misfit(make_unjudged("x", "y" * 70_000, "input")) is None)
         result = judge_files(self, self.write("story.stl", read_example_file("story.stl")))
         program = ProgramInfo("1", "0" * 64, None)
-        result.verdict.unjudged = Unjudged("why")
+        result.verdict.unjudged = Unjudged("why", "undecided")
         known = json.loads("".join(make_result_chunks(result.verdict, program)))
         self.must("not judged", known["verdict"] == "not judged" and find_misfit(known) is None)
 
@@ -161,7 +161,7 @@ class WrittenResults(Case):
 class UntrustedResults(Case):
     def test_table_and_schema_agree_on_changed_results(self) -> None:
         chance, fitting = random.Random(SEED), 0
-        known = [self.known(), make_unjudged("one", "why")]
+        known = [self.known(), make_unjudged("one", "why", "input")]
         for number in range(CHANGES):
             result = changed(known[number % 9 == 8], chance)
             wrong = [*list_violations(result, read_schema())]
@@ -279,7 +279,7 @@ class CollectedResults(Case):
         vars(words).update(outputs)
         paths = [self.path(f"{item.name}.json") for item in self.ROWS]
         for item, path in zip(self.ROWS, paths):
-            have = make_unjudged("c", "why\nmore") if item.name == "c" else \
+            have = make_unjudged("c", "why\nmore", "input") if item.name == "c" else \
                 make_result(item.verdict, line=item.line)
             self.write(os.path.basename(path), json.dumps(have).encode())
         out, errors = io.StringIO(), io.StringIO()

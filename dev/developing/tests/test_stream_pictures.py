@@ -11,11 +11,13 @@ from subtitles.clock.start import Clock, GIVEN, RECORDING, START, TimedPart
 from subtitles.common.checks import DRIFT
 from subtitles.common.times import CLOCK, TICKS, format_frame, pts_of
 from subtitles.formats.listing import PICTURES_LEFT
-from subtitles.judging.timing import find_departures, find_desync, find_late_jumps
+from subtitles.judging.desync import find_departures, find_desync
+from subtitles.judging.timing import find_late_jumps
 from subtitles.judging.unchecked import summarize_pictures
 from subtitles.stream.pace import Pace, REGULAR
 from subtitles.stream.packets import PacketRun, Packets, find_announced_jumps
-from subtitles.stream.pictures import Departure, VideoLead, locate_departures
+from subtitles.stream.pictures import (
+    Departure, VideoLead, find_steady_change, locate_departures)
 from subtitles.stream.survey import Survey
 from .bench import Case
 from .judged import judge_files
@@ -81,6 +83,15 @@ class PictureDepartures(Case):
                 make_video_leads([6.0] * 40 + [6.0 - 50] * 40, {40: 50 + lost})), [50 * TICKS])
         self.check("50 lost alone",
                    self.measure_step_ticks(make_video_leads([6.0] * 80, {40: 50})), [])
+
+    def test_finds_a_steady_change(self) -> None:
+        grows = make_video_leads([6 + 0.02 * at for at in range(100)])
+        self.check("it grows", find_steady_change(grows), round(99 * 0.02 * TICKS))
+        for by in (50, 25 * 3600, -25 * 3600):
+            jumps = [lead._replace(pts=(lead.pts + TICKS * by) % CLOCK, ticks=lead.ticks + TICKS
+                                   * by) for lead in make_video_leads([6.0] * 100)[50:]]
+            self.check(f"the PTS jump by {by}", find_steady_change(
+                [*make_video_leads([6.0] * 50), *jumps]), 0)
 
     def test_compares_the_video_lead_to_half_a_frame(self) -> None:
         for moved, expected in ((5.0, [5 * TICKS]), (5.4, [5 * TICKS]), (0.4, []), (0.0, []),
@@ -163,14 +174,13 @@ class DepartureFaults(Case):
             TimedPart(1000, 2000, Clock(origin, source)), within, 1)
         self.check("kinds",
                    {(fault.name, fault.part) for fault in faults} - {(PICTURES_LEFT, 1)}, set())
-        return [(fault.time, fault.until, fault.text.partition(" on, subtitles are ")[2].partition(
-            " for viewers")[0]) for fault in faults], [*notes, *summarize_pictures(unchecked)]
+        return [(fault.time, fault.until, fault.text.partition(", subtitles are ")[2].partition(
+            " for viewers")[0]) for fault in faults], [*notes, *(
+                "unclear" if "decoding times jump" in text else text
+                for text in summarize_pictures(unchecked))]
 
     def test_reports_departures_as_early_or_late(self) -> None:
         middle, end = "00:01:00:00", "00:01:19:24"
-        unclear = f"{DRIFT} at 1 place where the video's decoding times jump: the " \
-            "multiplexer's delay varies, pictures are lost too, or the place is within a second " \
-            "of the programme's beginning or end"
         allowed = f"from {middle} on, subtitles are 2 frames late for viewers: the video's " \
             "timestamps jump, as --within 2 allows"
         rows: dict[str, tuple[list[tuple[float, int]], int, list[tuple[str, str, str]],
@@ -186,12 +196,13 @@ class DepartureFaults(Case):
             "there and back": ([(2, 1500), (-2, 1600)], 0,
                                [(middle, "00:01:03:24", "2 frames early")], []),
             "twice": ([(-1, 1500), (-1, 1600)], 1, [("00:01:04:00", end, "2 frames late")],
-                      [allowed.replace(" 2 frames", " 1 frame").replace("2 allows", "1 allows")]),
+                      [allowed.replace(" 2 frames", " 1 frame").replace("2 allows", "1 allows")
+                       .replace(" on,", " to 00:01:03:24,")]),
             "behind the first line": ([(2, 1001)], 0, [("00:00:41:00", end, "2 frames early")], []),
-            "before the first line": ([(2, 1000)], 0, [], [unclear]),
+            "before the first line": ([(2, 1000)], 0, [], ["unclear"]),
             "a second before": ([(2, 975)], 0, [], []),
             "before the last line": ([(2, 1975)], 0, [("00:01:19:00", end, "2 frames early")], []),
-            "behind the last line": ([(2, 1976)], 0, [], [unclear]),
+            "behind the last line": ([(2, 1976)], 0, [], ["unclear"]),
             "a second behind": ([(2, 2001)], 0, [], [])}
         for origin, (name, (steps, within, faults, notes)) in itertools.product(
                 (0, CLOCK - 1400 * TICKS), rows.items()):

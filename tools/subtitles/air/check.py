@@ -13,7 +13,7 @@ from typing import Any, Callable, Mapping, NamedTuple
 
 from ..cli import single
 from ..cli.batch import ForkedProcess, hold_signals, wait_for_any
-from ..common.command_line import Stop, run_main, format_error, print_stderr
+from ..common.command_line import RESOURCE, Stop, run_main, format_error, print_stderr
 from ..common.files import make_temporary_name
 from ..common.times import FRAMES_A_SECOND, TICKS, pts_of, subtract_pts
 from ..judging.part import Part
@@ -48,6 +48,7 @@ class Outcome(NamedTuple):
     # False if a refusal may only mean that the programme continues after the recorded part
     is_finished: bool = True
     is_recorded: bool = True  # False if the programme may have been on air, but was not recorded
+    error_kind: str = RESOURCE  # kind of the error if there is no result
 
     @property
     def verdict(self) -> str | None:

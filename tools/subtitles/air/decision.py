@@ -5,6 +5,7 @@ from __future__ import annotations
 from typing import NamedTuple, Sequence
 
 from ..cli.single import now as date
+from ..common.command_line import INPUT
 from ..results.files import make_unjudged
 from .check import Outcome
 from .segments import Segment, UnbrokenRun
@@ -70,7 +71,7 @@ def decide(name: str, outcomes: Sequence[Outcome], gaps: Sequence[str], has_pass
     rest = f"; of the rest: {outcomes[0].reason}" if outcomes else ""
     before = f"; before that: {failure}" if failure else ""
     reason = f"not recorded: {gap_text}{more}{rest}{before}"
-    return Outcome(make_unjudged(name, reason), reason, is_recorded=False)
+    return Outcome(make_unjudged(name, reason, INPUT), reason, is_recorded=False)
 
 
 def is_given_up(window: Window, later: Sequence[Segment], deleted: float, clock: float) -> bool:

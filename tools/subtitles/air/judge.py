@@ -13,7 +13,7 @@ import sys
 import time
 
 from ..cli.single import handle_signals, hold_lock, now as date
-from ..common.command_line import Stop, format_error, print_stdout
+from ..common.command_line import INPUT, Stop, format_error, print_stdout
 from ..common.files import TEMPORARY_PREFIX, open_result
 from ..judging.status import NOT_JUDGED
 from ..request.commands import CommandPaths
@@ -188,7 +188,8 @@ class Judge:
             self.publish(programme.name, outcome)
         elif is_given_up(window, find_segments(self.segments, window.last, math.inf),
                          find_deleted(self.segments), self.find_certain_time()):
-            result = outcome.result or make_unjudged(programme.name, outcome.reason)
+            result = outcome.result or make_unjudged(
+                programme.name, outcome.reason, outcome.error_kind)
             self.publish(programme.name, outcome._replace(result=result))
         else:
             self.retry(programme, now, start_time, outcome.reason, seconds)
@@ -200,7 +201,7 @@ class Judge:
         name, has_passed = programme.name, now >= window.last + RECORDER_LAG
         segments = find_segments(self.segments, window.first, window.last)
         if delivery.fault:
-            return Outcome(None, delivery.fault)
+            return Outcome(None, delivery.fault, error_kind=INPUT)
         recorded_runs, outcomes = [*find_unbroken_runs(segments, self.args.pause)], list[Outcome]()
         for stretch in filter(window.can_contain, recorded_runs):
             outcomes.append(self.checker.check(programme, stretch))

@@ -4,7 +4,7 @@ from __future__ import annotations
 import os
 
 from ..cli.main import make_number_parser, read_seconds
-from ..common.command_line import Stop, ToolParser, add_program
+from ..common.command_line import Stop, ToolParser, UsageError, add_program
 from ..common.files import make_safe_name
 from ..common.program import TOP
 from ..request.lines import read_options
@@ -86,7 +86,7 @@ def main(text: str, words: list[str]) -> int:
         return print_status(args.out, args.max_age, args.metrics)
     if mode != "judge":
         ToolParser(text).parse_known_args(words)  # handles --help and --version
-        raise Stop("the first argument must be record, judge or status")
+        raise UsageError("the first argument must be record, judge or status")
     args = read_options(make_judge_parser(), line, {}, {}, is_typed=True)
     args.out = make_safe_name(args.out)
     if not os.path.isdir(args.segments):

@@ -14,7 +14,9 @@ from typing import (
     Any, Callable, Collection, Iterable, Iterator, Mapping, NamedTuple, NoReturn, Sequence)
 
 from ..cli import collection
-from ..common.command_line import Stop, counted, run_main, format_error, print_stderr
+from ..common.command_line import (
+    RESOURCE, Stop, UsageError, classify_error, counted, format_error,
+    print_stderr, run_main)
 from ..common.files import OutputIsInput, NO_INPUTS, make_temporary_folder
 from ..common.program import ProgramInfo, TOP, describe_program
 from ..judging.status import NOT_JUDGED
@@ -26,7 +28,7 @@ from ..request.lines import (
 from ..request.request import Request
 from ..results.files import (
     ENDING, Row, describe_inputs, is_current, read_call_result, read_result, write_result_file,
-    make_row, make_unjudged)
+    make_failed, make_row, make_unjudged)
 from .main import write_unjudged
 from .single import (
     FilesInUse, PairOptions, SIGNALS, handle_signals, ignore_signals, judge_and_report, lock_folder,
@@ -51,10 +53,18 @@ def judge_forked_pair(request: Request, call: PairOptions) -> int:
             return judge_and_report(request, call, os.path.join(TOP, "tools", "qc")).status
         except (Exception, KeyboardInterrupt) as reason:
             if not isinstance(reason, OutputIsInput):
-                write_unjudged(call.name or "", {"--json": call.json}, format_error(reason))
+                name = call.name or ""
+                path = call.json or call.out and os.path.join(call.out, name + ENDING)
+                write_unjudged(name, {"--json": path}, reason)
             raise
 
     return run_main(judge, ())
+
+
+class ProcessNotStarted(Stop):
+    """Raised if the system refuses another process."""
+
+    kind = RESOURCE
 
 
 class ForkedProcess:
@@ -73,7 +83,8 @@ class ForkedProcess:
                 self.errors.close()
                 os.close(self.alive_pipe)
                 os.close(pipe_end)
-                raise Stop(f"a process could not be started: {error.strerror}") from None
+                raise ProcessNotStarted("a process could not be started: "
+                                        f"{error.strerror}") from None
             if not self.pid:
                 run_and_exit(function, self.errors.fileno(), pipe_end)
             os.close(pipe_end)
@@ -228,7 +239,7 @@ class PairRunner:
         except (Stop, OSError) as reason:
             if isinstance(reason, FilesInUse):
                 self.names_in_use.add(item.name)
-            result = make_unjudged(item.name, format_error(reason))
+            result = make_failed(item.name, reason)
             self.unwritten_results[item.name] = result
             return make_row(result, item.name)
         finally:
@@ -239,7 +250,7 @@ class PairRunner:
         if self.out is not None:
             remove_results(self.out, item.name, self.parts)
         if item.request is None:
-            return self.record_unjudged(item, item.reason or "")
+            return self.record_unjudged(item, item.reason or "", item.reason_kind)
         request = item.request
         call = PairOptions(self.command_paths.program_path, name=item.name, is_claimed=True)
         call = call._replace(out=self.out, is_kept=self.is_kept) if self.out else \
@@ -250,7 +261,7 @@ class PairRunner:
                 process = ForkedProcess(lambda: judge_forked_pair(request, call))
                 self.running_pairs[process] = RunningPair(item, limit, pair_lock.pop_all())
         except Stop as reason:
-            return self.record_unjudged(item, str(reason))
+            return self.record_unjudged(item, str(reason), classify_error(reason))
         return None
 
     def collect_rows(self, seconds: float) -> Iterator[Row]:
@@ -275,20 +286,21 @@ class PairRunner:
             if result["verdict"] == NOT_JUDGED and is_overdue:
                 return self.record_unjudged(
                     item, f"it used more than {counted(limit, 'second')} of CPU time: give a "
-                          "greater --limit")
-            return self.record_unjudged(item, result["reason"]) if "request" not in result else \
-                make_row(result, item.name)
+                          "greater --limit", RESOURCE)
+            if "request" in result:
+                return make_row(result, item.name)
+            return self.record_unjudged(item, result["reason"], result["not_judged_kind"])
         finally:
             pair_lock.close()
 
-    def record_unjudged(self, item: BatchItem, reason: str) -> Row:
+    def record_unjudged(self, item: BatchItem, reason: str, kind: str) -> Row:
         """Write a JSON result `not judged` for a pair, if possible. Return its row."""
-        result = make_unjudged(item.name, reason)
+        result = make_unjudged(item.name, reason, kind)
         try:
             if not self.is_stopped:
                 write_result_file(self.get_result_path(item), result)
         except OSError as error:
-            result = make_unjudged(item.name, f"{reason}; {format_error(error)}")
+            result = make_unjudged(item.name, f"{reason}; {format_error(error)}", kind)
             self.unwritten_results[item.name] = result
         return make_row(result, item.name)
 
@@ -308,7 +320,7 @@ def judge_batch(args: argparse.Namespace, program_name: str) -> int:
     """Judge all pairs in a folder or list. Return the exit status."""
     command_paths = CommandPaths(program_name, args.program)
     if args.is_resumed and args.out is None:
-        raise Stop("--resume needs -o, the folder with the results of an earlier call")
+        raise UsageError("--resume needs -o, the folder with the results of an earlier call")
     if args.line is None:
         find_items = find_subtitle_files if args.is_file_only else read_pairs
         items, more, common_folder = find_items(args.batch, args), list[str](), args.out
@@ -444,9 +456,10 @@ class FolderWatch:
 
 
 def refuse_folders(args: argparse.Namespace) -> None:
-    """Raise `Stop` unless the watched folder and the output folder exist and are different."""
+    """Raise `Stop` unless the watched folder and the output folder exist and are different, and
+    `UsageError` if an option is missing."""
     if args.out is None:
-        raise Stop("--watch needs -o, the folder for results and reports")
+        raise UsageError("--watch needs -o, the folder for results and reports")
     if not os.path.isdir(args.watch):
         raise Stop(f"{args.watch} is not a folder")
     os.makedirs(args.out, exist_ok=True)

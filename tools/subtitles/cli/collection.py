@@ -11,7 +11,7 @@ from typing import Any, Callable, Iterator, Sequence, Union
 from urllib.parse import quote
 
 from ..common.command_line import (
-    Stop, counted, discard_output, escape_hidden, format_error, print_stderr, print_stdout)
+    INPUT, Stop, counted, discard_output, escape_hidden, format_error, print_stderr, print_stdout)
 from ..common.files import Inputs, NO_INPUTS, STANDARD_OUTPUTS, refuse_output_name, open_result
 from ..common.markup import BREAK, HEAD, Markup, NO_MARKUP, Value, join_markup, markup
 from ..judging.status import (
@@ -319,8 +319,8 @@ def load_result(source: ResultSource) -> dict[str, Any]:
     if isinstance(source, dict):
         return source
     name = os.path.basename(source).removesuffix(ENDING)
-    return read_result(source) or make_unjudged(name,
-                                                "its JSON result is gone: judge it again")
+    return read_result(source) or make_unjudged(name, "its JSON result is gone: judge it again",
+                                                INPUT)
 
 
 def load_for_csv(source: ResultSource) -> dict[str, Any]:

@@ -8,11 +8,11 @@ import sys
 from typing import Any, Callable, Iterable, Sequence
 
 from ..cli import single
-from ..common.command_line import Stop, ToolParser, format_error
+from ..common.command_line import Stop, ToolParser, UsageError
 from ..common.files import OutputIsInput, make_safe_name
 from ..request.lines import describe_mode_conflict, needs_recording, read_options
 from ..request.request import (
-    ALONE, BATCH, COLLECT, MEASURE, Mode, OPTIONS, Option, PAIR, WATCH, add_options)
+    ALONE, BATCH, COLLECT, MEASURE, Mode, OPTIONS, Option, PAIR, WATCH, add_options, find_conflict)
 from ..results import files
 
 
@@ -80,20 +80,21 @@ NO_RECORDING = "no recording was given; to check the subtitle file alone, add --
 
 
 def find_mode(args: argparse.Namespace) -> Mode:
-    """Return the mode that a command line selects. Raise `Stop` if it selects more than one."""
+    """Return the mode that a command line selects. Raise `UsageError` if it selects more than one.
+    """
     values = {BATCH: args.batch, COLLECT: args.collect, WATCH: args.watch,
               MEASURE: args.measure}
     given_modes = [mode for mode, value in values.items() if value is not None]
     if len(given_modes) > 1:
-        raise Stop(f"{given_modes[0].text} and {given_modes[1].text} can't be given together")
+        raise UsageError(f"{given_modes[0].text} and {given_modes[1].text} can't be given together")
     if given_modes and args.stl is not None:
         source = "from its arguments" if given_modes[0] is MEASURE \
             else f"from {values[given_modes[0]]}"
-        raise Stop(f"{given_modes[0].text} takes its pairs {source}: remove {args.stl}")
+        raise UsageError(f"{given_modes[0].text} takes its pairs {source}: remove {args.stl}")
     if given_modes or args.recording is not None:
         return given_modes[0] if given_modes else PAIR
     if args.stl is not None and not args.is_file_only:
-        raise Stop(NO_RECORDING)
+        raise UsageError(NO_RECORDING)
     return ALONE
 
 
@@ -110,15 +111,15 @@ def list_given_options(parser: ToolParser, line: Sequence[str]) -> list[str]:
 
 
 def refuse_options(parser: ToolParser, line: Sequence[str], mode: Mode) -> None:
-    """Raise `Stop` for the first option that the mode does not accept. With --file-only, a batch
-    does not accept options that need a recording."""
+    """Raise `UsageError` for the first option that the mode does not accept. With --file-only, a
+    batch does not accept options that need a recording."""
     given_options = list_given_options(parser, line)
     for name in given_options:
         modes = OPTION_MODES[name]
         if mode not in modes:
-            raise Stop(describe_mode_conflict(name, modes, mode))
+            raise UsageError(describe_mode_conflict(name, modes, mode))
         if "--file-only" in given_options and needs_recording(modes):
-            raise Stop(describe_mode_conflict(name, modes, ALONE))
+            raise UsageError(describe_mode_conflict(name, modes, ALONE))
 
 
 def make_parser(text: str) -> ToolParser:
@@ -143,15 +144,15 @@ def main(text: str, program_name: str, line: list[str]) -> int:
         if not isinstance(reason, OutputIsInput):
             paths = {option: find_output_path(line, option) for option in MAKE_CONTENTS}
             has_pairs = any(word.partition("=")[0] in (BATCH.text, COLLECT.text) for word in line)
-            write_unjudged(find_pair_name(line), paths, format_error(reason), has_pairs)
+            write_unjudged(find_pair_name(line), paths, reason, has_pairs)
         raise
 
 
-def write_unjudged(name: str, paths: dict[str, str | None], reason: str,
+def write_unjudged(name: str, paths: dict[str, str | None], error: BaseException,
                    has_pairs: bool = False) -> None:
-    """Write each requested output file with the verdict `not judged`. If `has_pairs` is true, the
-    JSON file is that of a batch."""
-    result = files.make_unjudged(name, reason)
+    """Write each requested output file with the verdict `not judged` because of an exception. If
+    `has_pairs` is true, the JSON file is that of a batch."""
+    result = files.make_failed(name, error)
     for option, path in paths.items():
         with contextlib.suppress(Stop, OSError):
             if path is not None and files.can_replace(path, FIRST_BYTES[option]):
@@ -199,10 +200,15 @@ def find_pair_name(line: Sequence[str]) -> str:
 
 def dispatch(text: str, program_name: str, line: list[str]) -> int:
     """Run qc in the mode that the command line selects. Return the exit status."""
-    refuse_options(make_parser(text), line, find_mode(make_parser(text).parse_args(line)))
+    typed = make_parser(text).parse_args(line)
+    mode = find_mode(typed)
+    refuse_options(make_parser(text), line, mode)
+    # A line of a list may replace one of two options.
+    if mode is not BATCH and (conflict := find_conflict(typed)):
+        raise UsageError(conflict)
     args = read_options(make_parser(text), line, {}, {}, is_typed=True)
     if args.is_kept and args.out is None:
-        raise Stop("--keep needs -o DIR, the folder for the recording")
+        raise UsageError("--keep needs -o DIR, the folder for the recording")
     args.out = args.out and make_safe_name(args.out)
     if args.collect is not None:
         from . import collection  # only loaded if needed
@@ -217,5 +223,5 @@ def dispatch(text: str, program_name: str, line: list[str]) -> int:
         from . import batch
         return batch.watch(args, program_name)
     if args.stl is None:
-        raise Stop("give a subtitle file and a recording; --help lists all options")
+        raise UsageError("give a subtitle file and a recording; --help lists all options")
     return single.judge_command(args, program_name)

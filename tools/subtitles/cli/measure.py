@@ -10,7 +10,8 @@ from typing import Callable, Collection, Iterable, Iterator, NamedTuple, Sequenc
 
 from ..clock.start import TCP
 from ..common.command_line import (
-    Lateness, MAX_WITHIN, Stop, counted, format_lateness, quote_argument, print_stdout, version)
+    Lateness, MAX_WITHIN, Stop, USAGE, UsageError, counted, format_lateness, quote_argument,
+    print_stdout, version)
 from ..common.files import read_first_bytes, make_temporary_folder
 from ..common.times import FRAMES_OF_A_DAY, Span, TICKS, format_frame, subtract_origin
 from ..formats.layout import (
@@ -453,12 +454,12 @@ def read_requests(args: argparse.Namespace) -> list[Request]:
     if len(names) == 1 and not is_stl(names[0]):
         return read_list_requests(names[0], args)
     if len(names) % 2:
-        raise Stop(f"--measure needs pairs, STL RECORDING: {names[-1]} has no recording")
+        raise UsageError(f"--measure needs pairs, STL RECORDING: {names[-1]} has no recording")
     requests = [make_file_request(stl, recording, args)
                 for stl, recording in zip(names[::2], names[1::2])]
     if len(requests) > 1 and (args.origin is not None or args.start not in (None, TCP)):
-        raise Stop("--origin and --start give the clock of one recording: for several, give a list "
-                   "of pairs, each with its clock")
+        raise UsageError("--origin and --start give the clock of one recording: for several, give "
+                         "a list of pairs, each with its clock")
     return requests
 
 
@@ -473,7 +474,7 @@ def read_list_requests(path: str, args: argparse.Namespace) -> list[Request]:
     items = read_pairs(path, args)
     for item in items:
         if item.reason:
-            raise Stop(item.reason)
+            raise (UsageError if item.reason_kind == USAGE else Stop)(item.reason)
     return [item.request for item in items if item.request]
 
 

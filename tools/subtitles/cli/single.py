@@ -13,7 +13,8 @@ import time
 from typing import Callable, Iterator, Mapping, NamedTuple
 
 from ..common.command_line import (
-    ProgramInterrupted, Stop, counted, discard_output, escape_character, format_error, print_stderr)
+    BUG, ProgramInterrupted, RESOURCE, SIGNAL, Stop, classify_error, counted, discard_output,
+    escape_character, format_error, print_stderr)
 from ..common.files import (
     Inputs, STANDARD_OUTPUTS, Stamp, add_name_to_errors, describe_kind, is_replaced,
     make_temporary_folder, open_output, open_result, read_first_bytes, read_stamp,
@@ -25,7 +26,7 @@ from ..judging.causes import format_cause_counts
 from ..judging.faults import list_hints
 from ..judging.pair import PairJudge
 from ..judging.status import ACCEPTED, NOT_JUDGED, RELATIVE, Severity, VALID
-from ..judging.verdict import Unjudged, Verdict
+from ..judging.verdict import FailedOutput, Unjudged, Verdict
 from ..recording.recording import Recording
 from ..request.commands import (
     CommandPaths, Listener, LOCK, OutputNames, PartFiles, Progress, Printer, list_pair_files,
@@ -47,6 +48,8 @@ KEPT_SECONDS = 600  # maximum number of seconds from writing a recording to writ
 
 class FilesInUse(Stop):
     """Raised if another run of qc is already writing the same output files."""
+
+    kind = RESOURCE
 
 
 def refuse_pair_files(folder: str, name: str, inputs: Inputs, parts: PartFiles | None = None
@@ -264,20 +267,21 @@ def judge_pair(pair: PairJudge, files: OutputFiles) -> None:
         files.call.examine(verdict)
         verdict.hints = [*dict.fromkeys(list_hints(verdict))]  # parts may share a hint
     except Unclear as unclear:
-        verdict.unjudged = Unjudged(unclear.reason, unclear.commands,
+        verdict.unjudged = Unjudged(unclear.reason, unclear.kind, unclear.commands,
                                     isinstance(unclear, IncompleteAnswer))
     except Exception as reason:  # any error means that the pair is not judged
-        verdict.unjudged = Unjudged(format_error(reason), is_temporary=isinstance(
+        verdict.unjudged = Unjudged(format_error(reason), classify_error(reason),
+                                    is_temporary=isinstance(
             reason, (ProgramInterrupted, OSError, MemoryError)))
     except KeyboardInterrupt:
         ignore_signals()  # so that the known faults can be written
-        verdict.unjudged = Unjudged(f"stopped at {pair.stop(now())}", is_stopped=True)
+        verdict.unjudged = Unjudged(f"stopped at {pair.stop(now())}", SIGNAL, is_stopped=True)
     verdict.seconds = round(time.monotonic() - start_time, 3)
     try:
         files.write(pair.recording)
     except KeyboardInterrupt as reason:
         ignore_signals()
-        verdict.failed_outputs.append(format_error(reason))
+        verdict.add_failed_output(reason)
         files.write(pair.recording)
 
 
@@ -287,13 +291,13 @@ def report_pair(verdict: Verdict, printer: Printer, files: OutputFiles) -> None:
         print_verdict(verdict, printer, files.page)
     except KeyboardInterrupt as reason:
         ignore_signals()
-        verdict.failed_outputs.append(format_error(reason))
+        verdict.add_failed_output(reason)
         files.rewrite_outputs()
         print_verdict(verdict, printer, files.page)
     except Exception as reason:
-        verdict.failed_outputs.append(format_error(reason))
+        verdict.add_failed_output(reason)
         files.rewrite_outputs()
-        print_stderr(verdict.failed_outputs[-1])
+        print_stderr(verdict.failed_outputs[-1].reason)
         discard_output(printer.out)
 
 
@@ -411,8 +415,8 @@ class OutputFiles:
         if changed:
             self.stamps = {}  # report each change only once
             self.verdict.failed_outputs += [
-                f"{name} changed while it was judged: judge it again when it is complete"
-                for name in changed]
+                FailedOutput(f"{name} changed while it was judged: judge it again when it is "
+                             "complete", RESOURCE) for name in changed]
             self.rewrite_outputs()
 
     def rewrite_outputs(self) -> None:
@@ -427,9 +431,10 @@ class OutputFiles:
         try:
             self.write_output(output)
         except Exception as reason:
-            self.verdict.failed_outputs.append(format_error(reason))
+            self.verdict.add_failed_output(reason)
             if output.is_json and not isinstance(reason, (Stop, OSError)):
-                known = make_unjudged(self.names.name, self.verdict.unjudged_reason or "")
+                known = make_unjudged(self.names.name, self.verdict.unjudged_reason or "",
+                                      self.verdict.not_judged_kind or BUG)
                 self.write_output(output._replace(make_chunks=lambda: iter([encode_result(known)])))
             return False
         return True

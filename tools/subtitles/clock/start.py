@@ -12,7 +12,7 @@ from ..common.times import (
 from ..formats.stl import GSI
 from ..request.request import ORIGIN_CHOICE, Request, Selection, Unclear
 from ..stream.packets import Packets, Range
-from ..stream.survey import Survey
+from ..stream.survey import ProgramMap, Survey
 
 
 RECORDING, GIVEN, START, TCP = "recording", "given", "start", "tcp"
@@ -131,13 +131,18 @@ class StartClock(NamedTuple):
 
 
 def find_video(survey: Survey, teletext: int) -> tuple[int, int]:
-    """Return the video PID that belongs to a Teletext PID, and its stream_type. Raise
-    `NoFirstPicture` if there is not exactly one, or if its format is not supported."""
-    programmes = survey.find_programmes(teletext)
+    """Return the video PID that belongs to a Teletext PID, and its stream_type. If a programme's
+    PMT moves the video, use the first PMT. Raise `NoFirstPicture` if there is not exactly one video
+    PID, or if its format is not supported."""
+    programmes, known = survey.find_programmes(teletext), NAMES | OTHER_STREAM_TYPES
     if not programmes:
         raise NoFirstPicture(f"no PMT names {format_pid(teletext)}")
-    kinds = {pid: kind for program_map in programmes for pid, kind in program_map.kinds.items()}
-    known = NAMES | OTHER_STREAM_TYPES
+    maps: dict[int, ProgramMap] = {}  # the first PMT of each programme that names a video
+    for program_map in programmes:
+        known_map = maps.setdefault(program_map.number, program_map)
+        if known.keys().isdisjoint(known_map.kinds.values()):
+            maps[program_map.number] = program_map
+    kinds = {pid: kind for program_map in maps.values() for pid, kind in program_map.kinds.items()}
     stream_texts = ", ".join(f"{format_pid(pid)} {known.get(kind, f'stream_type {kind:02X}')}"
                              for pid, kind in sorted(kinds.items()))
     videos = {pid: kind for pid, kind in kinds.items() if kind in known}

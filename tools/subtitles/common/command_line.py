@@ -1,4 +1,4 @@
-"""Parse the arguments of a tool, print its messages, and exit with status 0, 1 or 2."""
+"""Parse the arguments of a tool, print its messages, and choose its exit status."""
 from __future__ import annotations
 
 import argparse
@@ -28,12 +28,70 @@ PACKET_SIZE, PACKET_SIZES = 188, (188, 192, 204)  # bytes from one TS packet to 
 HOME = os.path.realpath(os.path.join(os.path.dirname(__file__), "..", "..", ".."))
 
 
-class Stop(Exception):
-    """Raised to exit a tool with status 2. The message is printed on standard error."""
+# Why a pair was not judged, or why a tool ended early. `usage`: its arguments are wrong, which can
+# be said without looking at a file. `input`: a file, a folder or a list is missing or wrong.
+# `undecided`: all was read, but it does not decide a verdict. `resource`: a device, memory, a time
+# limit or another process prevented it, so another run may succeed. `bug`: a tool or the program
+# has a bug.
+USAGE, INPUT, UNDECIDED, RESOURCE, SIGNAL, BUG = KINDS = (
+    "usage", "input", "undecided", "resource", "signal", "bug")
+USAGE_STATUS, BUG_STATUS, OTHER_STATUS = 64, 70, 2  # the first two are those of sysexits.h
+STATUSES_BY_KIND = {kind: OTHER_STATUS for kind in KINDS} | {USAGE: USAGE_STATUS, BUG: BUG_STATUS}
+# Errors of the operating system that say that a path is wrong
+PATH_ERRORS = (FileNotFoundError, FileExistsError, IsADirectoryError, NotADirectoryError,
+               PermissionError)
+# Signals by which a program with a bug ends
+CRASH_SIGNALS = {signal.SIGABRT, signal.SIGBUS, signal.SIGFPE, signal.SIGILL, signal.SIGSEGV,
+                 signal.SIGSYS, signal.SIGTRAP}
+
+
+class ReportedError(Exception):
+    """An error that is not a bug. `kind` is one of `KINDS`."""
+
+    kind = INPUT
+
+
+class Stop(ReportedError):
+    """Raised to exit a tool. The message is printed on standard error."""
+
+
+class UsageError(Stop):
+    """Raised if arguments are wrong, whatever the files contain."""
+
+    kind = USAGE
+
+
+class WrongAnswer(Stop):
+    """Raised if the program's output is not in its documented form."""
+
+    kind = BUG
 
 
 class ProgramInterrupted(Stop):
     """Raised if the program ended, or was killed, before its output was complete."""
+
+    def __init__(self, text: str, exit_status: int) -> None:
+        super().__init__(text)
+        self.kind = classify_program_end(exit_status)
+
+
+def classify_program_end(exit_status: int) -> str:
+    """Return the kind of error if the program ended without a complete answer. The exit status is
+    negative after a signal."""
+    if exit_status < 0:
+        return BUG if -exit_status in CRASH_SIGNALS else SIGNAL
+    return RESOURCE if exit_status == OTHER_STATUS else BUG
+
+
+def classify_error(reason: BaseException) -> str:
+    """Return the kind of the error that an exception reports."""
+    if isinstance(reason, ReportedError):
+        return reason.kind
+    if isinstance(reason, KeyboardInterrupt):
+        return SIGNAL
+    if isinstance(reason, PATH_ERRORS):
+        return INPUT
+    return RESOURCE if isinstance(reason, (OSError, MemoryError)) else BUG
 
 
 def version() -> str:
@@ -46,8 +104,8 @@ def version() -> str:
 
 
 class ToolParser(argparse.ArgumentParser):
-    """An argument parser that raises `Stop` for wrong arguments. `text` is the beginning of its
-    help. The parser for a line of a list has no `text` and no --help."""
+    """An argument parser that raises `UsageError` for wrong arguments. `text` is the beginning of
+    its help. The parser for a line of a list has no `text` and no --help."""
 
     def __init__(self, text: str | None) -> None:
         self.fields: dict[str, str] = {}  # names of the fields, by option
@@ -86,7 +144,7 @@ class ToolParser(argparse.ArgumentParser):
         (file or sys.stderr).write(message)
 
     def error(self, message: str) -> NoReturn:
-        raise Stop(message)
+        raise UsageError(message)
 
 
 def decode_page(text: str) -> tuple[int, int] | None:
@@ -322,7 +380,7 @@ def print_stderr(line: str) -> None:
 
 def run(main: Callable[[list[str]], int]) -> NoReturn:
     """Call `main` with the command-line arguments and exit with its status."""
-    status = 2
+    status = OTHER_STATUS
     with contextlib.suppress(KeyboardInterrupt):  # a second signal may raise it
         status = run_main(main, sys.argv[1:])
         signal.signal(signal.SIGINT, signal.SIG_IGN)  # a signal must not change the exit status
@@ -330,14 +388,15 @@ def run(main: Callable[[list[str]], int]) -> NoReturn:
 
 
 def run_main(main: Callable[[list[str]], int], words: Sequence[str]) -> int:
-    """Call `main` and return its status. After an exception, print one line and return 2."""
+    """Call `main` and return its status. After an exception, print one line and return the status
+    of its kind."""
     try:
         if sys.stdout is None:
             raise Stop("standard output is closed")
         status = call_main(main, words)
         sys.stdout.flush()
     except (Exception, KeyboardInterrupt) as reason:
-        status = 2
+        status = STATUSES_BY_KIND[classify_error(reason)]
         with contextlib.suppress(KeyboardInterrupt):  # a second signal may raise it
             print_stderr(format_error(reason))
         with contextlib.suppress(KeyboardInterrupt):
@@ -365,7 +424,7 @@ def format_error(reason: BaseException) -> str:
             "name"
         return f"{output_name}: {reason.strerror or ' '.join(str(reason).split())}"
     text = " ".join(str(reason).split())
-    if isinstance(reason, Stop):
+    if isinstance(reason, ReportedError):
         return text
     if os.environ.get("SUBTTX_DEBUG") == "1":
         traceback.print_exception(reason)

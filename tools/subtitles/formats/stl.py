@@ -7,7 +7,7 @@ import re
 from dataclasses import dataclass
 from typing import Collection, Iterable, Iterator, NamedTuple, Sequence
 
-from ..common.command_line import Stop, print_stderr
+from ..common.command_line import Stop, WrongAnswer, print_stderr
 from ..common.files import DamagedFile, read_first_bytes
 from ..common.times import (
     ALL_DAY, FRAMES_OF_A_DAY, FrameRange, count_until, decode_frame, decode_time, parse_frame)
@@ -177,7 +177,7 @@ def parse_subtitles(lines: Sequence[str]) -> list[Subtitle]:
     last = "".join(lines[-1:])
     fault = parse_fault_line(last)
     if not (fault and fault.is_fault) and last.split(" ")[0] != str(len(subtitles)):
-        raise Stop(f"`show` printed no list of subtitles: {last or 'it printed nothing'}")
+        raise WrongAnswer(f"`show` printed no list of subtitles: {last or 'it printed nothing'}")
     return subtitles
 
 
@@ -198,7 +198,7 @@ def parse_subtitle(index: int, line: str) -> Subtitle:
     match = SHOW_LINE.fullmatch(line)
     begin, end = (parse_frame(match[name]) if match else None for name in ("begin", "end"))
     if not match or begin is None or end is None:
-        raise Stop(f"`show` printed no subtitle: {line}")
+        raise WrongAnswer(f"`show` printed no subtitle: {line}")
     text = b"" if match["text"] == NO_TEXT else bytes.fromhex(match["text"])
     return Subtitle(index, int(match["number"]), begin, end, int(match["row"]),
                     int(match["justify"]), text)

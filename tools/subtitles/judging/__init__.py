@@ -10,7 +10,8 @@ subtitles      refused subtitles, advice on them, and the subtitles that are jud
 cues           when each subtitle was expected, and when a receiver decoded it
 part           a part of a pair, with its frames, PES packets and faults
 unchecked      kinds of what was not checked, and pictures that were not compared
-timing         the parts of a recording: clocks, PES packets and their intervals, pictures
+desync         pictures that drift from the subtitles
+timing         the parts of a recording: clocks, PES packets and their intervals
 verdict        the verdict on a pair, with its texts, gaps and delays
 coverage       a list of everything that was not checked
 faults         the faults of a verdict, with their places, details and hints

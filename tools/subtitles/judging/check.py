@@ -132,7 +132,7 @@ class CheckOutput:
         if self.verdict == NOT_JUDGED:
             line = self.last_line if self.unknown_line is None else self.unknown_line
             raise IncompleteAnswer(
-            f"{NOT_ANSWERED}: {line or 'it printed nothing'}, status {status}")
+                f"{NOT_ANSWERED}: {line or 'it printed nothing'}, status {status}", status)
 
     def close_file(self) -> None:
         """Close the file before `check` has ended. The list remains incomplete."""

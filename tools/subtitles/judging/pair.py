@@ -20,10 +20,11 @@ from ..recording.notices import NeverSent, Notice, refuse_dead_source, refuse_ot
 from ..recording.recording import Recording, refuse_files
 from ..request.commands import CommandPaths, Listener, OutputNames, make_qc_command
 from ..request.request import (
-    OPTION_CHOICE, Request, Selection, Unclear, IncompleteAnswer, describe_option)
+    OPTION_CHOICE, Request, Selection, Unclear, IncompleteAnswer, WrongInput, describe_option)
 from ..stream.packets import HEADER, Range
 from .causes import Causes
 from .check import CheckOutput, check_file_alone, print_file_check_command, run_check
+from .desync import find_desync
 from .faults import LENGTH_FAULTS, describe_block_subtitle, describe_first_hint, describe_hint
 from .pages import describe_drawing_differences, find_hidden_rows, may_hide_rows
 from .part import Part, choose_parts, find_part_causes, refuse_missing_subtitles, report_causes
@@ -31,7 +32,7 @@ from .sentence import WorstFault
 from .status import NOT_ANSWERED, REFUSED, VALID
 from .subtitles import advise_on_title, draw_valid_pages, find_valid_subtitles, has_valid_subtitles
 from .timing import (
-    NO_CLOCK, PartClocks, PartSearch, find_desync, find_part_packets, find_parts, get_given_clock,
+    NO_CLOCK, PartClocks, PartSearch, find_part_packets, find_parts, get_given_clock,
     measure_part_pace)
 from .transmissions import ExpectedPages, count_keeping_headers, read_subtitles, schedule_pages
 from .verdict import DELAYING_FAULTS, Verdict, find_gaps, measure_delay
@@ -225,7 +226,7 @@ class PairJudge:
         answer = check_file_alone(self.request, self.command_paths.program_path, self.names)
         if answer.verdict != REFUSED or not answer.fault_numbers <= STL_FAULTS | {EMPTY}:
             raise IncompleteAnswer(
-                f"{NOT_ANSWERED}: {answer.last_line}, though there is no PES packet")
+                f"{NOT_ANSWERED}: {answer.last_line}, though there is no PES packet", 1)
         return answer
 
     def find_valid_subtitles(self, answer: CheckOutput) -> CheckOutput:
@@ -278,7 +279,7 @@ class PairJudge:
             period_text = "" if between == ALL_DAY else \
                 f" with a TCI at {format_frame(between.begin)} or later and before " \
                 f"{format_frame(between.end)}"
-            raise Unclear(f"{self.request.stl} has no subtitle{period_text}")
+            raise WrongInput(f"{self.request.stl} has no subtitle{period_text}")
         return subtitles
 
     @functools.cached_property

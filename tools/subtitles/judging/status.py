@@ -3,7 +3,8 @@ from __future__ import annotations
 
 from typing import Collection, Iterable, NamedTuple, Sequence
 
-from ..common.command_line import Stop
+from ..common.command_line import (
+    BUG, BUG_STATUS, OTHER_STATUS, STATUSES_BY_KIND, Stop, UNDECIDED, USAGE_STATUS)
 from ..common.files import read_bounded_bytes
 from ..formats.listing import ENDS_FILE, ENDS_READING, FAULT_NAMES, LOST_PACKETS, SILENT
 from ..request.lines import MAX_PROFILE_BYTES, decode_text
@@ -72,10 +73,12 @@ REFUSED = "refused"
 LOST = "lost"  # no errors, but TS packets were lost
 WARNED = "warned"  # no errors, but --strict does not accept warnings
 NOT_JUDGED = "not judged"
-STATUSES = {ACCEPTED: 0, VALID: 0, WAIVED: 0, REFUSED: 1, LOST: 1, WARNED: 1, NOT_JUDGED: 2,
-            RELATIVE: 3}
-POSSIBLE_RESULTS = [*STATUSES.items(), (RELATIVE, 0)]  # the last entry is for --relative
-STATUS_ORDER = (2, 1, 3, 0)
+STATUSES = {ACCEPTED: 0, VALID: 0, WAIVED: 0, REFUSED: 1, LOST: 1, WARNED: 1,
+            NOT_JUDGED: OTHER_STATUS, RELATIVE: 3}
+# `relative` has status 0 with --relative. The kind decides the status of `not judged`.
+POSSIBLE_RESULTS = [*STATUSES.items(), (RELATIVE, 0), (NOT_JUDGED, USAGE_STATUS),
+                    (NOT_JUDGED, BUG_STATUS)]
+STATUS_ORDER = (BUG_STATUS, USAGE_STATUS, OTHER_STATUS, 1, 3, 0)
 
 NOT_ANSWERED = "check gave no verdict"
 NOT_CHECKED = "required but not checked"
@@ -104,9 +107,9 @@ class Grounds(NamedTuple):
     judged_losses: Sequence[bool] = ()
     warnings: Sequence[str] = ()
     is_strict: bool = False
-    reasons: Sequence[str] = ()  # why the pair was not judged
-    # Outputs that could not be written, or would describe other files than the judged ones
-    failed_outputs: Sequence[str] = ()
+    # Why the pair was not judged, or which outputs could not be written, or would describe other
+    # files than the judged ones: the kind of each such error
+    error_kinds: Sequence[str] = ()
     named_faults: Sequence[str] = ()
     # Whether the clock was given, or there is no recording. Without a clock, a delay that all
     # subtitles share can't be detected, so the best verdict is `relative`.
@@ -121,12 +124,15 @@ class Decision(NamedTuple):
     """A verdict in one word."""
 
     word: str
-    reason: str | None = None  # why the pair is not judged, unless `Grounds.reasons` says why
+    reason: str | None = None  # why the pair is not judged, unless an error is the reason
+    not_judged_kind: str | None = None
     is_relative_allowed: bool = False
 
     @property
     def status(self) -> int:
         """Return the exit status of the verdict."""
+        if self.not_judged_kind:
+            return STATUSES_BY_KIND[self.not_judged_kind]
         return 0 if self.word == RELATIVE and self.is_relative_allowed else STATUSES[self.word]
 
 
@@ -151,21 +157,21 @@ def decide(grounds: Grounds) -> Decision:
     number, for example a page that is never sent, counts even if there are no parts.
     """
     words = [decide_part(part) for part in grounds.parts]
-    if grounds.reasons or grounds.failed_outputs:
-        return Decision(NOT_JUDGED)
+    if grounds.error_kinds:
+        return Decision(NOT_JUDGED, not_judged_kind=find_worst_kind(grounds.error_kinds))
     if not words and not grounds.named_faults or NOT_JUDGED in words:
-        return Decision(NOT_JUDGED, NOT_ANSWERED)
+        return Decision(NOT_JUDGED, NOT_ANSWERED, BUG)
     faults: list[int | str] = [number for part in grounds.parts for number in part.fault_numbers]
     if any(grounds.severity.is_error(fault) for fault in [*faults, *grounds.named_faults]):
         return Decision(REFUSED)
     if not words or not all(part.is_read for part in grounds.parts):
-        return Decision(NOT_JUDGED, NOTHING_READ)
+        return Decision(NOT_JUDGED, NOTHING_READ, UNDECIDED)
     if any(grounds.judged_losses) and grounds.severity.is_error(LOST_PACKETS):
         return Decision(LOST)
     if grounds.doubts:
-        return Decision(NOT_JUDGED, "\n".join(grounds.doubts))
+        return Decision(NOT_JUDGED, "\n".join(grounds.doubts), UNDECIDED)
     if grounds.missing_kinds:
-        return Decision(NOT_JUDGED, f"{NOT_CHECKED}: {', '.join(grounds.missing_kinds)}")
+        return Decision(NOT_JUDGED, f"{NOT_CHECKED}: {', '.join(grounds.missing_kinds)}", UNDECIDED)
     if grounds.warnings and grounds.is_strict:
         return Decision(WARNED)
     if VALID in words:
@@ -175,6 +181,11 @@ def decide(grounds: Grounds) -> Decision:
     return Decision(WAIVED if REFUSED in words or grounds.named_faults else ACCEPTED)
 
 
+def find_worst_kind(kinds: Iterable[str]) -> str:
+    """Return the first kind of error whose exit status is the worst."""
+    return min(kinds, key=lambda kind: STATUS_ORDER.index(STATUSES_BY_KIND[kind]))
+
+
 def matches_exit_status(word: str, status: int, exit_status: int) -> bool:
     """Return whether a run of qc ended with the exit status in its JSON result, which is `status`,
     and whether the verdict `word` permits this status."""
@@ -182,9 +193,10 @@ def matches_exit_status(word: str, status: int, exit_status: int) -> bool:
 
 
 def combine_statuses(statuses: Iterable[int], is_stopped: bool = False) -> int:
-    """Return the exit status for several verdicts, which is the worst of their statuses. Return 2
-    if there is no verdict, or if `is_stopped` is true because pairs are missing."""
-    found = {*statuses}
-    if is_stopped or not found or not found <= {*STATUS_ORDER}:
-        return 2
+    """Return the exit status for several verdicts, which is the worst of their statuses. An unknown
+    status counts as 2. So do pairs that are missing, because `is_stopped` is true or because there
+    is no pair."""
+    found = {status if status in STATUS_ORDER else OTHER_STATUS for status in statuses}
+    if is_stopped or not found:
+        found.add(OTHER_STATUS)
     return min(found, key=STATUS_ORDER.index)

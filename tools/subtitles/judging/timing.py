@@ -1,4 +1,4 @@
-"""Find the parts of a recording, their clocks and PES packets, and the drift of pictures."""
+"""Find the parts of a recording, their clocks and PES packets."""
 from __future__ import annotations
 
 import dataclasses
@@ -14,7 +14,6 @@ from ..common.command_line import Stop, counted, format_error, format_pid
 from ..common.times import (
     FRAMES_A_SECOND, FRAMES_OF_A_DAY, TICKS, describe_duration, format_frame, pts_of,
     subtract_origin, subtract_pts, subtract_pts_within, wrap_pts)
-from ..formats.listing import NamedFault, PICTURES_LEFT
 from ..recording.recording import Recording
 from ..request.commands import Listener
 from ..request.request import (
@@ -24,10 +23,8 @@ from ..stream.pace import (
     find_hidden_loss, find_pauses, list_frame_rows)
 from ..stream.packets import NO_RANGE, PTSPair, Range, find_announced_jumps
 from ..stream.ranges import PacketRange, find_range
-from ..stream.pictures import Departure, locate_changes_of_video, locate_departures
-from ..stream.survey import Survey
 from .part import Part
-from .unchecked import Unchecked, find_unchecked, make_irregular_video, make_unclear_places
+from .unchecked import Unchecked
 
 
 NO_CLOCK = Clock(0, RECORDING)  # a placeholder until the clock is known
@@ -329,107 +326,3 @@ def describe_missing_pcr(recording: Recording) -> str:
         return ""
     return "losses that the counter does not show, such as 16 TS packets, since the programme of " \
         f"{format_pid(recording.packets.pid)} has no PCR"
-
-
-# Viewers notice if subtitles and pictures drift apart, but the Teletext PTS do not show the drift.
-
-class DesyncFindings(NamedTuple):
-    """The faults of pictures that drift from the subtitles, notes about drifts that --within
-    allows, entries about what was not checked, and whether any picture was compared."""
-
-    faults: list[NamedFault]
-    notes: list[str]
-    unchecked: list[Unchecked]
-    is_made: bool
-
-
-def find_desync(survey: Survey, pid: int, alignment: TimedPart, within: int, number: int,
-                sent: Sequence[int] = ()) -> DesyncFindings:
-    """Find where pictures drift from the subtitles on the Teletext PID `pid`, in part `number`.
-    `sent` has the PTS of the judged PES packets."""
-    kinds = {pid for programme in survey.find_programmes(pid) for pid in programme.kinds}
-    by_video = {video: leads for (own, video), leads in survey.leads.items()
-                if own == pid and video in kinds}
-    several = [*by_video.values()]
-    faults, notes, unclear = list[NamedFault](), list[str](), list[Departure]()
-    unchecked = [*find_unchecked(survey, pid, by_video, alignment, sent, number)] if sent else []
-    for leads in several:
-        departure_places = locate_departures(leads)
-        inside = find_departures(departure_places or [], alignment)
-        departed = [departure for departure in inside if departure.ticks]
-        faults += make_desync_faults(departed, alignment, within, number)
-        notes += make_delay_notes(departed, alignment, within)
-        unclear += [departure for departure in inside if not departure.ticks]
-        if departure_places is None:
-            unchecked.append(make_irregular_video(number))
-    unclear += find_departures(locate_changes_of_video(several), alignment)
-    unchecked += make_unclear_places(unclear, alignment.origin, number)
-    return DesyncFindings(faults, notes, unchecked, any(by_video.values()))
-
-
-def find_departures(several: Sequence[Departure], alignment: TimedPart) -> list[Departure]:
-    """Return the drifts within a part and, if the clock comes from the first picture, between this
-    picture and the part. If a drift may be outside the part, its `ticks` are `None`."""
-    first = pts_of(alignment.begin, alignment.origin)
-    length = TICKS * (alignment.end - alignment.begin)
-    is_of_picture = alignment.clock.source in (START, TCP)
-    found = []
-    for departure in several:
-        at, begin_ticks = (subtract_pts_within(first, length, pts)
-                           for pts in (departure.pts, departure.earlier_pts))
-        if begin_ticks < length and (at >= 0 or is_of_picture):
-            is_inside = at < length and (begin_ticks >= 0 or is_of_picture)
-            found.append(departure if is_inside else departure._replace(ticks=None))
-    return found
-
-
-class Desync(NamedTuple):
-    """The frames `range(first, end)`, in which subtitles are `ticks` early for viewers, or late if
-    `ticks` is negative."""
-
-    first: int
-    end: int
-    ticks: int
-
-    def describe(self) -> str:
-        """Return a clause that describes the fault."""
-        count = counted(abs(self.ticks) // TICKS, "frame") if self.ticks % TICKS == 0 else \
-            f"{abs(self.ticks) / TICKS:.1f} frames"
-        return f"from {format_frame(self.first)} on, subtitles are {count} " \
-            f"{'early' if self.ticks > 0 else 'late'} for viewers: the video's timestamps jump"
-
-
-def find_desync_spans(several: Sequence[Departure], alignment: TimedPart) -> Iterator[Desync]:
-    """Yield the frames in which the sum of all drifts makes subtitles early or late."""
-    first = pts_of(alignment.begin, alignment.origin)
-    length, total = alignment.end - alignment.begin, 0
-    frames = [alignment.begin + max(subtract_pts_within(first, TICKS * length, item.pts),
-                                    0) // TICKS
-              for item in several]
-    for departure, frame, end in zip(several, frames, [*frames[1:], alignment.end]):
-        total += departure.ticks or 0
-        if abs(total) * 2 >= TICKS and frame < end:
-            yield Desync(frame, end, total)
-
-
-def is_allowed_delay(ticks: int, within: int) -> bool:
-    """Return whether subtitles are late by at most `within` frames. `ticks` is negative if they are
-    late."""
-    return -TICKS * within <= ticks < 0
-
-
-def make_desync_faults(several: Sequence[Departure], alignment: TimedPart, within: int,
-                       number: int) \
-        -> list[NamedFault]:
-    """Return faults for subtitles that are early, or later than allowed."""
-    return [NamedFault(PICTURES_LEFT, desync_span.describe(), format_frame(desync_span.first),
-                       format_frame(desync_span.end - 1), part=number)
-            for desync_span in find_desync_spans(several, alignment)
-            if not is_allowed_delay(desync_span.ticks, within)]
-
-
-def make_delay_notes(several: Sequence[Departure], alignment: TimedPart, within: int) -> list[str]:
-    """Return notes about subtitles whose delay is within the limit of --within."""
-    return [f"{desync_span.describe()}, as --within {within} allows"
-            for desync_span in find_desync_spans(several, alignment)
-            if is_allowed_delay(desync_span.ticks, within)]

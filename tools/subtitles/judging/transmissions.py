@@ -229,7 +229,8 @@ def run_program(program: str, *arguments: str) -> list[str]:
                              stdout=subprocess.PIPE, encoding="utf-8", errors="replace")
     lines = process.stdout.splitlines()
     if process.returncode and f"refused {NO_SUBTITLE_FAULT} " not in "".join(lines[-1:]):
-        raise IncompleteAnswer(f"{arguments[0]} gave no result: {''.join(lines[-1:])}")
+        raise IncompleteAnswer(f"{arguments[0]} gave no result: {''.join(lines[-1:])}",
+                               process.returncode)
     return lines
 
 

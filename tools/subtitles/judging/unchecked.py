@@ -1,6 +1,7 @@
 """Where it was not checked whether the pictures drift from the subtitles."""
 from __future__ import annotations
 
+import bisect
 import statistics
 from typing import Collection, Iterator, Mapping, NamedTuple, Sequence
 
@@ -9,7 +10,7 @@ from ..common.checks import (
     CHECKS, CLOCK, CheckState, DRIFT, HOLE, IRREGULAR, JUMP, LISTED, NO_VIDEO, PHRASES,
     PICTURE_KINDS, STEADY, UNREAD, decide_check)
 from ..common.command_line import counted, format_pid
-from ..common.times import TICKS, compute_time, subtract_pts
+from ..common.times import TICKS, compute_time, pts_of, subtract_pts, subtract_pts_within
 from ..stream.pictures import Departure, VideoLead, find_steady_change
 from ..stream.survey import Survey
 
@@ -18,6 +19,7 @@ ENHANCEMENTS = {0x1E, 0x1F, 0x20, 0x25}  # stream_types that add to another vide
 MAX_HOLE = 5 * 90_000  # longest time without a comparison that needs no mention, in ticks
 USUAL_INTERVALS = 3  # a hole is longer than this number of usual intervals of comparisons
 SECOND = 90_000
+MIN_LATE = 3  # minimum number of consecutive leads that show pictures behind the PCR
 # From this change of the mean lead on, pictures that were lost do not explain it: the pair is not
 # judged. A multiplexer changes its delay by less.
 MIN_UNJUDGED_CHANGE = 25 * TICKS
@@ -114,6 +116,28 @@ def find_holes(several: Sequence[Sequence[VideoLead]], pts: Sequence[int], origi
                             "a time stamp was read there", number, begin_time, end_time)
 
 
+def find_late_pictures(leads: Sequence[VideoLead], samples: Sequence[tuple[int, int]],
+                       origin: int, number: int) -> Iterator[Unchecked]:
+    """Yield the times in which the video's decoding times lie behind the PCR, as they do if
+    pictures were lost but the decoding times go on where they stopped. `samples` has PTS of
+    Teletext, and the number of ticks by which each is ahead of the PCR."""
+    first = leads[0].pts if leads else 0
+    ordered = sorted((subtract_pts(first, pts), ticks) for pts, ticks in samples)
+    times, late = [time for time, _ in ordered], list[int]()
+    for lead in [*leads, None]:
+        time = subtract_pts(first, lead.pts) if lead else 0
+        near = ordered[bisect.bisect_left(times, time - SECOND):
+                       bisect.bisect_right(times, time + SECOND)] if lead else []
+        if lead and near and max(ticks for _, ticks in near) - lead.ticks < -TICKS:
+            late.append(lead.pts)
+            continue
+        if len(late) >= MIN_LATE:
+            begin, end = compute_time(late[0], origin), compute_time(late[-1], origin)
+            yield Unchecked(JUMP, f"{DRIFT} from {begin} to {end}, where the video's decoding "
+                            "times lie behind the PCR: pictures may be lost", number, begin, end)
+        late.clear()
+
+
 def find_unchecked(survey: Survey, pid: int, by_video: Mapping[int, Sequence[VideoLead]],
                    alignment: TimedPart, pts: Sequence[int], number: int) -> Iterator[Unchecked]:
     """Yield what was not checked in part `number`, except places where decoding times jump.
@@ -123,7 +147,13 @@ def find_unchecked(survey: Survey, pid: int, by_video: Mapping[int, Sequence[Vid
         return
     yield from find_other_videos(survey, pid, by_video.keys(), number)
     yield from find_holes([*by_video.values()], pts, alignment.origin, number)
+    first = pts_of(alignment.begin, alignment.origin)
+    length = TICKS * (alignment.end - alignment.begin)
     for leads in by_video.values():
+        inside = [lead for lead in leads if 0 <= subtract_pts_within(first, length, lead.pts)
+                  < length]
+        yield from find_late_pictures(inside, survey.get_packets(str(pid)).samples,
+                                      alignment.origin, number)
         if ticks := find_steady_change(leads):
             yield Unchecked(STEADY, f"{DRIFT}: the delay between them changes steadily, by "
                             f"{abs(ticks) / TICKS:.1f} frames", number)
@@ -159,10 +189,11 @@ def list_check_entries(entries: Sequence[Unchecked], parts: Sequence[tuple[int, 
 
 
 def summarize_pictures(several: Sequence[Unchecked]) -> Iterator[str]:
-    """Yield texts about pictures that were not compared, with one text about all jumps. Leave out
-    programmes without video."""
+    """Yield texts about pictures that were not compared. Of all places where decoding times jump,
+    yield the text about the first, and the number of the others. Leave out programmes without
+    video."""
     yield from dict.fromkeys(item.text for item in several if item.has_video and item.kind != JUMP)
-    if count := sum(item.kind == JUMP for item in several):
-        yield f"{DRIFT} at {counted(count, 'place')} where the video's decoding times " \
-            "jump: the multiplexer's delay varies, pictures are lost too, or the place is within " \
-            "a second of the programme's beginning or end"
+    jumps = [item.text for item in several if item.kind == JUMP]
+    if jumps:
+        more = f"; and at {counted(len(jumps) - 1, 'more place')}" if len(jumps) > 1 else ""
+        yield jumps[0] + more

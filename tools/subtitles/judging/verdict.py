@@ -8,7 +8,8 @@ from typing import Callable, Collection, Iterable, NamedTuple, Sequence
 from ..clock.start import ESTIMATED_LATER_NOTE, ESTIMATED_NOTE, advise_on_clock
 from ..common.checks import (
     CHECK_KINDS, CLOCK, CheckState, LOSSES, PICTURES, SEAM, find_missing_kinds)
-from ..common.command_line import format_frame_range, was
+from ..common.command_line import (
+    RESOURCE, classify_error, format_error, format_frame_range, was)
 from ..common.files import SummedFile
 from ..common.times import compute_time
 from ..formats.listing import (
@@ -124,12 +125,22 @@ class Gap:
 
 
 class Unjudged(NamedTuple):
-    """The reason why a pair is not judged, in one or more lines, and commands to suggest."""
+    """The reason why a pair is not judged, in one or more lines, the kind of error, and commands to
+    suggest."""
 
     reason: str
+    kind: str
     suggestions: tuple[str, ...] = ()
     is_temporary: bool = False  # whether a system error is the reason, so another run may succeed
     is_stopped: bool = False  # whether a signal stopped the run
+
+
+class FailedOutput(NamedTuple):
+    """The reason why an output could not be written, or would describe files other than the judged
+    ones, and the kind of error."""
+
+    reason: str
+    kind: str
 
 
 @dataclasses.dataclass
@@ -159,8 +170,7 @@ class Verdict:
     recording: SummedFile | None = None
     is_kept: bool = False  # whether the judged files are kept
     unjudged: Unjudged | None = None  # set if the pair is not judged
-    # Outputs that could not be written, or that would describe files other than the judged ones
-    failed_outputs: list[str] = dataclasses.field(default_factory=list)
+    failed_outputs: list[FailedOutput] = dataclasses.field(default_factory=list)
     # State of the input files when judging began
     files_at_start: dict[str, object] = dataclasses.field(default_factory=dict)
     seconds: float = 0.0  # duration of judging
@@ -211,8 +221,8 @@ class Verdict:
         kinds = [*(warning.kind for warning in self.warnings), *[ESTIMATED] * is_later]
         return Grounds([part.summarize_check() for part in self.parts], self.severity,
                        [gap.is_judged and gap.place.gap_marker is None for gap in self.gaps], kinds,
-                       self.request.is_strict, [self.unjudged.reason] if self.unjudged else [],
-                       self.failed_outputs, [fault.name for fault in self.named_faults],
+                       self.request.is_strict, [item.kind for item in self.errors],
+                       [fault.name for fault in self.named_faults],
                        self.has_clock, self.request.is_relative_allowed,
                        [f"not checked {item.text}" for item in self.unchecked
                         if item.may_be_wrong] if self.severity.is_error(PICTURES_LEFT) else [],
@@ -254,12 +264,29 @@ class Verdict:
     def is_final(self) -> bool:
         """Return whether another run would give the same verdict. It may give another verdict after
         a system error, or if the run was stopped."""
-        known = self.unjudged
-        return not (known and (known.is_temporary or known.is_stopped) or self.failed_outputs)
+        return not (self.is_stopped or self.unjudged and self.unjudged.is_temporary
+                    or self.failed_outputs)
 
     @property
     def is_stopped(self) -> bool:
         return bool(self.unjudged and self.unjudged.is_stopped)
+
+    @property
+    def errors(self) -> list[Unjudged | FailedOutput]:
+        """Return the errors because of which the pair is not judged."""
+        return [*([self.unjudged] if self.unjudged else []), *self.failed_outputs]
+
+    @property
+    def not_judged_kind(self) -> str | None:
+        """Return the kind of error because of which the pair is not judged, if it is not."""
+        return self.decision.not_judged_kind
+
+    def add_failed_output(self, error: BaseException) -> None:
+        """Withdraw the verdict, since an output could not be written."""
+        kind = classify_error(error)
+        # A path was wrong after judging began, so it was right before.
+        self.failed_outputs.append(FailedOutput(format_error(error), RESOURCE if isinstance(
+            error, OSError) else kind))
 
     @property
     def suggestions(self) -> tuple[str, ...]:
@@ -273,8 +300,7 @@ class Verdict:
     @property
     def unjudged_reason(self) -> str | None:
         """Return the reason why the pair is not judged, or `None` if it is judged."""
-        reasons = [*([self.unjudged.reason] if self.unjudged else []), *self.failed_outputs]
-        return "\n".join(reasons) if reasons else self.decision.reason
+        return "\n".join(item.reason for item in self.errors) or self.decision.reason
 
     @property
     def sentence(self) -> str:

@@ -12,7 +12,7 @@ from typing import Iterable, NamedTuple
 from ..cli.single import make_verdict
 from ..clock.start import Clock, GIVEN, NoFirstPicture, compute_start_clock
 from ..common.command_line import (
-    Stop, ToolParser, counted, decode_page, escape_hidden, format_pid)
+    Stop, ToolParser, UsageError, counted, decode_page, escape_hidden, format_pid)
 from ..common.files import (
     Inputs, SummedFile, make_safe_name, make_temporary_folder, open_result, read_first_bytes,
     read_stamp)
@@ -139,7 +139,7 @@ class PageReader:
         except Unclear as reason:
             result.reason = "; ".join([*reason.reason.split("\n"),
                                        *(f"try: {command}" for command in reason.commands)])
-            verdict.unjudged = Unjudged(reason.reason)
+            verdict.unjudged = Unjudged(reason.reason, reason.kind)
         if read_stamp(self.args.recording) != stamp:
             result.reason = f"{self.args.recording} changed while it was read"
         return result
@@ -198,7 +198,7 @@ class PageReader:
                          found.reading, has_causes=True).judge()
         except Unclear as reason:
             found.reason = reason.reason
-            found.verdict.unjudged = Unjudged(reason.reason)
+            found.verdict.unjudged = Unjudged(reason.reason, reason.kind)
         return found
 
     def write(self, result: PageResult) -> None:
@@ -277,14 +277,15 @@ def main(text: str, program_name: str, words: list[str]) -> int:
     args = make_parser(text).parse_args(words)
     args.recording, args.out = make_safe_name(args.recording), args.out and make_safe_name(args.out)
     if args.origin is not None and args.start is not None:
-        raise Stop("--start and --origin both give the clock: remove one")
+        raise UsageError("--start and --origin both give the clock: remove one")
     if args.against is not None and args.origin is None and args.start is None:
-        raise Stop("--against needs --start or --origin: without a clock, a delay that all "
-                   "subtitles share can't be seen")
+        raise UsageError("--against needs --start or --origin: without a clock, a delay that all "
+                         "subtitles share can't be seen")
+    if args.start == "tcp":
+        raise UsageError("--start tcp needs a subtitle file: give the time code of the first "
+                         "picture")
     if args.against is not None:
         os.stat(args.against)
-    if args.start == "tcp":
-        raise Stop("--start tcp needs a subtitle file: give the time code of the first picture")
     if not stat.S_ISREG(os.stat(args.recording).st_mode):
         raise Stop(f"{args.recording} is not a file: store the recording first")
     printer = Printer(Progress())

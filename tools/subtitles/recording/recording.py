@@ -19,7 +19,7 @@ from ..formats.stl import describe_other_file
 from ..formats.teletext import START
 from ..request.commands import (
     CommandPaths, KEPT_PES, KEPT_TS, Listener, OutputNames, Printer, make_qc_command)
-from ..request.request import PID_CHOICE, Request, Selection, Unclear
+from ..request.request import PID_CHOICE, Request, Selection, Unclear, WrongInput
 from ..stream.gaps import (
     LossPlace, describe_gap_markers, explain_refusal, find_loss_places, find_recorded_range)
 from ..stream.packets import HEADER, PES, PTSPair, Packets
@@ -95,11 +95,11 @@ def refuse_files(request: Request) -> None:
     the recording is missing."""
     if not os.path.isfile(request.stl_path):
         name = request.stl.removeprefix("./") if request.stl.startswith("./-") else request.stl
-        raise Unclear(f"{name or 'an empty name'} does not exist or is not a file")
+        raise WrongInput(f"{name or 'an empty name'} does not exist or is not a file")
     if is_recording(request.stl_path):
-        raise Unclear(f"{request.stl} is a recording: give the subtitle file before it")
+        raise WrongInput(f"{request.stl} is a recording: give the subtitle file before it")
     if other_text := describe_other_file(request.stl_path):
-        raise Unclear(f"{request.stl} is {other_text}")
+        raise WrongInput(f"{request.stl} is {other_text}")
     if request.recording is not None and request.recording != STANDARD:
         os.stat(request.recording)
 
@@ -115,7 +115,8 @@ def refuse_stream(survey: Survey, name: str) -> None:
         raise Stop(f"{name} has PES packets of another kind than Teletext: stream_id "
                    f"{head[3]:02X} instead of BD")
     if survey.size is None:
-        raise Unclear(f"{name} is not a transport stream: packets of 188 bytes that begin with 47")
+        raise WrongInput(f"{name} is not a transport stream: packets of 188 bytes that begin with "
+                         "47")
 
 
 def find_unreadable_packets(survey: Survey) -> list[Packets]:

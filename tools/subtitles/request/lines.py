@@ -11,7 +11,8 @@ import os
 import re
 from typing import Any, Collection, Iterable, Iterator, Mapping, NamedTuple, Sequence
 
-from ..common.command_line import Stop, ToolParser, format_error
+from ..common.command_line import (
+    INPUT, Stop, ToolParser, UsageError, classify_error, format_error)
 from ..common.files import Inputs, read_bounded_bytes, describe_kind, make_safe_name
 from .commands import ListNames, make_pair_name
 from .request import (
@@ -227,7 +228,7 @@ def make_line_request(line: Sequence[str], defaults: argparse.Namespace,
     request = make_request(read_options(make_line_parser(), line, get_option_values(defaults),
                                         own_defaults, folder))
     if request.recording == "-":
-        raise Stop("a list can't have standard input (-) as a recording: give a file")
+        raise UsageError("a list can't have standard input (-) as a recording: give a file")
     return request
 
 
@@ -237,13 +238,14 @@ RECORDING_ENDINGS = (".ts", ".m2t", ".m2ts", ".mts", ".trp", ".pes")
 
 
 class BatchItem(NamedTuple):
-    """A pair in a batch. If the pair can't be judged, `request` is `None` and `reason` says why.
-    `files` lists all input files that the pair may have."""
+    """A pair in a batch. If the pair can't be judged, `request` is `None`, `reason` says why and
+    `reason_kind` is the kind of error. `files` lists all input files that the pair may have."""
 
     name: str
     request: Request | None
     reason: str | None
     files: Sequence[str | None] = ()
+    reason_kind: str = INPUT
 
 
 def read_pairs(path: str, defaults: argparse.Namespace) -> list[BatchItem]:
@@ -310,7 +312,7 @@ def make_item(name: str, stl: str, recording: str | None,
     try:
         request = make_file_request(stl, recording, defaults)
     except Stop as reason:
-        return BatchItem(name, None, str(reason), (stl, recording))
+        return BatchItem(name, None, str(reason), (stl, recording), classify_error(reason))
     return check_files(BatchItem(name, request, None))
 
 
@@ -363,12 +365,13 @@ def read_list_pairs(path: str, lines: Iterable[Line],
     for line in lines:
         try:
             if line.fault:
-                raise Stop(line.fault)
+                raise UsageError(line.fault)
             request = make_line_request(line.arguments, defaults, folder)
         except (Stop, ValueError) as reason:
             yield BatchItem(names.make_line_name(line.number), None,
                             f"{path}, line {line.number}: {reason}",
-                            list_possible_paths(line.arguments, folder))
+                            list_possible_paths(line.arguments, folder),
+                            classify_error(reason) if isinstance(reason, Stop) else INPUT)
             continue
         yield BatchItem(names.name_pair(request.stl), request, None)
 

@@ -10,7 +10,8 @@ from typing import Any, Callable, Iterable, Mapping, NamedTuple, Sequence
 
 from ..common.checks import CHECK_KINDS, parse_required_kinds
 from ..common.command_line import (
-    Lateness, MAX_EVERY, MAX_WITHIN, Stop, ToolParser, counted, escape_hidden, format_lateness,
+    INPUT, Lateness, MAX_EVERY, MAX_WITHIN, ReportedError, Stop, ToolParser, UNDECIDED, UsageError,
+    classify_program_end, counted, escape_hidden, format_lateness,
     parse_break_count, parse_lateness, parse_origin, parse_packet_range, parse_page,
     parse_pes_interval, parse_pid, parse_repeat_interval, parse_time, parse_within,
     validate_start_time)
@@ -419,15 +420,24 @@ def make_request(args: argparse.Namespace) -> Request:
 def make_file_request(stl: str, recording: str | None, options: argparse.Namespace) -> Request:
     """Return the request for a subtitle file and a recording, with parsed options."""
     recording_name = recording and (recording if recording == "-" else make_safe_name(recording))
-    if options.origin is not None and options.start is not None:
-        raise Stop("--start and --origin both give the clock: remove one")
-    if options.late and options.late.longest > options.within:
-        raise Stop(f"--late contains a delay of {counted(options.late.longest, 'frame')}, but "
-                   f"--within allows only {options.within}: increase --within")
+    if conflict := find_conflict(options):
+        raise (Stop if isinstance(options.profile, Profile) else UsageError)(conflict)
     request = Request(make_safe_name(stl), recording_name, **get_option_values(options))
     if request.option == AUTO and not is_pipe(request.stl):  # a pipe is read later
         choose_option(request)
     return request
+
+
+def find_conflict(options: argparse.Namespace) -> str | None:
+    """Return the message about options that contradict each other, or `None`. A profile that was
+    not read yet may set --within."""
+    if options.origin is not None and options.start is not None:
+        return "--start and --origin both give the clock: remove one"
+    if options.late and options.late.longest > options.within and \
+            not isinstance(options.profile, str):
+        return f"--late contains a delay of {counted(options.late.longest, 'frame')}, but " \
+            f"--within allows only {options.within}: increase --within"
+    return None
 
 
 def is_pipe(name: str) -> bool:
@@ -480,13 +490,26 @@ class Selection(NamedTuple):
     part: int | None = None  # `None` for all parts
 
 
-class Unclear(Exception):
+class Unclear(ReportedError):
     """Raised if a pair can't be judged. Contains the reason, and commands that may help."""
+
+    kind = UNDECIDED
 
     def __init__(self, reason: str, *commands: str) -> None:
         super().__init__(reason)
         self.reason, self.commands = reason, commands
 
 
+class WrongInput(Unclear):
+    """Raised if a file is missing, or is not what the pair needs."""
+
+    kind = INPUT
+
+
 class IncompleteAnswer(Unclear):
-    """Raised if the program ended, for example after a signal, before its output was complete."""
+    """Raised if the program ended, for example after a signal, before its output was complete. Its
+    exit status is negative after a signal."""
+
+    def __init__(self, reason: str, exit_status: int) -> None:
+        super().__init__(reason)
+        self.kind = classify_program_end(exit_status)

@@ -13,12 +13,14 @@ from typing import Any, Callable, Iterable, Iterator, NamedTuple, Sequence
 
 from ..clock.start import RECORDING
 from ..common.checks import CHECK_KINDS
-from ..common.command_line import Stop, format_error, escape_hidden_lines
+from ..common.command_line import (
+    BUG, BUG_STATUS, INPUT, RESOURCE, STATUSES_BY_KIND, Stop, USAGE, USAGE_STATUS, classify_error,
+    classify_program_end, escape_hidden_lines, format_error)
 from ..common.files import (
     is_replaced, open_output, open_result, read_bounded_bytes, read_first_bytes)
 from ..common.program import ProgramInfo
 from ..common.shapes import ListOf, Member, Members
-from ..judging.status import ACCEPTED, NOT_JUDGED, STATUSES, matches_exit_status
+from ..judging.status import ACCEPTED, NOT_JUDGED, matches_exit_status
 from ..judging.subtitles import SubtitleCounts
 from ..judging.verdict import Verdict
 from ..request.request import Request
@@ -102,12 +104,18 @@ class Row(NamedTuple):
         return self.verdict != NOT_JUDGED
 
 
-def make_unjudged(name: str, reason: str) -> dict[str, Any]:
-    """Return the result of a pair that was not judged. It contains no request."""
+def make_unjudged(name: str, reason: str, kind: str) -> dict[str, Any]:
+    """Return the result of a pair that was not judged because of an error of this kind. It contains
+    no request."""
     result: dict[str, Any] = NO_PAIR.to_json({
-        "format": FORMAT, "verdict": NOT_JUDGED, "status": STATUSES[NOT_JUDGED], "name": name,
-        "reason": reason or "no reason was given"})
+        "format": FORMAT, "verdict": NOT_JUDGED, "status": STATUSES_BY_KIND[kind],
+        "not_judged_kind": kind, "name": name, "reason": reason or "no reason was given"})
     return result
+
+
+def make_failed(name: str, error: BaseException) -> dict[str, Any]:
+    """Return the result of a pair that was not judged because of an exception."""
+    return make_unjudged(name, format_error(error), classify_error(error))
 
 
 def can_replace(path: str, prefix: bytes = b"{") -> bool:
@@ -144,12 +152,13 @@ def read_result(path: str, is_refused: bool = False) -> dict[str, Any] | None:
     try:
         result = read_json(path)
     except (Stop, OSError, ValueError) as reason:
-        return make_unjudged(name, f"its JSON result can't be read: {describe_error(reason)}")
+        return make_unjudged(name, f"its JSON result can't be read: {describe_error(reason)}",
+                             RESOURCE if classify_error(reason) == RESOURCE else INPUT)
     except RecursionError:
-        return make_unjudged(name, "its JSON result can't be read: it is nested too deeply")
+        return make_unjudged(name, "its JSON result can't be read: it is nested too deeply", INPUT)
     except MemoryError:
-        return make_unjudged(
-            name, "its JSON result can't be read: it is too large for this machine")
+        return make_unjudged(name, "its JSON result can't be read: it is too large for this "
+                             "machine", RESOURCE)
     if not isinstance(result, dict) or "verdict" not in result:
         return None
     number = result.get("format")
@@ -158,10 +167,11 @@ def read_result(path: str, is_refused: bool = False) -> dict[str, Any] | None:
             raise Stop(f"{path} is in JSON format {number}, but this version reads format "
                        f"{FORMAT}: judge these pairs again into another folder")
         return make_unjudged(name, f"its JSON result has format {number}, but this version reads "
-                             f"format {FORMAT}: judge it again")
+                             f"format {FORMAT}: judge it again", INPUT)
     place = find_misfit(result)
     return result if place is None else make_unjudged(
-        name, f"its JSON result does not match docs/verdict.schema.json at {place}: judge it again")
+        name, f"its JSON result does not match docs/verdict.schema.json at {place}: judge it again",
+        INPUT)
 
 
 def read_json(path: str) -> object:
@@ -195,10 +205,12 @@ def read_call_result(path: str, name: str, exit_status: int, messages: Sequence[
     result = read_result(path) if os.path.exists(path) else None
     if result is not None and matches_exit_status(result["verdict"], result["status"], exit_status):
         return result
+    kind = {USAGE_STATUS: USAGE, BUG_STATUS: BUG}.get(exit_status) or \
+        classify_program_end(exit_status)
     if exit_status < 0:
-        return make_unjudged(name, "the process was killed")
+        return make_unjudged(name, "the process was killed", kind)
     return make_unjudged(name, messages[-1].partition(": ")[2] if messages
-                         else "the judging process wrote no result")
+                         else "the judging process wrote no result", kind)
 
 
 def make_row(result: dict[str, Any], name: str) -> Row:

@@ -9,7 +9,8 @@ from typing import Iterator, NamedTuple
 
 from ..clock.start import SOURCES
 from ..common.checks import KINDS as UNCHECKED_KINDS
-from ..common.command_line import MAX_EVERY, PACKET_SIZES
+from ..common.command_line import (
+    BUG_STATUS, KINDS, MAX_EVERY, PACKET_SIZES, STATUSES_BY_KIND, USAGE_STATUS)
 from ..common.program import ProgramInfo
 from ..common.shapes import (
     COUNT, Flag, Integer, ListOf, Maybe, Member, MAX_NUMBER, Number, OneOf, PID, PTS, Record,
@@ -31,7 +32,11 @@ FIRST_FAULT, LAST_FAULT = 10, 79
 CODE_TIME = make_named_shape("code_time", Text(r"[0-9]{2,3}(:[0-9]{2,3}){3}"))
 DATE = make_named_shape("date", Text(r"[0-9]{4}-[0-9]{2}-[0-9]{2}T[0-9]{2}:[0-9]{2}:[0-9]{2}Z"))
 PART = make_named_shape("part_number", Integer(1, MAX_NUMBER))
-STATUS = make_named_shape("status", OneOf(*sorted({*STATUSES.values()})))
+STATUS = make_named_shape("status", OneOf(*sorted({*STATUSES.values(), USAGE_STATUS, BUG_STATUS})))
+KIND = make_named_shape("kind", OneOf(*KINDS))
+KIND_NOTE = "The kind of that reason: `usage` (wrong arguments, also in a list), `input` (a file " \
+    "is missing or wrong), `undecided`, `resource` (device, memory, time or another process), " \
+    "`signal` or `bug`."
 WORD = make_named_shape("word", OneOf(*STATUSES))
 
 FILE_AT_START = Record(
@@ -319,6 +324,12 @@ INPUTS = Record("inputs", "",
 CAUSE_COUNTS = Record("cause_counts", "", *(
     Member(name, COUNT) for name in CAUSE_NAMES))
 
+
+def list_kinds(status: int) -> list[str]:
+    """Return the kinds of errors with an exit status."""
+    return [kind for kind in KINDS if STATUSES_BY_KIND[kind] == status]
+
+
 # Allowed combinations of verdict, status, last line and reason
 TEXT, NOTHING = Text(least=1), OneOf(None)
 JOINT_RULES = Rules([
@@ -326,7 +337,9 @@ JOINT_RULES = Rules([
      "line": NOTHING if word == NOT_JUDGED else TEXT,
      "worst_fault": NOTHING if word in (ACCEPTED, VALID, NOT_JUDGED) else
      TEXT if word in (REFUSED, WAIVED) else Maybe(TEXT),
-     "reason": TEXT if word == NOT_JUDGED else NOTHING} for word, status in POSSIBLE_RESULTS])
+     "reason": TEXT if word == NOT_JUDGED else NOTHING,
+     "not_judged_kind": OneOf(*list_kinds(status)) if word == NOT_JUDGED else NOTHING}
+    for word, status in POSSIBLE_RESULTS])
 # Without a clock no pair is accepted or waived. Only a subtitle file without a recording is valid,
 # and it is never accepted. The verdict `relative` has status 0 only with --relative.
 IS_FILE: dict[str, Shape | Rules] = {"recording": NOTHING}
@@ -382,6 +395,8 @@ VERDICT = Record(
     Member("sentence", Text(), getter=lambda known: known.verdict.sentence),
     Member("reason", Maybe(Text()), "The reason why the pair was not judged.",
            lambda known: known.verdict.unjudged_reason),
+    Member("not_judged_kind", Maybe(KIND), KIND_NOTE,
+           lambda known: known.verdict.not_judged_kind),
     Member("scope", OneOf(*SCOPES), "What was judged: `pair` (a recording by a subtitle file), "
            "`file` (a subtitle file alone) or `reading` (a recording alone).",
            lambda known: SCOPE_FILE if known.verdict.request.recording is None else SCOPE_PAIR),
@@ -412,9 +427,13 @@ NO_PAIR = Record(
                "call that ended early.",
                Member("format", OneOf(FORMAT)),
                Member("verdict", OneOf(NOT_JUDGED)),
-               Member("status", OneOf(STATUSES[NOT_JUDGED])),
+               Member("status", OneOf(*sorted({*STATUSES_BY_KIND.values()}))),
                Member("name", Text()),
-               Member("reason", Text(least=1)))
+               Member("reason", Text(least=1)),
+               Member("not_judged_kind", KIND),
+               rules=[Rules([
+                   {"status": OneOf(status), "not_judged_kind": OneOf(*list_kinds(status))}
+                   for status in sorted({*STATUSES_BY_KIND.values()})])])
 
 BATCH = Record(
     "batch", "The results for many pairs, in `pairs`.",

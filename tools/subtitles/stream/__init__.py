@@ -1,6 +1,7 @@
 """Read the transmission in a recording, from the output of `subttx survey`, without judging it.
 
 packets        PES packets of a Teletext PID, and announced jumps of its continuity counter
+steps          unusual steps between the decoding times of pictures
 pictures       places where pictures drift from Teletext
 survey         the output of `subttx survey`: maps, pictures, languages
 gaps           places with missing packets, and PTS that do not agree with the PCR

@@ -1,12 +1,14 @@
 """Find the places where the delay between video and Teletext changes."""
 from __future__ import annotations
 
+import bisect
 import itertools
 import math
 import statistics
-from typing import Iterable, NamedTuple, Sequence
+from typing import Iterable, Mapping, NamedTuple, Sequence
 
 from ..common.times import TICKS, subtract_pts, wrap_pts
+from .steps import ALIKE_TICKS, MAX_REORDER_TICKS, UnusualStep
 
 
 # Once a second `survey` prints the lead of Teletext: its PTS minus the decoding time of the last
@@ -14,6 +16,9 @@ from ..common.times import TICKS, subtract_pts, wrap_pts
 # for the number of pictures, this is a step. If the lead changes by as much as the step, pictures
 # drift: viewers see later subtitles early or late. If the lead stays the same, pictures were lost,
 # or both clocks were reset. If the lead changes without a step, the multiplexer changes its delay.
+#
+# Pictures may leave and come back between two leads. Then only the unusual steps of the decoding
+# times show it (see steps.py).
 #
 # Leads vary, because a multiplexer sends Teletext before or after a picture. So the mean leads
 # before and after a step are compared, with their standard error. If there are enough leads, their
@@ -29,6 +34,8 @@ SIGNIFICANT_ERRORS = 2.5  # number of standard errors that a difference of means
 # in another way.
 MIN_TREND_LEADS = 60  # minimum number of leads without a step to look for a steady change
 MIN_TREND_TICKS = TICKS
+MIN_SHORT_PICTURES = 3  # fewer pictures with other times may be damaged times
+MIN_SHORT_TICKS = TICKS * 3 // 2  # a picture lost and another sent twice look like one frame
 MIN_TREND_SHARE = 0.95  # minimum share of the variance that a straight line explains
 
 
@@ -45,25 +52,48 @@ class Departure(NamedTuple):
     """A place where pictures drift from Teletext, between the PES packets with PTS `earlier_pts`
     and `pts`. Later subtitles are early by `ticks`, or late if `ticks` is negative. `ticks` is
     `None` if the drift is unclear. Then `change` is the least number of ticks by which the mean
-    lead changes there, allowing for its error."""
+    lead changes there, allowing for its error. If the step is known, `pts` is that of Teletext that
+    belongs to the first picture after it, or is at most `margin` ticks earlier."""
 
     pts: int
     earlier_pts: int
     ticks: int | None
     change: int = 0
+    margin: int = 0
+    is_short: bool = False  # whether the pictures are back before `survey` prints two leads
 
 
-def locate_departures(leads: Sequence[VideoLead]) -> list[Departure] | None:
+def locate_departures(leads: Sequence[VideoLead], unusual: Sequence[UnusualStep] = ()) \
+        -> list[Departure] | None:
     """Return the places where the delay between video and Teletext changes or may change. Return
-    `None` if most decoding times are irregular."""
+    `None` if most decoding times are irregular. `unusual` has the unusual steps of the decoding
+    times, if `survey` prints steps."""
     steps = compute_steps(leads)
     ends = find_step_places(steps)
     if len(ends) * 2 > len(leads):
         return None
-    rows = [[lead.ticks for lead in leads[begin:end]]
+    inside = collect_steps(leads, unusual)
+    departures = [*find_departures_at_edges(leads, inside),
+                  *find_departures_between_rows(leads, steps, ends, inside),
+                  *find_departures_in_rows(leads, ends, inside)]
+    first = leads[0].pts if leads else 0
+    return sorted(departures, key=lambda departure: subtract_pts(first, departure.pts))
+
+
+def split_into_rows(leads: Sequence[VideoLead], ends: Sequence[int]) -> list[list[int]]:
+    """Return the leads in ticks, in rows without a step. `ends` has the index after each row."""
+    return [[lead.ticks for lead in leads[begin:end]]
             for begin, end in zip([0, *ends], [*ends, len(leads)])]
+
+
+def find_departures_between_rows(leads: Sequence[VideoLead], steps: Sequence[int],
+                                 ends: Sequence[int], inside: dict[int, list[UnusualStep]]) \
+        -> list[Departure]:
+    """Return the departures between rows of leads. Remove the unusual steps between these rows from
+    `inside`, which has the unusual steps before each lead."""
+    rows = split_into_rows(leads, ends)
     typical_step = compute_typical_step(rows)
-    departures, before, between, ticks = [], rows[0], list[int](), 0
+    departures, before, between, ticks = list[Departure](), rows[0], list[int](), 0
     for end, row in zip(ends, rows[1:]):
         ticks += steps[end - 1]
         if len(row) == 1 and end != ends[-1]:
@@ -75,13 +105,88 @@ def locate_departures(leads: Sequence[VideoLead]) -> list[Departure] | None:
             left = measure_departure(before[:-1], row, ticks, typical_step)
         if left == 0 and is_outside(between, before):
             left = None  # a short drift, or a damaged PTS
-        if left != 0:
-            at = end - len(between)
-            departures.append(Departure(
-                leads[end].pts, leads[at - 1].pts, left,
-                0 if left is not None else measure_least_change(before, row, typical_step)))
+        at = end - len(between)
+        here = [step for place in range(at, end + 1) for step in inside.pop(place, [])]
+        if left and len(here) == 1 and here[0].is_sure and abs(here[0].ticks - ticks) < ALIKE_TICKS:
+            departures.append(make_departure(leads[at - 1], here[0], left))
+        elif left or left is None or has_return(here):
+            departures += not left and find_short_departure(leads, at, here, between, before) or [
+                Departure(leads[end].pts, leads[at - 1].pts, left or None,
+                          0 if left else measure_least_change(before, row, typical_step))]
         before, between, ticks = row, [], 0
     return departures
+
+
+def find_departures_in_rows(leads: Sequence[VideoLead], ends: Sequence[int],
+                            inside: Mapping[int, Sequence[UnusualStep]]) -> list[Departure]:
+    """Return the departures at unusual steps in rows of leads, which show no step themselves.
+    `inside` has the unusual steps before each lead."""
+    bounds, departures = [0, *ends, len(leads)], list[Departure]()
+    typical_step = compute_typical_step(split_into_rows(leads, ends))
+    for at, here in inside.items():
+        if not 0 < at < len(leads):
+            continue
+        row_at = bisect.bisect_right(bounds, at) - 1
+        before = [lead.ticks for lead in leads[bounds[row_at]:at]]
+        after = [lead.ticks for lead in leads[at:bounds[row_at + 1]]]
+        change = measure_least_change(before, after, typical_step) if before and after else 0
+        is_back = change < TICKS // 2
+        if is_back and min(here, key=get_ticks).ticks > 0:
+            continue  # the times of pictures are missing
+        departures += is_back and find_short_departure(leads, at, here) or [
+            Departure(leads[at].pts, leads[at - 1].pts, None, change)]
+    return departures
+
+
+def collect_steps(leads: Sequence[VideoLead], unusual: Iterable[UnusualStep]) \
+        -> dict[int, list[UnusualStep]]:
+    """Return the unusual steps before each lead, and after the last one, by its index."""
+    numbers = [lead.number for lead in leads]
+    result = dict[int, list[UnusualStep]]()
+    for step in unusual:
+        result.setdefault(bisect.bisect_left(numbers, step.number), []).append(step)
+    return result
+
+
+def has_return(steps: Sequence[UnusualStep]) -> bool:
+    """Return whether the steps may lead away and back."""
+    return len(steps) > 1 and min(steps, key=get_ticks).ticks < 0 < max(steps, key=get_ticks).ticks
+
+
+def get_ticks(step: UnusualStep) -> int:
+    return step.ticks
+
+
+def make_departure(lead: VideoLead, step: UnusualStep, ticks: int | None,
+                   is_short: bool = False) -> Departure:
+    """Return a departure at a step that comes after a lead, or shortly before it."""
+    pts = wrap_pts(lead.pts - lead.ticks + (step.number - lead.number) * step.usual)
+    return Departure(pts, wrap_pts(pts - step.usual), ticks, 0, MAX_REORDER_TICKS,
+                     is_short)
+
+
+def find_departures_at_edges(leads: Sequence[VideoLead],
+                             inside: Mapping[int, Sequence[UnusualStep]]) -> list[Departure]:
+    """Return the steps before the first lead and after the last, where no leads can be compared."""
+    return [make_departure(leads[at - 1 if at else 0], step, None)
+            for at, steps in inside.items() if leads and at in (0, len(leads)) for step in steps]
+
+
+def find_short_departure(leads: Sequence[VideoLead], at: int, steps: Sequence[UnusualStep],
+                         between: Iterable[int] = (), before: Sequence[int] = ()) \
+        -> list[Departure]:
+    """Return the two places where pictures leave and come back, or an empty list if it is unclear
+    what happens there. `at` is the index of the lead after the first step."""
+    if len(steps) != 2:
+        return []
+    away, back = steps
+    if back.number - away.number < MIN_SHORT_PICTURES or abs(away.ticks) < MIN_SHORT_TICKS \
+            or not away.is_sure or abs(away.ticks + back.ticks) >= ALIKE_TICKS:
+        return []
+    if before and any(abs(lead - statistics.fmean(before) + away.ticks) >= TICKS // 2
+                      for lead in between):
+        return []
+    return [make_departure(leads[at - 1], step, step.ticks, True) for step in steps]
 
 
 def find_step_places(steps: Sequence[int]) -> list[int]:
@@ -133,9 +238,10 @@ def find_steady_change(leads: Sequence[VideoLead]) -> int:
         row = leads[begin:end]
         if len(row) < MIN_TREND_LEADS:
             continue
-        times = [subtract_pts(row[0].pts, lead.pts) for lead in row]
-        slope, share = fit_line(times, [lead.ticks for lead in row])
-        ticks = round(slope * (times[-1] - times[0]))
+        # The PTS may jump, but pictures come at regular intervals.
+        numbers = [lead.number for lead in row]
+        slope, share = fit_line(numbers, [lead.ticks for lead in row])
+        ticks = round(slope * (numbers[-1] - numbers[0]))
         if abs(ticks) >= max(MIN_TREND_TICKS, abs(found)) and share >= MIN_TREND_SHARE:
             found = ticks
     return found

@@ -11,6 +11,7 @@ from ..common.command_line import (
 from ..formats.teletext import Page, page_name
 from .packets import GapMarker, PCRStep, PES, PacketRun, Packets, PageChange, Texts
 from .pictures import VideoLead
+from .steps import StepRange
 
 
 # The manual describes each output line. Unknown lines of a later version are skipped.
@@ -96,6 +97,7 @@ class Survey:
         self.by_pid: dict[int, Packets] = {}
         self.videos: dict[int, Video] = {}
         self.leads: dict[tuple[int, int], list[VideoLead]] = {}  # keys: PIDs of Teletext and video
+        self.steps: dict[int, list[StepRange]] = {}  # keys: PIDs of video
         self.clocks: dict[int, tuple[int, int]] = {}  # first and last PCR of each PCR PID
 
     def read_line(self, line: str) -> None:
@@ -216,6 +218,10 @@ class Survey:
         self.leads.setdefault((int(pid), int(video)), []).append(
             VideoLead(int(pts), int(ticks), int(number)))
 
+    def parse_steps(self, pid: str, *words: str) -> None:
+        least, least_at, most, most_at = map(int, words[:4])
+        self.steps.setdefault(int(pid), []).append(StepRange(least, least_at, most, most_at))
+
     def parse_pictures(self, pid: str, lost: str, scrambled: str, passed: str = "",
                        *_: str) -> None:
         video = self.videos.setdefault(int(pid), Video(int(passed or 0)))
@@ -254,7 +260,8 @@ class Survey:
         """Raise `ProgramInterrupted` if the output is incomplete or the exit status is not 0."""
         if self.unexpected_line or status or not self.is_complete:
             raise ProgramInterrupted("survey gave no complete result: "
-                                     f"{self.unexpected_line or 'it did not end'}, status {status}")
+                                     f"{self.unexpected_line or 'it did not end'}, status "
+                                     f"{status}", status)
 
 
 def survey(program: str, name: str, page: Page, pid: int | None = None,
