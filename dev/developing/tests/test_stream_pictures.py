@@ -68,12 +68,13 @@ class PictureDepartures(Case):
         leads = make_video_leads([6.0] * 20 + [3.0] * 20 + [6.0] * 20 + [6.0] * 20,
                                  {20: 3, 40: -3, 60: 9})
         self.check("three steps", locate_departures(leads), [
-            Departure(leads[20].pts, leads[19].pts, 3 * TICKS),
-            Departure(leads[40].pts, leads[39].pts, -3 * TICKS)])
+            Departure(leads[20].pts, leads[19].pts, 3 * TICKS, ahead=6 * TICKS),
+            Departure(leads[40].pts, leads[39].pts, -3 * TICKS, ahead=3 * TICKS)])
         for after, ticks in ((0.0, 6 * TICKS), (4.0, None)):
             near = make_video_leads([6.0] * 20 + [3.0] + [after] * 20, {20: 3, 21: 3})
             self.check(f"two steps with one line between, then {after}", locate_departures(near), [
-                Departure(near[21].pts, near[19].pts, ticks, 0 if ticks else 2 * TICKS)])
+                Departure(near[21].pts, near[19].pts, ticks, 0 if ticks else 2 * TICKS,
+                          ahead=6 * TICKS)])
         for count in (0, 1):
             self.check(f"{count} lines", locate_departures(leads[:count]), [])
 
@@ -203,7 +204,8 @@ class DepartureFaults(Case):
             "a second before": ([(2, 975)], 0, [], []),
             "before the last line": ([(2, 1975)], 0, [("00:01:19:00", end, "2 frames early")], []),
             "behind the last line": ([(2, 1976)], 0, [], ["unclear"]),
-            "a second behind": ([(2, 2001)], 0, [], [])}
+            "just behind, but sent before": ([(2, 2001)], 0, [], ["unclear"]),
+            "a second behind": ([(2, 2026)], 0, [], [])}
         for origin, (name, (steps, within, faults, notes)) in itertools.product(
                 (0, CLOCK - 1400 * TICKS), rows.items()):
             self.check(f"{name} from {origin}",

@@ -57,8 +57,8 @@ class Steps(Case):
                             [(content(203), 36000), (content(223), -36000)]),
             "20 pictures, across a lead": ({215: 36000, 235: -36000},
                                            [(content(215), 36000), (content(235), -36000)]),
-            "one picture": ({210: 36000, 211: -36000}, [(content(226) + 6 * TICKS, None)]),
-            "one frame": ({203: 3600, 223: -3600}, [(content(226) + 6 * TICKS, None)]),
+            "one picture": ({210: 36000, 211: -36000}, [(content(211), None)]),
+            "one frame": ({203: 3600, 223: -3600}, [(content(223), None)]),
             "after the last lead": ({490: 36000}, [(content(490), None)])}
         for name, (moves, expected) in rows.items():
             leads, unusual, _ = survey_times(make_times(moves))

@@ -106,8 +106,9 @@ def find_departures(several: Sequence[Departure], alignment: TimedPart) -> list[
     for departure in several:
         at, begin_ticks = (subtract_pts_within(first, length, pts)
                            for pts in (departure.pts, departure.earlier_pts))
-        if begin_ticks < length and (at >= 0 or is_of_picture):
-            is_inside = at + departure.margin < length and (begin_ticks >= 0 or is_of_picture)
+        if begin_ticks - departure.ahead < length and (at + departure.margin >= 0 or is_of_picture):
+            is_inside = at + departure.margin < length and (
+                at >= 0 and begin_ticks >= 0 or is_of_picture)
             found.append(departure if is_inside else departure._replace(ticks=None))
     return found
 

@@ -61,6 +61,9 @@ class Departure(NamedTuple):
     change: int = 0
     margin: int = 0
     is_short: bool = False  # whether the pictures are back before `survey` prints two leads
+    # Ticks by which the first picture that may drift belongs before `earlier_pts`, since video is
+    # sent earlier or later than Teletext with the same PTS
+    ahead: int = 0
 
 
 def locate_departures(leads: Sequence[VideoLead], unusual: Sequence[UnusualStep] = ()) \
@@ -109,10 +112,13 @@ def find_departures_between_rows(leads: Sequence[VideoLead], steps: Sequence[int
         here = [step for place in range(at, end + 1) for step in inside.pop(place, [])]
         if left and len(here) == 1 and here[0].is_sure and abs(here[0].ticks - ticks) < ALIKE_TICKS:
             departures.append(make_departure(leads[at - 1], here[0], left))
-        elif left or left is None or has_return(here):
-            departures += not left and find_short_departure(leads, at, here, between, before) or [
-                Departure(leads[end].pts, leads[at - 1].pts, left or None,
-                          0 if left else measure_least_change(before, row, typical_step))]
+        elif left:
+            departures.append(Departure(leads[end].pts, leads[at - 1].pts, left,
+                                        ahead=max(leads[at - 1].ticks, 0)))
+        elif left is None or has_return(here):
+            departures += find_short_departure(leads, at, here, between, before) or [
+                make_unclear_departure(leads[at - 1], leads[end], here,
+                                       measure_least_change(before, row, typical_step))]
         before, between, ticks = row, [], 0
     return departures
 
@@ -134,8 +140,18 @@ def find_departures_in_rows(leads: Sequence[VideoLead], ends: Sequence[int],
         if is_back and min(here, key=get_ticks).ticks > 0:
             continue  # the times of pictures are missing
         departures += is_back and find_short_departure(leads, at, here) or [
-            Departure(leads[at].pts, leads[at - 1].pts, None, change)]
+            make_unclear_departure(leads[at - 1], leads[at], here, change)]
     return departures
+
+
+def make_unclear_departure(before: VideoLead, after: VideoLead, steps: Sequence[UnusualStep],
+                           change: int) -> Departure:
+    """Return a departure of unknown size between two leads, at the unusual steps if these are
+    known."""
+    if not steps:
+        return Departure(after.pts, before.pts, None, change, ahead=max(before.ticks, 0))
+    first, last = (make_departure(before, step, None) for step in (steps[0], steps[-1]))
+    return last._replace(earlier_pts=first.earlier_pts, change=change)
 
 
 def collect_steps(leads: Sequence[VideoLead], unusual: Iterable[UnusualStep]) \
@@ -227,7 +243,8 @@ def locate_changes_of_video(several: Sequence[Sequence[VideoLead]]) -> list[Depa
         mean_change, error = compare_means(before, after, compute_typical_step([before, after]))
         if abs(mean_change) + error >= TICKS / 2:
             departures.append(Departure(new[0].pts, old[-1].pts, None,
-                                        max(0, int(abs(mean_change) - error))))
+                                        max(0, int(abs(mean_change) - error)),
+                                        ahead=max(old[-1].ticks, 0)))
     return departures
 
 
