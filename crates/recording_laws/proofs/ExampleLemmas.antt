@@ -76,7 +76,7 @@ example_of_multiplex = record {
         tt,
       ),
     );
-    linked_packet = (
+    in_sequence = (
       record { counter = inl refl; within = λ other. absurd (true≢false other) },
       tt,
     );
@@ -133,7 +133,7 @@ example_of_losses = record {
             ),
           ),
         );
-        linked_packet = (
+        in_sequence = (
           record { counter = inl refl; within = λ other. absurd (true≢false other) },
           (
             record { counter = inl refl; within = λ other. absurd (true≢false other) },

@@ -275,7 +275,7 @@ module _ (distance number : ℕ) (m : Multiplex SentUnit) (recording : List ℕ)
       (carriers_of m.sent)
   pes-rising h =
       all-rising distance number (carriers_of m.sent)
-      (all-carriers-left distance number m.sent (all-pes h)) h.is_multiplex.linked_packet
+      (all-carriers-left distance number m.sent (all-pes h)) h.is_multiplex.in_sequence
 
   left-recording : AreLosses number distance m recording
       → IsRecording distance (recorded_units (items_of_multiplex m)) recording

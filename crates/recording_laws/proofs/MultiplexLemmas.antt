@@ -192,7 +192,7 @@ law_of_multiplex number distance packets recording h =
     ∙ carried_bytes-all (packet_in distance) number
     (list_any (λ x. pid_announces_jump number (packet_in distance x)) m.lead) m.sent
     h.is_multiplex.sent
-    h.is_multiplex.linked_packet
+    h.is_multiplex.in_sequence
     ∙ ap concat h.packets_are_equal
   where
     m : Multiplex (List ℕ)

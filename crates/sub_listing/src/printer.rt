@@ -137,9 +137,9 @@ fn fault_count_of_event(event: Event) -> u64
 impl<K: Flush> ReportSink<Event> for Printer<'_, K> {
     ghost is_reported = { λ s event t. (t.out.ghost_name ≡ s.out.ghost_name)
         × PrintsEvent
-        (printer_value (K.contents s.out.now) (K.failure_count s.out.now) s.refused s.failed
+        (printer_value (K.contents s.out.now) (K.failure_count s.out.now) s.fault_count s.failed
         s.first) event
-        (printer_value (K.contents t.out.now) (K.failure_count t.out.now) t.refused t.failed
+        (printer_value (K.contents t.out.now) (K.failure_count t.out.now) t.fault_count t.failed
         t.first)
         × (t.pending ≡ false → K.buffered t.out.now ≡ 0) };
 
@@ -158,10 +158,10 @@ impl<K: Flush> ReportSink<Event> for Printer<'_, K> {
 impl<K: Flush> ReportSink<LoadFault> for Printer<'_, K> {
     ghost is_reported = { λ s fault t. (t.out.ghost_name ≡ s.out.ghost_name)
         × PrintsEvent
-        (printer_value (K.contents s.out.now) (K.failure_count s.out.now) s.refused s.failed
+        (printer_value (K.contents s.out.now) (K.failure_count s.out.now) s.fault_count s.failed
         s.first)
         (subtitle_event fault)
-        (printer_value (K.contents t.out.now) (K.failure_count t.out.now) t.refused t.failed
+        (printer_value (K.contents t.out.now) (K.failure_count t.out.now) t.fault_count t.failed
         t.first)
         × (t.pending ≡ false → K.buffered t.out.now ≡ 0) };
 
@@ -184,9 +184,9 @@ impl<K: Flush> Live for Printer<'_, K> {
 
     ghost is_flushed = { λ s ok t. (t.out.ghost_name ≡ s.out.ghost_name)
         × FlushesLines
-        (printer_value (K.contents s.out.now) (K.failure_count s.out.now) s.refused s.failed
+        (printer_value (K.contents s.out.now) (K.failure_count s.out.now) s.fault_count s.failed
         s.first) ok
-        (printer_value (K.contents t.out.now) (K.failure_count t.out.now) t.refused t.failed
+        (printer_value (K.contents t.out.now) (K.failure_count t.out.now) t.fault_count t.failed
         t.first)
         × (s.pending ≡ true → t.pending ≡ false → K.buffered t.out.now ≡ 0) };
 

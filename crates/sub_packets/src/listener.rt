@@ -269,7 +269,7 @@ impl Listener {
 
     // Returns whether a page header can be skipped because it breaks no rule and changes nothing.
     //
-    // Not inlined into `is_skipped`, which would then keep fewer values in registers for other
+    // Not inlined into `can_be_skipped`, which would then keep fewer values in registers for other
     // packets.
     #[inline(never)]
     fn skips_header(&self, magazine: u8, packet: &SentPacket<'_>) -> bool

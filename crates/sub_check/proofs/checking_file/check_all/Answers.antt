@@ -20,7 +20,7 @@ returns-clause-trusted g c = λ none at_once bytes reported.
 
 pub returns-clause-trusted_within : goal.returns-clause-trusted_within
 returns-clause-trusted_within g c = λ bytes reported.
-    c.check_all_pes_packets.ensures.reports_allowed_within bytes
+    c.check_all_pes_packets.ensures.trusted_within bytes
     (rw (c.new-pes_packets.ensures.none, c.new-pes_packets.ensures.now) reported)
 
 pub returns-clause-known : goal.returns-clause-known

@@ -81,9 +81,8 @@ returns-then-is_source_failure-clause-exact g c = λ bytes reported pes_packets 
       search rules,
     )
 
-pub returns-then-is_source_failure-clause-counts_so_far :
-    goal.returns-then-is_source_failure-clause-counts_so_far
-returns-then-is_source_failure-clause-counts_so_far g c = λ pes is.
+pub returns-then-is_source_failure-clause-read : goal.returns-then-is_source_failure-clause-read
+returns-then-is_source_failure-clause-read g c = λ pes is.
     let failed = sym c.is_source_failure.ensures ∙ c.if-is_source_failure.true in
     let same = read_fault_names_pes_packet c.in-Err.fault c.pes_packets.pes pes
     (c.in-Err.ensures.place failed) is

@@ -10,8 +10,8 @@ use Rattle.sub_listing.proofs.LastLineLemmas.{only_last_line_is_buffered}
 use Rattle.sub_listing.proofs.LastLineLemmas.{raised_count_means_failure}
 use Rattle.sub_listing.proofs.listing.list_to.Goals as goal
 
-pub pes_packets-init : goal.pes_packets-init
-pes_packets-init g c = record {
+pub items-init : goal.items-init
+items-init g c = record {
   ready = c.requires.ready;
   source = refl;
   buffered = refl;
@@ -24,7 +24,7 @@ pes_packets-init g c = record {
 
 pub returns-then-printer-clause-out_count : goal.returns-then-printer-clause-out_count
 returns-then-printer-clause-out_count g c =
-    let before = c.pes_packets.invariant in
+    let before = c.items.invariant in
     let risen =
     (c.next-end.ensures.stays.risen
     (λ same. true≢false (sym c.if-printer.true ∙ same ∙ before.continues))).1 in
@@ -38,7 +38,7 @@ returns-then-printer-clause-out_count g c =
 pub returns-then-printer-clause-input_count : goal.returns-then-printer-clause-input_count
 returns-then-printer-clause-input_count g c =
     let same = c.next-end.ensures.counts_failure c.if-printer.true in
-    let source = c.pes_packets.invariant.source in
+    let source = c.items.invariant.source in
     record {
       kept = λ _. same ∙ source;
       risen = omega (arith, same, source);
@@ -47,11 +47,11 @@ returns-then-printer-clause-input_count g c =
 
 pub returns-then-printer-clause-listing : goal.returns-then-printer-clause-listing
 returns-then-printer-clause-listing g c =
-    let before = c.pes_packets.invariant in
+    let before = c.items.invariant in
     let stays = c.next-end.ensures.stays in
     let risen =
     (stays.risen (λ same. true≢false (sym c.if-printer.true ∙ same ∙ before.continues))).1 in
-    prefix-stopped (g.L.Lister.lists c.args.lister.now) (g.L.Lister.lists c.pes_packets.lister)
+    prefix-stopped (g.L.Lister.lists c.args.lister.now) (g.L.Lister.lists c.items.lister)
     (read_call g.L.Lister.known g.L.Lister.left g.L.Lister.failure_count c.args.input.now
     c.next-end.new.input)
     (sink_call g.K.Sink.contents g.K.Sink.failure_count c.args.printer.now.out.now
@@ -62,7 +62,7 @@ returns-then-printer-clause-listing g c =
 
 pub returns-then-printer-clause-fault : goal.returns-then-printer-clause-fault
 returns-then-printer-clause-fault g c = λ _.
-    let before = c.pes_packets.invariant in
+    let before = c.items.invariant in
     let risen =
     (c.next-end.ensures.stays.risen
     (λ same. true≢false (sym c.if-printer.true ∙ same ∙ before.continues))).1 in
@@ -73,11 +73,11 @@ returns-then-printer-clause-fault g c = λ _.
 
 pub returns-in-Err-clause-listing : goal.returns-in-Err-clause-listing
 returns-in-Err-clause-listing g c =
-    let before = c.pes_packets.invariant in
+    let before = c.items.invariant in
     let stays = c.next-end.ensures.stays in
     let out = stays.same (c.if-printer.false ∙ sym before.continues) ∙ before.out in
     let put = c.in-Err.ensures.count in
-    prefix-cut (g.L.Lister.lists c.args.lister.now) (g.L.Lister.lists c.pes_packets.lister)
+    prefix-cut (g.L.Lister.lists c.args.lister.now) (g.L.Lister.lists c.items.lister)
     (g.L.Lister.lists c.next-end.new.self)
     (read_call g.L.Lister.known g.L.Lister.left g.L.Lister.failure_count c.args.input.now
     c.next-end.new.input)
@@ -95,7 +95,7 @@ returns-in-Err-clause-listing g c =
 
 pub returns-in-Err-clause-out_count : goal.returns-in-Err-clause-out_count
 returns-in-Err-clause-out_count g c =
-    let before = c.pes_packets.invariant in
+    let before = c.items.invariant in
     let out =
     c.next-end.ensures.stays.same (c.if-printer.false ∙ sym before.continues) ∙ before.out in
     let put = c.in-Err.ensures.count in
@@ -110,11 +110,11 @@ returns-in-Err-clause-input_count g c =
     counts-fault _ _ (has_failed c.next-end.result)
     (c.next-end.ensures.count c.if-printer.false
     ∙ ap (λ (n : ℕ). n + (if has_failed c.next-end.result then 1 else 0))
-    c.pes_packets.invariant.source)
+    c.items.invariant.source)
 
 pub returns-in-Err-clause-fault : goal.returns-in-Err-clause-fault
 returns-in-Err-clause-fault g c = λ _.
-    let before = c.pes_packets.invariant in
+    let before = c.items.invariant in
     let out =
     c.next-end.ensures.stays.same (c.if-printer.false ∙ sym before.continues) ∙ before.out in
     let put = c.in-Err.ensures.count in
@@ -123,12 +123,12 @@ returns-in-Err-clause-fault g c = λ _.
 
 pub returns-in-Some-clause-listing : goal.returns-in-Some-clause-listing
 returns-in-Some-clause-listing g c =
-    let before = c.pes_packets.invariant in
+    let before = c.items.invariant in
     let stays = c.next-end.ensures.stays in
     let out = stays.same (c.if-printer.false ∙ sym before.continues) ∙ before.out in
     let put = c.in-Ok.ensures.count in
     let status = c.in-Some.status in
-    prefix-end (g.L.Lister.lists c.args.lister.now) (g.L.Lister.lists c.pes_packets.lister)
+    prefix-end (g.L.Lister.lists c.args.lister.now) (g.L.Lister.lists c.items.lister)
     (g.L.Lister.lists c.next-end.new.self)
     (read_call g.L.Lister.known g.L.Lister.left g.L.Lister.failure_count c.args.input.now
     c.next-end.new.input)
@@ -146,7 +146,7 @@ returns-in-Some-clause-listing g c =
 
 pub returns-in-Some-clause-out_count : goal.returns-in-Some-clause-out_count
 returns-in-Some-clause-out_count g c =
-    let before = c.pes_packets.invariant in
+    let before = c.items.invariant in
     let out =
     c.next-end.ensures.stays.same (c.if-printer.false ∙ sym before.continues) ∙ before.out in
     let put = c.in-Ok.ensures.count in
@@ -162,11 +162,11 @@ returns-in-Some-clause-input_count g c =
     counts-status _ _ status
     (c.in-Some.ensures.count c.if-printer.false
     ∙ ap (λ (n : ℕ). n + (if has_failed (Some status) then 1 else 0))
-    c.pes_packets.invariant.source)
+    c.items.invariant.source)
 
 pub returns-in-Some-clause-fault : goal.returns-in-Some-clause-fault
 returns-in-Some-clause-fault g c = λ is.
-    let before = c.pes_packets.invariant in
+    let before = c.items.invariant in
     let out =
     c.next-end.ensures.stays.same (c.if-printer.false ∙ sym before.continues) ∙ before.out in
     let put = c.in-Ok.ensures.count in
@@ -174,9 +174,9 @@ returns-in-Some-clause-fault g c = λ is.
     let source = before.source in
     omega (arith, out, put, counted, source)
 
-pub pes_packets-preserved : goal.pes_packets-preserved
-pes_packets-preserved g c =
-    let before = c.pes_packets.invariant in
+pub items-preserved : goal.items-preserved
+items-preserved g c =
+    let before = c.items.invariant in
     let stays = c.next-end.ensures.stays in
     let out = stays.same (c.if-printer.false ∙ sym before.continues) ∙ before.out in
     let put = c.in-Ok.ensures.count in
@@ -185,13 +185,13 @@ pes_packets-preserved g c =
     record {
       ready = c.in_default.ensures.ready c.if-printer.false refl;
       source = omega (arith, source, counted);
-      buffered = c.next-end.ensures.buffered ∙ before.buffered;
+      buffered = c.next-end.ensures.device ∙ before.buffered;
       same = c.put.ensures.same ∙ c.next-end.ensures.same ∙ before.same;
       continues = c.in-Ok.ensures.failed ∙ c.if-printer.false;
       holds = λ sound still. absurd (true≢false (sym c.put.ensures.has_pending ∙ still));
       out = omega (arith, out, put);
       prefix =
-          prefix-more (g.L.Lister.lists c.args.lister.now) (g.L.Lister.lists c.pes_packets.lister)
+          prefix-more (g.L.Lister.lists c.args.lister.now) (g.L.Lister.lists c.items.lister)
           (g.L.Lister.lists c.next-end.new.self) _ _ _ _ _ _ c.next-end.new.text.items
           (prefix-kept _ _ _ _ _ _ _ before.prefix stays.kept)
           (rw (← c.in_default.ensures.settled c.if-printer.false refl)
@@ -205,11 +205,11 @@ pes_packets-preserved g c =
 pub returns-then-printer-clause-followed : goal.returns-then-printer-clause-followed
 returns-then-printer-clause-followed g c = λ is sound risen.
     let same = c.next-end.ensures.counts_failure c.if-printer.true in
-    let source = c.pes_packets.invariant.source in absurd (omega (arith, same, source, risen))
+    let source = c.items.invariant.source in absurd (omega (arith, same, source, risen))
 
 pub returns-in-Err-clause-followed : goal.returns-in-Err-clause-followed
 returns-in-Err-clause-followed g c = λ is sound risen.
-    let before = c.pes_packets.invariant in
+    let before = c.items.invariant in
     let fails = raised_count_means_failure _ _ (has_failed c.next-end.result) risen
     (c.next-end.ensures.count c.if-printer.false
     ∙ ap (λ (n : ℕ). n + (if has_failed c.next-end.result then 1 else 0)) before.source) in
@@ -219,7 +219,7 @@ returns-in-Err-clause-followed g c = λ is sound risen.
 
 pub returns-in-Some-clause-followed : goal.returns-in-Some-clause-followed
 returns-in-Some-clause-followed g c = λ is sound risen.
-    let before = c.pes_packets.invariant in
+    let before = c.items.invariant in
     let fails = raised_count_means_failure _ _ (has_failed c.next-end.result) risen
     (c.next-end.ensures.count c.if-printer.false
     ∙ ap (λ (n : ℕ). n + (if has_failed c.next-end.result then 1 else 0)) before.source) in

@@ -4,8 +4,8 @@ use Rattle.std.proofs.Common.{◌≡◌, false}
 use Rattle.sub_listing.proofs.ListingLemmas.{IsPrefix}
 use Rattle.sub_listing.proofs.listing.list_to.Given as goal
 
-abbrev pub invariant-pes_packets : goal.invariant-pes_packets
-invariant-pes_packets g l = record {
+abbrev pub invariant-items : goal.invariant-items
+invariant-items g l = record {
   ready : g.L.Lister.ready l.lister;
   source : g.L.Lister.failure_count l.input ≡ g.L.Lister.failure_count l.fn.input;
   buffered : g.L.Lister.device l.input ≡ g.L.Lister.device l.fn.input;
@@ -22,5 +22,5 @@ invariant-pes_packets g l = record {
       (g.K.Sink.contents l.fn.printer.out.now) (g.K.Sink.contents l.printer.out.now);
 }
 
-abbrev pub decreases-pes_packets : goal.decreases-pes_packets
-decreases-pes_packets g l = g.L.Lister.pes_packets l.lister
+abbrev pub decreases-items : goal.decreases-items
+decreases-items g l = g.L.Lister.pes_packets l.lister

@@ -6,13 +6,13 @@ use Rattle.std.specs.Io.KnownBytes.{Consumes}
 use Rattle.sub_listing.specs.Writing.{read_limit}
 use Rattle.sub_listing.proofs.normal.read_input.Given as goal
 
-abbrev pub invariant-pes_packets : goal.invariant-pes_packets
-invariant-pes_packets g l = record {
+abbrev pub invariant-chunks : goal.invariant-chunks
+invariant-chunks g l = record {
   most : vec_len l.bytes ≤ read_limit;
   taken : Consumes
       (g.S.Source.remaining l.initial.input) (g.S.Source.remaining l.input) l.bytes.items;
   count : g.S.Source.failure_count l.input ≡ g.S.Source.failure_count l.initial.input;
 }
 
-abbrev pub decreases-pes_packets : goal.decreases-pes_packets
-decreases-pes_packets g l = read_limit - vec_len l.bytes
+abbrev pub decreases-chunks : goal.decreases-chunks
+decreases-chunks g l = read_limit - vec_len l.bytes

@@ -5,7 +5,7 @@ pub returns : goal.returns
 returns g c =
     let first = c.take_next_and_discard_rest-next.ensures.first in
     record {
-      pes_packet = c.taken.result.now;
+      next_part = c.taken.result.now;
       joined = rw c.taken.ensures first.0;
       same = first.1;
       some = rw c.taken.ensures first.2;

@@ -2,10 +2,10 @@
 use Rattle.ts_survey.proofs.FollowingLemmas.{first-taken, same-rest}
 use Rattle.ts_survey.proofs.pid_packets.give_ready.Goals as goal
 
-pub pes_packets-preserved : goal.pes_packets-preserved
-pes_packets-preserved g c = record {
-  same = same-rest c.args.joining.now c.pes_packets.joining c.give_next.new.joining _
-      c.pes_packets.invariant.same c.give_next.ensures.same;
-  taken = λ new rest. c.pes_packets.invariant.taken new
+pub items-preserved : goal.items-preserved
+items-preserved g c = record {
+  same = same-rest c.args.joining.now c.items.joining c.give_next.new.joining _
+      c.items.invariant.same c.give_next.ensures.same;
+  taken = λ new rest. c.items.invariant.taken new
       (first-taken g.T.TakesPesPackets.is_taken _ _ _ _ new c.give_next.ensures rest);
 }

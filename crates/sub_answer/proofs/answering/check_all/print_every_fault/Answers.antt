@@ -41,6 +41,6 @@ returns-clause-followed g c = λ none risen.
     let reported = c.report_every_fault-answer.ensures in
     let fails = raised_count_means_failure _ _ _ risen reported.count in
     failure_line_is_last g.K.Sink.contents g.K.Flush.buffered g.K.Sink.is_push _ _ _ _
-    c.report_every_fault-answer.result fails (reported.requested none fails)
+    c.report_every_fault-answer.result fails (reported.flushed_at_failure none fails)
     c.print_end.ensures.line
     (search rules)

@@ -177,7 +177,7 @@ pub returns-else-is_err-clause-flushed_at_failure :
     goal.returns-else-is_err-clause-flushed_at_failure
 returns-else-is_err-clause-flushed_at_failure g c = λ none.
     let any = rw c.in-Ok-Some.field-0-is at c.in-Ok-Some.ensures.any in
-    c.report_transmission.ensures.requested
+    c.report_transmission.ensures.flushed_at_failure
     (ok_property_applies _ (sym c.is_err.ensures.value ∙ c.if-is_err.false)
     (c.flush_reports.ensures.buffered
     (reported_faults_are_flushed (IsReportedFault g.K.Sink.contents g.K.Sink.failure_count

@@ -73,7 +73,7 @@ returns-in-Ok-clause-reported g c =
 
 pub returns-in-Ok-clause-flushed_at_failure : goal.returns-in-Ok-clause-flushed_at_failure
 returns-in-Ok-clause-flushed_at_failure g c = λ none.
-    failed_result_is_error _ _ _ (c.check_all_pes_packets.ensures.requested none)
+    failed_result_is_error _ _ _ (c.check_all_pes_packets.ensures.flushed_at_failure none)
 
 pub returns-in-Err-clause-reported : goal.returns-in-Err-clause-reported
 returns-in-Err-clause-reported g c =

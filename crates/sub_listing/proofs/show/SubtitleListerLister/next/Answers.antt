@@ -65,9 +65,9 @@ returns-in-Ok-Some-clause-ready g c = λ goes none.
       rw progress at c.in-Ok-Some.ensures.place,
     )
 
-pub returns-in-Ok-Some-clause-pes_packets_decrease :
-    goal.returns-in-Ok-Some-clause-pes_packets_decrease
-returns-in-Ok-Some-clause-pes_packets_decrease g c = λ goes none.
+pub returns-in-Ok-Some-clause-items_decrease :
+    goal.returns-in-Ok-Some-clause-items_decrease
+returns-in-Ok-Some-clause-items_decrease g c = λ goes none.
     let ready = rw c.in-Some.is at c.requires.ready in
     let taken = rw c.in-Ok-Some.field-0-is at (c.in-Ok-Some.ensures.subtitle ready.0) in
     let rises = block-rises _ _ _ _ _ taken in

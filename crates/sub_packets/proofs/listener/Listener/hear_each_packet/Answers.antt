@@ -59,8 +59,9 @@ loop-k-preserved-then-can_be_skipped g c =
     let high : c.next_examined_packet-k.result ≤ length ps = omega (arith, next.within, long) in
     let passes = skipped_packet_extends_run k c.next_examined_packet-k.result ps c.loop-k.self
     (rw (← c.packet-sent.ensures) (record {
-      no_header = c.can_be_skipped.ensures.no_header c.if-is_skipped.true;
-      skipped = λ heard known. c.can_be_skipped.ensures.skipped heard known c.if-is_skipped.true;
+      no_header = c.can_be_skipped.ensures.no_header c.if-can_be_skipped.true;
+      skipped = λ heard known. c.can_be_skipped.ensures.skipped heard known
+          c.if-can_be_skipped.true;
     })) next.skipped in
     let none =
     skipped_run_keeps_header_count w ps c.loop-k.self i.same k c.next_examined_packet-k.result low

@@ -5,7 +5,7 @@ use Rattle.sub_packets.proofs.listener.Listener.next_examined_packet.Goals as go
 pub loop-k-preserved : goal.loop-k-preserved
 loop-k-preserved c j low high =
     let skipped = c.can_be_skipped.ensures in
-    let is = c.if-not-is_skipped.false in
+    let is = c.if-not-can_be_skipped.false in
     elim (cases_lt j c.loop-k.k) [
       | inl before ↦ c.loop-k.invariant j low before
       | inr last ↦
