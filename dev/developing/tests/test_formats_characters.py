@@ -356,7 +356,7 @@ def check_warnings(case: Case, name: str, process: CompletedCall, kinds: list[st
 class Warnings(Case):
     def test_warns_of_another_option_than_that_of_the_language(self) -> None:
         may = "receivers above level 1 may show other characters"
-        english = ", but --option english is character set 000 of region 0000 (English)"
+        english = ", not 000 of region 0000 (English)"
         cases: list[tuple[str, bytes, list[str]]] = [
             ("another region", make_character_set_packet(29, 8),
              [f"packet 8/29/0 names character set 000 of region 0001 (Polish){english}: {may}"]),

@@ -130,7 +130,7 @@ def find_character_set_notices(packets: Packets, request: Request) -> Iterator[N
         if region is None or bits is None:
             set_name = "an unreadable character set"
         elif OPTION_BY_NUMBER.get(8 * region + reverse_bits(bits)) != judged:
-            set_name = f"{describe_character_set(region, bits)}, but --option {judged.word} is " + \
+            set_name = f"character set {describe_character_set(region, bits)}, not " + \
                 describe_character_set(judged.region, reverse_bits(judged.bits))
         else:
             continue
@@ -139,10 +139,9 @@ def find_character_set_notices(packets: Packets, request: Request) -> Iterator[N
 
 
 def describe_character_set(region: int, bits: int) -> str:
-    """Return the name of a character set. `bits` are in the order of packets X/28 and M/29."""
+    """Describe a character set. `bits` are in the order of packets X/28 and M/29."""
     option = OPTION_BY_NUMBER.get(8 * region + reverse_bits(bits))
-    return f"character set {bits:03b} of region {region:04b}" + (
-        f" ({option.name})" if option else "")
+    return f"{bits:03b} of region {region:04b}" + (f" ({option.name})" if option else "")
 
 
 def format_pages(announced: list[Announced]) -> str:
