@@ -124,11 +124,11 @@ class Installation(Case):
         self.must("of others nothing", process.status == 0 and left == [
             "bin", "bin/subttx-own", "share", "share/man", "share/man/man1", "share/man/other"],
                   left)
-        for words in ([*tool, "shared"], [*tool, "none"],
-                      [*tool, "-p", self.bench.program, "shared"],
-                      list(tool)):
+        for words, status in (([*tool, "shared"], 2), ([*tool, "none"], 2),
+                              ([*tool, "-p", self.bench.program, "shared"], 64), (list(tool), 64)):
             process = self.tool(*words)
-            self.must(" ".join(words[1:]), process.status == 2 and len(process.told) == 1, process)
+            self.must(" ".join(words[1:]), process.status == status and len(process.told) == 1,
+                      process)
 
     def test_installed_documents_have_no_dead_links(self) -> None:
         self.tool("install", "-p", self.bench.program, "prefix")
