@@ -10,7 +10,8 @@ import subprocess
 
 from subtitles.common.command_line import Stop
 from subtitles.common.files import add_name_to_errors
-from subtitles.common.program import TOP, PAGES, copy, list_documents, install, link, write
+from subtitles.common.program import (
+    PAGES, UNITS, copy, install, install_units, link, list_documents, write)
 
 NAME = "subttx"
 ARCHITECTURE = "amd64"
@@ -32,11 +33,9 @@ This package states no licence. Ask whoever gave it to you what you may do with 
 """
 # Python compiles the tools after installation; the bytecode is removed with the package.
 FOLDER = f"/usr/lib/{NAME}/tools/subtitles"
-UNITS = ["subttx-air-record@.service", "subttx-air-judge@.service", "subttx-watch@.service"]
 PATTERNS = [f"'{unit.replace('@', '@*')}'" for unit in UNITS]
 # An upgrade does not restart the recorder, since a programme on air would have a gap.
 RESTARTED = " ".join(PATTERNS[1:])
-USER = f'u {NAME} - "Teletext subtitles" /var/lib/{NAME}\n'
 SCRIPTS = {
     "postinst": f"""\
 python3 -m compileall -q --invalidation-mode unchecked-hash {FOLDER}
@@ -46,7 +45,11 @@ python3 -m compileall -q --invalidation-mode unchecked-hash {FOLDER}
     "prerm": f"""\
 [ "$1" != remove ] || [ ! -d /run/systemd/system ] || systemctl stop {" ".join(PATTERNS)}
 find {FOLDER} -depth -name __pycache__ -exec rm -r {{}} +""",
-    "postrm": "[ ! -d /run/systemd/system ] || systemctl daemon-reload"}
+    # Segments and results in /var/lib/subttx stay. The links are those of `systemctl enable`.
+    "postrm": f"""\
+[ "$1" != purge ] || rm -rf /etc/{NAME}
+[ "$1" != purge ] || find /etc/systemd/system -lname '*/{NAME}-*@.service' -delete 2>/dev/null || :
+[ ! -d /run/systemd/system ] || systemctl daemon-reload"""}
 # The program must not be stripped, because PROVED contains its SHA-256.
 OVERRIDES = f"{NAME}: unstripped-binary-or-object [usr/bin/subttx]\n"
 
@@ -90,10 +93,7 @@ def add_documents(root: str, version: str, proved: str, date: str) -> None:
 
 def add_units(root: str) -> None:
     """Add the units of systemd, the user that they run as, and the folder of their settings."""
-    for unit in UNITS:
-        copy(os.path.join(TOP, "docs", "manual", unit),
-             os.path.join(root, "usr", "lib", "systemd", "system", unit))
-    write(os.path.join(root, "usr", "lib", "sysusers.d", f"{NAME}.conf"), USER)
+    install_units(os.path.join(root, "usr"), "")
     os.makedirs(os.path.join(root, "etc", NAME))
 
 

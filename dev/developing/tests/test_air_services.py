@@ -32,6 +32,22 @@ def split_unit_command(command: str) -> list[str]:
 
 
 class Units(Case):
+    def test_installed_units_call_the_installed_tools(self) -> None:
+        prefix = self.path("opt")
+        process = self.tool("install", "--systemd", "-p", self.bench.program, prefix)
+        self.check("status", process.status, 0)
+        for name in UNITS:
+            with open(os.path.join(prefix, "lib", "systemd", "system", name),
+                      encoding="utf-8") as file:
+                line = next(line for line in file if line.startswith("ExecStart="))
+            command = "subttx-qc" if name == WATCH_UNIT else "subttx-air"
+            self.must(name, f"{prefix}/bin/{command} " in line and
+                      f" {command}" not in line and f"={command}" not in line, line)
+        self.check("removed", self.tool("install", "--remove", prefix).status, 0)
+        self.must("nothing is left", not os.path.exists(prefix))
+        for words in (["--systemd", self.path("a b")], ["--systemd", "--remove", prefix]):
+            self.check(f"{words}", self.tool("install", *words).status, 64)
+
     def test_allows_only_its_own_folder_to_be_written(self) -> None:
         self.check("units", {*UNITS}, {name for name in os.listdir(MANUAL)
                                        if name.endswith(".service")})
@@ -66,6 +82,8 @@ class Units(Case):
             self.check(name, unit["Service"]["Restart"], "always")
             self.check(f"{name}: limit", unit["Unit"]["StartLimitIntervalSec"], "0")
             self.must(f"{name}: wait", int(unit["Service"]["RestartSec"]) > 0)
+            # Wrong options do not become right by a restart. All else may, also a missing folder.
+            self.check(f"{name}: never again", unit["Service"]["RestartPreventExitStatus"], "64")
 
     def test_systemd_accepts_the_units(self) -> None:
         if not shutil.which("systemd-analyze"):

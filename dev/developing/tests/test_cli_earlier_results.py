@@ -185,8 +185,8 @@ class StoredResults(Case):
         self.must("not there", (read_result(self.path("none.json")) or {}).get("name") == "none")
 
     def test_collect_refuses_another_format(self) -> None:
-        for name, change in (("a", {}), ("b", {"format": 7}), ("c", {"format": 7})):
-            self.write(f"{name}.json", json.dumps({**make_result(), **change}).encode())
+        for name, number in (("a", 8), ("b", 7), ("c", 7)):
+            self.write(f"{name}.json", json.dumps({**make_result(), "format": number}).encode())
         process = self.tool("qc", "--collect", ".", "--json", "all.json")
         reason = "./b.json is in JSON format 7, but this version reads format 8: judge these " \
             "pairs again into another folder"

@@ -488,6 +488,11 @@ class Pages(Case):
         page = collection.make_index_page(self.folder, rows, "now").decode()
         self.must("counts", page.count("5 pairs: 1 accepted, 1 lost, 1 not judged, 1 refused, "
                                        "1 waived") == 2, page[:900])
+        with mock.patch.object(collection, "MAX_PAGE_PAIRS", 2):
+            short_page = collection.make_index_page(self.folder, rows, "now").decode()
+        self.must("the worst two", "only the worst 2 of 5 pairs" in short_page and
+                  "only the worst" not in page and short_page.count('<td class="verdict">') == 2
+                  and "refused 72" in short_page and "waived: x" not in short_page, short_page)
         lines = {row.name: collection.make_pair_row(self.folder, row).source for row in rows}
         self.must("links", [lines[name].count("<a ") for name in "abc"] == [2, 2, 0] and
                   ">list</a>" in lines["b"] and 'href="./a.html">a</a>' in lines["a"], lines)

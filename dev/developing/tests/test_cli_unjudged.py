@@ -125,6 +125,9 @@ class UnjudgedPairs(Case):
             [begun] = calls.running_pairs.values()
             begun.pair_lock.close()
             self.check(f"{limit}", begun.limit, expected)
+        for size, expected in ((0, 60), (10**9, 160), (2 * 10**12, 3600)):
+            self.check(f"{size} bytes", batch.compute_default_limit({"recording": {"size": size}}),
+                       expected)
 
     def test_lists_the_folder_once_for_all_pairs(self) -> None:
         for name in ("one.7.txt", "two.1.txt"):

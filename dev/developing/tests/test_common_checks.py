@@ -23,8 +23,10 @@ DECISIONS = {(False, False, False): LISTED, (False, False, True): LISTED,
 
 class Checks(Case):
     def test_a_check_is_made_has_failed_or_is_listed(self) -> None:
-        for values in itertools.product((False, True), repeat=3):
-            self.check(f"{values}", decide_check(CheckState(*values)), DECISIONS[values])
+        self.check("all combinations", sorted(DECISIONS),
+                   sorted(itertools.product((False, True), repeat=3)))
+        for values, decision in DECISIONS.items():
+            self.check(f"{values}", decide_check(CheckState(*values)), decision)
         self.check("kinds", sorted({kind for kinds in CHECKS.values() for kind in kinds}),
                    sorted(CHECK_KINDS))
         self.check("phrases", sorted(PHRASES), sorted(CHECK_KINDS))

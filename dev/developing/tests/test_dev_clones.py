@@ -155,7 +155,8 @@ class Clones(Case):
         self.must("no words", none.status == 2 and none.out == b"usage 0 Words\n"
                   and lines[0] == "usage: subttx COMMAND FILES [options]"
                   and none.told[:len(lines)] == lines
-                  and none.told[len(lines)].startswith("error: "), none)
+                  and none.told[len(lines):] == [
+                      "subttx: give a command (subttx --help lists the commands)"], none)
         helping = [["--help"], ["-h"], ["help"], ["help", "check"], ["check", "--help"],
                    ["-h", "survey"]]
         for words in helping:
@@ -165,7 +166,8 @@ class Clones(Case):
                       ["check", "a.stl", "b.pes", "--page", "-h"]]:
             process = clone.run(*words)
             self.must(f"{words}", (process.status, process.out) == (2, b"usage 0 Words\n")
-                      and process.told[0].startswith("error: "), process)
+                      and len(process.told) == 1 and process.told[0].startswith("subttx: "),
+                      process)
         os.remove(clone.path("dist", "PROVED"))
         for words in helping:
             process = clone.run(*words)

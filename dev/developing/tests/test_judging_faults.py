@@ -46,7 +46,7 @@ def make_causes(*several: Cause, count: int = 9, text: bytes = b"text") -> Any:
     return SimpleNamespace(expected=SimpleNamespace(subtitles=subtitles, pages=[page] * count),
                            list_causes=lambda: list(several),
                            cause_by_index=dict(enumerate(several)), frames_by_end_fault={},
-                           first_wrong_frames={})
+                           first_wrong_frames={}, delay_of_all=0)
 
 
 class Descriptions(Case):

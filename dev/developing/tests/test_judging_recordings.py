@@ -336,6 +336,25 @@ class Recordings(Case):
                 self.must(f"{name} {words}", "another programme" not in "".join(result.said),
                           result.said)
 
+    def test_finds_the_causes_behind_a_delay_of_all_subtitles(self) -> None:
+        """All subtitles are 3 frames late, and one of them has another fault by that clock."""
+        due = subtitle_times(5)
+        late = [(begin + 3, end + 3) for begin, end in due]
+        stl = write_programme(self, due)
+        for name, times, causes, more in (
+                ("late alone", late, {"late": 5}, ""),
+                ("not erased", [*late[:2], (late[2][0], late[2][1] + 8), *late[3:]],
+                 {"late": 4, "not erased": 1}, "; also not erased (1)"),
+                ("erased early", [*late[:2], (late[2][0], late[2][1] - 8), *late[3:]],
+                 {"late": 4, "erased": 1}, "; also erased (1)")):
+            write_programme(self, times, name="sent.stl")
+            self.schedule(self.path("sent.stl"), "one.pes", "--every", "25")
+            result = judge_files(self, stl, self.path("one.pes"), "--origin", "0").result
+            self.check(name, {cause: count for cause, count in result["cause_counts"].items()
+                              if count}, causes)
+            self.must(f"{name}: sentence", result["sentence"].startswith(
+                f"Refused: all 5 subtitles appeared 3 frames late{more}."), result["sentence"])
+
     def test_what_follows_the_last_judged_subtitle_is_no_text_in_a_pause(self) -> None:
         """The last subtitle is erased 1 frame early, and the next text comes 14 frames later."""
         *due, (begin, end) = subtitle_times(5)

@@ -137,12 +137,17 @@ class RefusedSubtitles(Case):
     def test_waives_file_faults_and_fault_78_by_number(self) -> None:
         slow = self.write("slow.pes",
                           join_pes_packets(make_delay(5, 3600 * 600, 3600 * 650)(self.sent)))
-        for text, pes, word in ((b"50 warning\n78 warning\n", self.pes, "waived"),
-                                (b"50 warning\n", self.pes, "refused"),
-                                (b"78 warning\n", self.pes, "refused"),
-                                (b"50 warning\n78 warning\n", slow, "refused"),
-                                (b"50 warning\n78 warning\n72 warning\n", slow, "waived"),
-                                (b"others warning\n", self.pes, "waived")):
+        others = "9 other subtitles were judged: all have the right text"
+        for text, pes, word, begin, end in (
+                (b"50 warning\n78 warning\n", self.pes, "waived", "Waived, since ", others),
+                (b"50 warning\n", self.pes, "refused", "Refused: the expected page is unknown next "
+                 "to 1 subtitle with waived faults (fault 78); 9 other ", "; waived: 50 Character"),
+                (b"78 warning\n", self.pes, "refused", "Refused: subtitle 3 at 00:00:12:00 has "
+                 "fault 50 ", "; waived: 78 Undecided"),
+                (b"50 warning\n78 warning\n", slow, "refused", "Refused: subtitle ",
+                 "; waived: 50 Character and 78 Undecided"),
+                (b"50 warning\n78 warning\n72 warning\n", slow, "waived", "Waived, since ", "late"),
+                (b"others warning\n", self.pes, "waived", "Waived, since ", others)):
             judged_pair = self.judge(self.write_stl(3), pes, "--severity",
                                      self.write("severity", text))
             self.must(f"{text!r} {pes}", judged_pair.word == word, judged_pair.said)
@@ -150,10 +155,10 @@ class RefusedSubtitles(Case):
                 (item["number"], item["severity"]) for item in judged_pair.result["faults"]} >= {
                     (50, "error" if text[:2] == b"78" else "warning")},
                       judged_pair.result["faults"])
-            self.must(f"{text!r} {pes}: said", pes == slow or (
-                "9 other subtitles were judged: all have the right text from the first frame to "
-                "the last. Not checked: ") in judged_pair.verdict.sentence,
-                      judged_pair.verdict.sentence)
+            sentence = judged_pair.verdict.sentence
+            self.must(f"{text!r} {pes}: said", sentence.startswith(begin) and end in sentence and
+                      (text[:2] != b"50" or word == "waived" or "has fault 50" not in sentence),
+                      sentence)
         unread = self.write("unread.pes", b"".join(
             damage_packet(item, 33) for item in packets(self.read("one.pes"))))
         judged_pair = self.judge(self.write_stl(3), unread, "--severity",

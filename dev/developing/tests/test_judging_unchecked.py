@@ -60,10 +60,10 @@ class Pictures(Case):
             "it grows": (make_leads(500, 4500, 6, 0.02), f"{VIDEO}:27", [STEADY]),
             "it grows a little": (make_leads(500, 4500, 6, 0.005), f"{VIDEO}:27", [])}
         ahead = [f"ahead {PID} {TICKS * frame} {TICKS * 20}" for frame in range(505, 4500, 25)]
-        for lost, told in ((10, []), (15, []), (16, [JUMP]), (50, [JUMP]), (-50, [])):
+        for lost, is_told in ((10, False), (15, False), (16, True), (50, True), (-50, False)):
             rows[f"{lost} lost, the decoding times go on"] = (
                 [*ahead, *make_leads(500, 2500), *make_leads(2500, 4500, 6 + lost)],
-                f"{VIDEO}:27", told)
+                f"{VIDEO}:27", [JUMP] * is_told)
         for name, (lines, streams, kinds) in rows.items():
             self.check(name, self.find_kinds(lines, streams), kinds)
         self.check("pauses", self.find_kinds(

@@ -91,7 +91,7 @@ class CompletePage(Case):
                 *(f"{item.line}: {item.text}" for item in verdict.named_faults),
                 *[gap.format_line() for gap in verdict.gaps] * bool(kinds)]
             reported += [ESTIMATED_NOTE[1:]] * (is_estimated and len(kinds) == 1 and not why)
-            each = [] if why else [MISSING_TEXTS[CLOCK_CHECK]] * is_estimated
+            each = [] if why or "b" in kinds else [MISSING_TEXTS[CLOCK_CHECK]] * is_estimated
             each += [UNCHECKED_GAP] * (len(kinds) > 1 and not why)
             for number, kind in enumerate("" if why else kinds, 1):
                 each += [f"drawn {number}", *(line.partition(" ")[2] for line in self.KINDS[kind]

@@ -44,7 +44,7 @@ CALLS: dict[Mode, list[str]] = {
 VALUES = {"--page": "801", "--every": "25", "--within": "1", "--option": "german", "--origin": "7",
           "--start": "tcp", "--breaks": "1", "--pes": "2-9", "--pid": "0x101", "--severity": "file",
           "-o": "out", "--json": "x", "--csv": "x", "--junit": "x", "-p": "none",
-          "--line": "2", "--jobs": "2", "--limit": "9", "--settled": "1",
+          "--require": "losses", "--line": "2", "--jobs": "2", "--limit": "9", "--settled": "1",
           "--from": "00:00:01:00",
           "--to": "00:00:02:00", "--layout": "fit", "--pace": "9", "--late": "0:9/0:9"}
 MANUAL = os.path.join(TOP, "docs", "manual", "qc.md")

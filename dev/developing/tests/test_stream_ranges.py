@@ -99,7 +99,7 @@ class DayFiles(Case):
     def test_refuses_invalid_times(self) -> None:
         for words in (("--from", "1:00"), ("--to", "24:00:00:00"), ("--from", "00:00:00:25")):
             process = self.tool("qc", self.day(), *words)
-            self.must(f"{words}", process.status == 2 and process.told == [
+            self.must(f"{words}", process.status == 64 and process.told == [
                 f"qc: argument {words[0]}: {words[1]} is not a time of day: give HH:MM:SS:FF, 25 "
                 "frames a second"], process)
 

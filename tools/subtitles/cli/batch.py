@@ -184,6 +184,7 @@ def wait_for_any(calls: Collection[ForkedProcess], seconds: float) -> list[Forke
 
 POLL_SECONDS = 0.2
 MIN_SECONDS, BYTES_PER_SECOND = 60, 10_000_000
+MAX_SECONDS = 3600  # a sparse file may claim any size
 GRACE_SECONDS = 10  # seconds between SIGTERM and SIGKILL, in which a process can write its result
 
 
@@ -191,7 +192,7 @@ def compute_default_limit(files: Mapping[str, Any]) -> int:
     """Return the CPU time limit of a pair in seconds, computed from the sizes of its files. qc does
     not use RLIMIT_CPU, since RLIMIT_CPU would not show which limit ended a program."""
     size: int = sum(info["size"] for info in files.values() if info)
-    return MIN_SECONDS + size // BYTES_PER_SECOND
+    return min(MIN_SECONDS + size // BYTES_PER_SECOND, MAX_SECONDS)
 
 
 class RunningPair(NamedTuple):

@@ -60,6 +60,7 @@ VERDICT_SIGNS = {ACCEPTED: "\u2713", VALID: "\u25a1", WAIVED: "\u2212", REFUSED:
                  LOST: "\u29d6", WARNED: "!", NOT_JUDGED: "?", RELATIVE: "\u223c"}
 PAGE_HEADS = ("Verdict", "Pair", "What is wrong", "Faults", "Files")
 MAX_CAUSES = 6
+MAX_PAGE_PAIRS = 5000  # a page with 100,000 pairs would have 38 MB
 
 
 def make_index_page(folder: str, rows: Sequence[Row], date: str) -> bytes:
@@ -68,8 +69,11 @@ def make_index_page(folder: str, rows: Sequence[Row], date: str) -> bytes:
     counts = ", ".join(f"{verdicts[item]} {item}" for item in sorted(verdicts))
     title = f"{counted(len(rows), 'pair')}: {counts}"
     headers = join_markup(markup('<th scope="col">{}</th>', text) for text in PAGE_HEADS)
-    lines = join_markup((make_pair_row(folder, row) for row in sorted(rows, key=make_sort_key)),
-                        "\n")
+    shown = sorted(rows, key=make_sort_key)[:MAX_PAGE_PAIRS]
+    lines = join_markup((make_pair_row(folder, row) for row in shown), "\n")
+    limit_note = markup('<p class="estimated">This page lists only the worst {:,} of {:,} pairs. '
+                        "All are in the files of --csv and --json.</p>", len(shown), len(rows)
+                        ) if len(shown) < len(rows) else NO_MARKUP
     filter_rules = join_markup(markup('main:has([value="{}"]:checked) .pairs tbody tr:not(.{}) '
                                       "{{ display: none; }}\n", *[item.replace(" ", "-")] * 2)
                                for item in sorted(verdicts))
@@ -85,7 +89,8 @@ def make_index_page(folder: str, rows: Sequence[Row], date: str) -> bytes:
         "</style></head><body><main>\n<h1>{}</h1>\n<p><small>Made {}. Pairs that need attention "
         "come first.</small></p>\n{}{}\n<fieldset><legend>Show</legend>{}</fieldset>\n"
         '<table class="pairs"><caption>All pairs</caption><thead><tr>{}</tr></thead><tbody>\n{}\n'
-        "</tbody></table>\n</main></body></html>\n", title, date, note, make_cause_totals(rows),
+        "</tbody></table>\n</main></body></html>\n", title, date, note + limit_note,
+        make_cause_totals(rows),
         radios, headers, lines)
     return page.page()
 

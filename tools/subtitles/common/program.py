@@ -122,6 +122,10 @@ COMPLETION = os.path.join("tools", "completion.bash")
 HOME = os.path.join("lib", "subttx")
 MAN = os.path.join("share", "man", "man1")
 COMPLETIONS = os.path.join("share", "bash-completion", "completions")
+UNITS = ["subttx-air-record@.service", "subttx-air-judge@.service", "subttx-watch@.service"]
+SYSTEMD = os.path.join("lib", "systemd", "system")  # the folder of units
+USER_FILE = os.path.join("lib", "sysusers.d", "subttx.conf")
+USER = 'u subttx - "Teletext subtitles" /var/lib/subttx\n'  # for systemd-sysusers
 FOLDERS = "FOLDERS"  # file in HOME that lists the shared folders created by the installation
 LINK = re.compile(r"!?\[([^\]]*)\]\(([^)\s#]+)[^)\s]*\)")
 
@@ -231,9 +235,21 @@ def install(program: str, prefix: str) -> list[str]:
     return [os.path.join(prefix, "bin", name) for name in names] + pages
 
 
+def install_units(prefix: str, commands: str) -> list[str]:
+    """Install the units of systemd and the user that they run as. Return the paths. The units call
+    the tools in the folder `commands`; if it is empty, systemd searches for the tools."""
+    paths = [os.path.join(prefix, SYSTEMD, unit) for unit in UNITS]
+    for path in paths:
+        text = read(os.path.join(TOP, "docs", "manual", os.path.basename(path))) or ""
+        write(path, re.sub(rf"(?<=[= ])(?={INSTALLED}(?:qc|air) )", lambda _: commands, text))
+    path = os.path.join(prefix, USER_FILE)
+    write(path, USER)
+    return [*paths, path]
+
+
 def list_shared_folders(prefix: str) -> list[str]:
     """Return the installation's folders that other software may also use, innermost first."""
-    names = ["bin", MAN, COMPLETIONS, "lib"]
+    names = ["bin", MAN, COMPLETIONS, SYSTEMD, os.path.dirname(USER_FILE)]
     folders: list[str] = []
     for name in names:
         while name:
@@ -242,11 +258,13 @@ def list_shared_folders(prefix: str) -> list[str]:
     return [os.path.join(prefix, name) for name in sorted({*folders, ""}, key=len, reverse=True)]
 
 
-def install_and_note(program: str, prefix: str) -> list[str]:
+def install_and_note(program: str, prefix: str, has_units: bool = False) -> list[str]:
     """Install and compile everything, and record the new folders for `remove`."""
     installed_paths = [os.path.relpath(path, prefix) for path in list_shared_folders(prefix)
                        if not os.path.isdir(path)]
     paths = install(program, prefix)
+    if has_units:
+        paths += install_units(prefix, os.path.join(os.path.abspath(prefix), "bin", ""))
     compile_tools(prefix)
     note = os.path.join(prefix, HOME, FOLDERS)
     known = (read(note) or "").splitlines()
@@ -266,7 +284,8 @@ def remove(prefix: str) -> list[str]:
                        for name in (read(os.path.join(home, FOLDERS)) or "").splitlines()}
     paths = [os.path.join(prefix, "bin", "subttx"), *find_installed_links(prefix),
              *(os.path.join(prefix, MAN, page) for page in PAGES),
-             os.path.join(prefix, COMPLETIONS, "subttx")]
+             os.path.join(prefix, COMPLETIONS, "subttx"), os.path.join(prefix, USER_FILE),
+             *(os.path.join(prefix, SYSTEMD, unit) for unit in UNITS)]
     removed_paths = [path for path in paths if os.path.lexists(path)]
     for path in removed_paths:
         os.remove(path)

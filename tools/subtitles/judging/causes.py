@@ -7,7 +7,7 @@ from typing import Collection, Iterable, NamedTuple
 
 from ..common.command_line import counted
 from ..common.shapes import Members
-from ..common.times import Span, format_frame
+from ..common.times import FRAMES_OF_A_DAY, Span, format_frame
 from ..formats.listing import BEGIN, CONTENT, END
 from ..formats.stl import Subtitle
 from ..formats.teletext import OPTION_BY_WORD, page_name
@@ -30,6 +30,9 @@ NOT_ERASED, INCOMPLETE_REPEAT, UNKNOWN_CAUSE = "not erased", "not repeated whole
 ERASED, TEXT_IN_PAUSE, NOT_RECEIVED = "erased", "another text in a pause", "not received"
 CAUSE_NAMES = (LATE, EARLY, NEVER, OTHER_TEXT, WRONG_TEXT, WRONG_PLACE, WRONG_ATTRIBUTE, NOT_ERASED,
                INCOMPLETE_REPEAT, ERASED, TEXT_IN_PAUSE, NOT_RECEIVED, UNKNOWN_CAUSE)
+# Causes that a late or an early subtitle may have too
+HIDDEN_BY_DELAY = {WRONG_TEXT, OTHER_TEXT, WRONG_PLACE, WRONG_ATTRIBUTE, NOT_ERASED,
+                   INCOMPLETE_REPEAT, ERASED}
 NOT_READABLE = "some of the PES packets at that time cannot be read"
 NEXT_PROGRAMME = "the page sent at the last TCO is the next programme's"
 COMPLETED_LATER = "as expected only after another PES packet of the same frame"
@@ -373,6 +376,7 @@ class Causes:
         self.pending: dict[int, FaultyFrames] = {}
         # For each subtitle, the first frame with a wrong page
         self.first_wrong_frames: dict[int, int] = {}
+        self.delay_of_all = 0  # delay of all subtitles in frames, negative if they are early
 
     def classify_faults(self, output: CheckOutput) -> None:
         """Find the causes of all reported faults."""
@@ -389,6 +393,26 @@ class Causes:
         self.pending = {}
         if begin and begin.frame is not None:
             self.classify_first(begin.frame)
+
+    def classify_by_delay(self, delay: int) -> None:
+        """Find what else is wrong with subtitles that are all `delay` frames late or early. Compare
+        them with a clock that is wrong by this delay, and store a cause that hides behind it."""
+        name = LATE if delay > 0 else EARLY
+        late = [place for place, cause in self.cause_by_index.items()
+                if (cause.name, cause.frames) == (name, abs(delay))]
+        if len(late) == len(self.expected.subtitles):
+            self.delay_of_all = delay
+        delayed = Causes(self.expected.move(delay), self.timeline, self.recorded_span)
+        first, last = delayed.expected.begins[0], delayed.expected.subtitles[-1].end
+        if first < 0 or last >= FRAMES_OF_A_DAY:
+            return
+        for span in delayed.finder.split_frames(first, min(last, self.timeline.last)):
+            if not delayed.finder.is_expected_page(span.first):
+                delayed.add_span(delayed.finder.find_owner(span.first), span)
+        for place in sorted({*late} & {*delayed.pending}):
+            cause = delayed.finder.find_cause(place, delayed.pending[place])
+            if cause.name in HIDDEN_BY_DELAY:
+                self.cause_by_index[place] = cause
 
     def add_frames(self, first: int, last: int) -> None:
         """Add the frames from `first` to `last`, which have a wrong page."""

@@ -235,7 +235,8 @@ class PairJudge:
         if self.request.recording is not None:
             file = SubtitleFile(self.names.program_stl, self.request.between)
             faults = (fault for fault, _ in answer.read_faults())
-            self.verdict.valid_subtitles = find_valid_subtitles(file, faults, self.request.option)
+            self.verdict.valid_subtitles = find_valid_subtitles(
+                file, faults, self.request.option, self.verdict.severity.is_error)
         return answer.copy_without(EMPTY, self.names.make_temporary_path("refused.txt"))
 
     @property

@@ -256,6 +256,8 @@ def find_part_causes(part: Part) -> Causes | None:
                     find_recorded_span(None if recording.packets.refusal
                                        else recording.find_recorded_pts(), alignment))
     causes.classify_faults(part.check_output)
+    if alignment.clock.delay_frames and not request.within:
+        causes.classify_by_delay(alignment.clock.delay_frames)
     return causes if causes.list_causes() else None
 
 

@@ -2,14 +2,14 @@
 from __future__ import annotations
 
 import functools
-from typing import Iterable, Iterator, NamedTuple, Sequence
+from typing import Callable, Iterable, Iterator, NamedTuple, Sequence
 
 from ..common.command_line import counted
 from ..common.times import FRAMES_A_SECOND, FRAMES_OF_A_DAY, TICKS, decode_frame, format_frame
 from ..formats.layout import Layout, PLAIN, TextFault, draw_text, make_page_rows
 from ..formats.listing import (
     CHARACTER, EMPTY, EMPTY_TIME, FaultLine, Meaning, OUT_OF_ORDER, STL_FAULTS, TEXT_FAULTS,
-    read_meanings, remove_markup)
+    UNDECIDED, read_meanings, remove_markup)
 from ..formats.stl import (
     NamedSubtitle, Subtitle, SubtitleFile, format_subtitle_name, decode_subtitles)
 from ..formats.teletext import (
@@ -128,12 +128,14 @@ class SubtitleCounts(NamedTuple):
 
 
 class RefusedSubtitle(NamedTuple):
-    """A refused subtitle, its first fault, its refused character, if any, and advice."""
+    """A refused subtitle, its first fault that is an error (or its first fault, if all are
+    waived), its refused character, if any, and advice."""
 
     subtitle: NamedSubtitle
     fault: FaultLine
     character: str
     advice: str
+    is_waived: bool = False  # whether the severity file makes all its faults warnings
 
     def describe_subtitle(self) -> str:
         subtitle = self.subtitle
@@ -166,16 +168,26 @@ class ValidSubtitles(NamedTuple):
             yield f"undecided: {counted(len(self.refused) - MAX_LIST_LINES, 'more subtitle')}"
 
     def describe(self) -> str:
-        """Describe the first refused subtitles, and the number of the others."""
-        if len(self.refused) == 1:
-            return f"{self.refused[0].describe_subtitle()} {self.refused[0].describe_reason()}"
+        """Describe the first refused subtitles, and the number of the others. Leave out those whose
+        faults are waived, unless all are."""
+        several = [item for item in self.refused if not item.is_waived] or self.refused
+        if len(several) == 1:
+            return f"{several[0].describe_subtitle()} {several[0].describe_reason()}"
         subtitle_texts = [f"{refused.describe_subtitle()} {refused.describe_reason()}"
-                          for refused in self.refused[:MAX_NAMED_SUBTITLES]]
-        more, total = len(self.refused) - len(subtitle_texts), len(self.judged) \
+                          for refused in several[:MAX_NAMED_SUBTITLES]]
+        more, total = len(several) - len(subtitle_texts), len(self.judged) \
             + len(self.skipped_positions)
         last = f"{more:,} more" if more else subtitle_texts.pop()
-        return f"{len(self.refused):,} of {total:,} subtitles have faults: " \
+        return f"{len(several):,} of {total:,} subtitles have faults: " \
             f"{'; '.join(subtitle_texts)}; and {last}"
+
+    def describe_errors(self, is_undecided_error: bool) -> str:
+        """Describe the subtitles without which the pair would not be refused. If the faults of all
+        refused subtitles are waived, this is at most the unknown page next to them."""
+        if not all(item.is_waived for item in self.refused):
+            return self.describe()
+        return f"the expected page is unknown next to {counted(len(self.refused), 'subtitle')} " \
+            f"with waived faults (fault {UNDECIDED})" if is_undecided_error else ""
 
 
 def has_valid_subtitles(numbers: set[int]) -> bool:
@@ -185,9 +197,10 @@ def has_valid_subtitles(numbers: set[int]) -> bool:
     return EMPTY in numbers and bool(numbers & STL_FAULTS)
 
 
-def find_valid_subtitles(file: SubtitleFile, faults: Iterable[FaultLine],
-                         option: str) -> ValidSubtitles:
-    """Return the subtitles that can be judged, and those that can't because of the faults."""
+def find_valid_subtitles(file: SubtitleFile, faults: Iterable[FaultLine], option: str,
+                         is_error: Callable[[int], bool] = lambda number: True) -> ValidSubtitles:
+    """Return the subtitles that can be judged, and those that can't because of the faults.
+    `is_error` says whether the faults with a number are errors."""
     faults_by_position: dict[int, list[FaultLine]] = {}
     for fault in faults:
         subtitle = file.find_by_block(fault.block) if fault.block is not None else None
@@ -200,8 +213,11 @@ def find_valid_subtitles(file: SubtitleFile, faults: Iterable[FaultLine],
                      if place not in faults_by_position and not (after is not None and {
                   item.number for item in faults_by_position.get(after, ())} & ORDER_FAULTS)}
     advice, known = OptionAdvice(file, option), read_meanings()
-    refused = [make_refused_subtitle(file, faults_by_position[place][0], advice, known)
-               for place in sorted(faults_by_position)]
+    refused = []
+    for _, several in sorted(faults_by_position.items()):
+        errors = [fault for fault in several if is_error(fault.number)]
+        refused.append(make_refused_subtitle(file, (errors or several)[0], advice,
+                                             known)._replace(is_waived=not errors))
     return ValidSubtitles([item for item in decode_subtitles(file.data)
                            if item.index in judged_places],
                           refused, frozenset(requested_positions) - judged_places)

@@ -2,6 +2,7 @@
 from __future__ import annotations
 
 import bisect
+import dataclasses
 import functools
 import os
 import subprocess
@@ -193,6 +194,12 @@ class ExpectedPages(SubtitleList):
                  timeline: Timeline | None = None) -> None:
         super().__init__(subtitles)
         self.pages, self.timeline = pages, timeline
+
+    def move(self, frames: int) -> ExpectedPages:
+        """Return the pages as a clock expects them that is wrong by a number of frames."""
+        return ExpectedPages([dataclasses.replace(item, begin=item.begin + frames,
+                                                  end=item.end + frames)
+                              for item in self.subtitles], self.pages, self.timeline)
 
     @functools.cached_property
     def positions_by_page(self) -> dict[Rows, list[int]]:

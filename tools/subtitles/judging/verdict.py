@@ -332,9 +332,11 @@ class Verdict:
     def delay_of_all(self) -> int:
         """Return the delay in frames that all subtitles have on the given clock, or 0 if their
         delays differ, or if --within allows delays."""
-        clock = self.parts[0].clock if len(self.parts) == 1 else None
-        is_measured = clock and clock.is_delay_of_all and not self.request.within
-        return clock.delay_frames or 0 if clock and is_measured else 0
+        if len(self.parts) != 1 or self.request.within:
+            return 0
+        clock, causes = self.parts[0].clock, self.parts[0].causes
+        return clock.delay_frames or 0 if clock and clock.is_delay_of_all else \
+            causes.delay_of_all if causes else 0
 
     def add_transmission_facts(self, facts: Facts, valid_subtitles: ValidSubtitles) -> Facts:
         """Return a copy of `facts` with facts about the transmission added, for a file with refused
@@ -342,7 +344,10 @@ class Verdict:
         outputs = [part.check_output for part in self.parts]
         parts = [part for part in self.parts if part.worst_transmission_fault]
         part = find_worst_part(parts, lambda item: item.worst_transmission_fault)
-        facts = facts._replace(refused=valid_subtitles.describe(),
+        refused = valid_subtitles.describe() if self.word != REFUSED else \
+            valid_subtitles.describe_errors(self.severity.is_error(UNDECIDED) and any(
+                UNDECIDED in answer.fault_numbers for answer in outputs))
+        facts = facts._replace(refused=refused,
                                subtitles=len(valid_subtitles.judged),
                                faults=sum(answer.transmission_fault_count
                                           for answer in outputs), counts=
@@ -417,8 +422,7 @@ class Verdict:
         """Return the numbers of the faults that the severity file turns into warnings. Return an
         empty set if the pair is not refused."""
         numbers = {number for part in self.parts for number in part.check_output.fault_numbers}
-        left_out = STL_FAULTS | {UNDECIDED} if self.valid_subtitles else set[int]()
-        return {number for number in numbers - left_out if not self.severity.is_error(number)} \
+        return {number for number in numbers if not self.severity.is_error(number)} \
             if self.word == REFUSED else set()
 
     def format_check_line(self, refused: str | None) -> str | None:
