@@ -5,10 +5,11 @@ use std::process::Abort;
 use std::test::Fail;
 use sub_words::explanation_of;
 
-// Wrong arguments, and after them the expected line.
+// In each table: wrong arguments, and after them the expected line.
+
+// No command, or no such command
 #[rattlefmt::skip]
-const WRONG_CALLS: [&[&str]; 73] = [
-    // No command, or no such command
+const MISSING_COMMANDS: [&[&str]; 11] = [
     &["subttx", "subttx: give a command (subttx --help lists the commands)"],
     &["subttx", "foo", "subttx: foo: there is no such command (subttx --help lists the commands)"],
     &["subttx", "Check", "a", "b",
@@ -25,7 +26,11 @@ const WRONG_CALLS: [&[&str]; 73] = [
     &["subttx", "help", "packet", "15", "subttx: help: give nothing else, or only a command"],
     &["subttx", "--version", "check", "subttx: --version: give nothing else"],
     &["subttx", "-V", "--help", "subttx: -V: give nothing else"],
-    // Arguments that a command does not have
+];
+
+// Arguments that a command does not have
+#[rattlefmt::skip]
+const UNKNOWN_OPTIONS: [&[&str]; 13] = [
     &["subttx", "check", "a", "b", "-h", "subttx: -h: give it alone, or with the command alone"],
     &["subttx", "check", "-h", "x", "subttx: -h: give it alone, or with the command alone"],
     &["subttx", "check", "a", "b", "--help",
@@ -49,14 +54,22 @@ const WRONG_CALLS: [&[&str]; 73] = [
         "subttx: --every: there is no such option here: subttx survey RECORDING [options]"],
     &["subttx", "extract", "a", "b", "--pid", "257", "--pes", "0-1",
         "subttx: --pes: there is no such option here: subttx extract TS PES --pid P [options]"],
-    // Arguments that are given twice, without a value, or with one
+];
+
+// Arguments that are given twice, without a value, or with one
+#[rattlefmt::skip]
+const REPEATED_OPTIONS: [&[&str]; 5] = [
     &["subttx", "check", "a", "b", "--page", "subttx: --page: give its value after it"],
     &["subttx", "check", "a", "b", "--page", "--every", "3",
         "subttx: --page: give its value after it"],
     &["subttx", "check", "a", "b", "--pid", "1", "--pid", "1", "subttx: --pid: give it only once"],
     &["subttx", "check", "a", "b", "--all", "--all", "subttx: --all: give it only once"],
     &["subttx", "check", "a", "b", "--all=yes", "subttx: --all=yes: give it without a value"],
-    // Too many arguments, and too few
+];
+
+// Too many arguments, and too few
+#[rattlefmt::skip]
+const ARGUMENT_COUNTS: [&[&str]; 11] = [
     &["subttx", "check", "a", "b", "c", "subttx: c: leave it out: subttx check STL PES [options]"],
     &["subttx", "check", "a", "b", "--", "c",
         "subttx: c: leave it out: subttx check STL PES [options]"],
@@ -73,7 +86,11 @@ const WRONG_CALLS: [&[&str]; 73] = [
     &["subttx", "extract", "a", "b",
         "subttx: extract: an argument is missing: subttx extract TS PES --pid P [options]"],
     &["subttx", "packet", "--", "subttx: packet: an argument is missing: subttx packet HEX"],
-    // Wrong values, of each kind
+];
+
+// Wrong files, pages, clocks and options
+#[rattlefmt::skip]
+const WRONG_FILES_AND_CLOCKS: [&[&str]; 12] = [
     &["subttx", "packet", "15", "subttx: HEX 15: give 42 bytes as 84 hexadecimal digits"],
     &["subttx", "normal", "a", "a", "subttx: OUT a: give another file than the one that is read"],
     &["subttx", "schedule", "a", "a", "subttx: PES a: give another file than the one that is read"],
@@ -96,6 +113,11 @@ const WRONG_CALLS: [&[&str]; 73] = [
         "subttx: --within 51: give a number of frames from 0 to 50"],
     &["subttx", "check", "a", "b", "--pid", "8191",
         "subttx: --pid 8191: give a PID from 0 to 8190, or from 0x0 to 0x1FFE"],
+];
+
+// Wrong recordings, layouts and receivers
+#[rattlefmt::skip]
+const WRONG_PARTS_AND_RECEIVERS: [&[&str]; 12] = [
     &["subttx", "packets", "a", "--pid", "0x1FFF",
         "subttx: --pid 0x1FFF: give a PID from 0 to 8190, or from 0x0 to 0x1FFE"],
     &["subttx", "survey", "a", "--packet-size", "190",
@@ -122,7 +144,11 @@ const WRONG_CALLS: [&[&str]; 73] = [
         "subttx: --lose 01,1: give 1 to 64 packet numbers, separated by commas, none twice"],
     &["subttx", "listen", "b.pes", "--at", "10:00:00:10", "--receiver", "no",
         "subttx: --receiver no: give blank, keep, drop or anew"],
-    // Values that are escaped
+];
+
+// Values that are escaped
+#[rattlefmt::skip]
+const ESCAPED_VALUES: [&[&str]; 9] = [
     &["subttx", "check", "a", "b", "--every", "",
         "subttx: --every \"\": give a number of frames from 1 to 2,160,000"],
     &["subttx", "check", "a", "b", "--every", "1 2",
@@ -144,9 +170,47 @@ const WRONG_CALLS: [&[&str]; 73] = [
 ];
 
 #[test]
-fn explains_wrong_arguments_in_one_line(rt: HostRuntime) -> Result<(), Fail> {
-    for row in &WRONG_CALLS {
-        assert_explains(&rt, *row)?;
+fn explains_missing_and_unknown_commands(rt: HostRuntime) -> Result<(), Fail> {
+    assert_explain(&rt, &MISSING_COMMANDS)
+}
+
+#[test]
+fn explains_unknown_options(rt: HostRuntime) -> Result<(), Fail> {
+    assert_explain(&rt, &UNKNOWN_OPTIONS)
+}
+
+#[test]
+fn explains_repeated_options_and_missing_values(rt: HostRuntime) -> Result<(), Fail> {
+    assert_explain(&rt, &REPEATED_OPTIONS)
+}
+
+#[test]
+fn explains_too_many_and_too_few_arguments(rt: HostRuntime) -> Result<(), Fail> {
+    assert_explain(&rt, &ARGUMENT_COUNTS)
+}
+
+#[test]
+fn explains_wrong_files_pages_and_clocks(rt: HostRuntime) -> Result<(), Fail> {
+    assert_explain(&rt, &WRONG_FILES_AND_CLOCKS)
+}
+
+#[test]
+fn explains_wrong_recordings_parts_and_receivers(rt: HostRuntime) -> Result<(), Fail> {
+    assert_explain(&rt, &WRONG_PARTS_AND_RECEIVERS)
+}
+
+#[test]
+fn escapes_values(rt: HostRuntime) -> Result<(), Fail> {
+    assert_explain(&rt, &ESCAPED_VALUES)
+}
+
+// Asserts the line of each row of a table.
+fn assert_explain(
+    rt: &(impl Abort + Alloc<A = Global>),
+    rows: &'static [&'static [&'static str]],
+) -> Result<(), Fail> {
+    for row in rows {
+        assert_explains(rt, *row)?;
     }
     Ok(())
 }
