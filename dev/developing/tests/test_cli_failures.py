@@ -30,7 +30,7 @@ PROGRAM = r"""#!/bin/sh
 case "$*" in
     show*) printf '%s\n' '00001 10:00:00:00 10:00:02:00 vp 22 jc 2 text 0d0b0b48690a0a' \
         '1 subtitles' ;;
-    survey* | schedule*) exec '{program}' "$@" ;;
+    survey* | schedule* | packets*) exec '{program}' "$@" ;;
     *' /dev/null') {alone} ;;
     *) {said} ;;
 esac
@@ -142,6 +142,8 @@ class Programs(CallCase):
         for when, several in (
                 ("check*null", ("exit 0", "kill -9 $$")), ("show*", ("exit 0", "exit 1",
                                                                      "kill -9 $$")),
+                ("packets*", ("exit 0", "exit 1", "kill -9 $$",
+                              f"'{self.bench.program}' \"$@\" | head -n 9; exit 0")),
                 ("survey*", ("exit 0", "exit 1", "kill -9 $$",
                              "echo survey 2; echo over 0 0; exit 0",
                              f"'{self.bench.program}' \"$@\" | head -n 9; exit 0",

@@ -7,7 +7,7 @@ import functools
 from typing import Iterator, NamedTuple, Sequence
 
 from ..clock.start import TimedPart
-from ..common.checks import LOSSES, PICTURES
+from ..common.checks import LOSSES, OUTSIDE, PICTURES
 from ..common.command_line import Stop, counted
 from ..common.files import sum_file
 from ..common.times import ALL_DAY, FRAMES_OF_A_DAY, FrameRange, format_frame, pts_of
@@ -21,7 +21,8 @@ from ..recording.recording import Recording, refuse_files
 from ..request.commands import CommandPaths, Listener, OutputNames, make_qc_command
 from ..request.request import (
     OPTION_CHOICE, Request, Selection, Unclear, IncompleteAnswer, WrongInput, describe_option)
-from ..stream.packets import HEADER, Range
+from ..stream.packets import HEADER, NO_RANGE, Range
+from ..stream.proved import find_unproved_number
 from .causes import Causes
 from .check import CheckOutput, check_file_alone, print_file_check_command, run_check
 from .desync import find_desync
@@ -35,6 +36,7 @@ from .timing import (
     NO_CLOCK, PartClocks, PartSearch, find_part_packets, find_parts, get_given_clock,
     measure_part_pace)
 from .transmissions import ExpectedPages, count_keeping_headers, read_subtitles, schedule_pages
+from .unchecked import Unchecked
 from .verdict import DELAYING_FAULTS, Verdict, find_gaps, measure_delay
 
 
@@ -400,6 +402,7 @@ class PairJudge:
         self.verdict.made_checks.add((LOSSES, part.number))
         self.current_part = part
         check_part(part, self.command_paths, listener)
+        self.compare_packets(part)
         self.refuse_adjoining_cut(part)
         self.verdict.parts.append(part)
         self.check_pictures(part)
@@ -442,6 +445,16 @@ class PairJudge:
                       "directly: the page is not erased there",
                       *(self.format_call("--to", format_frame(end + 1))
                         for end in find_nearest_pauses(subtitles, at)))
+
+    def compare_packets(self, part: Part) -> None:
+        """Raise `SurveyMismatch` if `survey` printed other PES packets of a part than the proved
+        command `packets`. Add an entry for those that were not compared."""
+        recording, pes = part.judged_recording[0], part.pes or NO_RANGE
+        number = find_unproved_number(recording.make_reading(), recording.packets, pes)
+        if number is not None:
+            self.verdict.unchecked.append(Unchecked(
+                OUTSIDE, f"whether survey read PES packets {number} to {pes[1]} as the proved "
+                "command packets does, since many before them are refused", part.number))
 
     def check_pictures(self, part: Part) -> None:
         """Add a fault for each interval in which the pictures drift from the subtitles."""

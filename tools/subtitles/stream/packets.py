@@ -5,7 +5,7 @@ import array
 import dataclasses
 import functools
 import itertools
-from typing import Iterable, Iterator, NamedTuple, Sequence
+from typing import Collection, Iterable, Iterator, NamedTuple, Sequence
 
 from ..common.times import TICKS, count_until, subtract_pts, wrap_pts
 
@@ -113,6 +113,7 @@ class Packets:
     # Numbers of the PES packets at announced jumps of the counter.
     counter_jumps: list[int] = dataclasses.field(default_factory=list)
     damage: str | None = None  # reason why the rest of a PES file can't be read
+    damage_faults: Collection[int] = ()  # faults with which `packets` may end there
     refusal: int = 0  # 31 (Start) or 32 (Length) if the next PES packet is not Teletext
     packets: int = 0  # number of TS packets of the PID
     scrambled: int = 0  # number of scrambled TS packets

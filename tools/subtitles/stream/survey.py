@@ -229,8 +229,10 @@ class Survey:
         video.is_cut = passed != ""
 
     def parse_damaged(self, pid: str, number: str, reason: str, *_: str) -> None:
-        self.get_packets(pid).damage = f"PES packet {number} " + {
+        packets = self.get_packets(pid)
+        packets.damage = f"PES packet {number} " + {
             "start": "does not begin with 00 00 01 BD", "cut": "is incomplete"}[reason]
+        packets.damage_faults = {"start": (31, 32), "cut": (30,)}[reason]
 
     def parse_end(self, pid: str, *numbers: str) -> None:
         pid_packets = self.get_packets(pid)
