@@ -66,15 +66,17 @@ class Pairs(Case):
             process = qc(self, STORY, *words, data=data)
             self.must(name, process.status == 3 and split_output_lines(process)[-1] == RELATIVE,
                       process)
-        with open(RECORDING, "rb") as file:
-            again = subprocess.run([os.path.join(TOP, "tools", "qc"), STORY, "-", "-p",
-                                    self.bench.program, "--relative", "--json", "one.json"],
-                                   stdin=file,
-                                   stdout=subprocess.PIPE, cwd=self.folder, check=False)
-        self.must("a file as standard input", again.returncode == 0, again)
-        part = json.loads(self.read("one.json"))["parts"][0]
-        self.must("its part", part["judged_file"] and (part["pid"], part["pes"]) == (257, "2-6"),
-                  part)
+        for name, is_copied in (("-", True), ("/dev/stdin", False)):
+            with open(RECORDING, "rb") as file:
+                again = subprocess.run([os.path.join(TOP, "tools", "qc"), STORY, name, "-p",
+                                        self.bench.program, "--relative", "--json", "one.json"],
+                                       stdin=file, stdout=subprocess.PIPE, cwd=self.folder,
+                                       check=False)
+            self.must(f"a file as {name}", again.returncode == 0, again)
+            part = json.loads(self.read("one.json"))["parts"][0]
+            self.must(f"the part of {name}",
+                      (part["judged_file"] is not None) == is_copied
+                      and (part["pid"], part["pes"]) == (257, "2-6"), part)
 
 
 class Batches(Case):

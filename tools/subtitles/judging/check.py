@@ -217,7 +217,8 @@ def run_check(command: list[str], output: CheckOutput,
               report_line: Callable[[str], None]) -> CheckOutput:
     """Run `check --all` and return its output. Call `report_line` for each line at once, but for an
     `accepted` line only after the exit status has confirmed it."""
-    with subprocess.Popen(command, stdin=subprocess.DEVNULL, stdout=subprocess.PIPE,
+    # The recording may be /dev/stdin, so `check` has the same standard input as qc.
+    with subprocess.Popen(command, stdout=subprocess.PIPE,
                           encoding="utf-8", errors="replace") as process:
         assert process.stdout
         try:

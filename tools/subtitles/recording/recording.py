@@ -63,7 +63,7 @@ def read_pes_header(program: str, path: str, pid: int, size: int) -> bytes:
                  f"/dev/fd/{writer}"]
     with open(reader, "rb") as packets:
         try:
-            call = subprocess.Popen(arguments, stdin=subprocess.DEVNULL, pass_fds=(writer,),
+            call = subprocess.Popen(arguments, pass_fds=(writer,),
                                     stdout=subprocess.DEVNULL, stderr=subprocess.DEVNULL)
         finally:
             os.close(writer)
@@ -293,8 +293,8 @@ class Recording:
         pes_path = self.names.make_temporary_path("kept.pes")
         process = subprocess.run([self.command_paths.program_path, "extract",
                                   *self.list_program_options(), "--",
-                                  self.path, pes_path], stdin=subprocess.DEVNULL,
-                                 stdout=subprocess.DEVNULL, check=False)
+                                  self.path, pes_path], stdout=subprocess.DEVNULL,
+                                 check=False)
         if process.returncode != 1:  # with status 1, the PES packets before a refused one are kept
             process.check_returncode()
         yield from read_chunks(pes_path)
