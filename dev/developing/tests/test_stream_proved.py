@@ -88,7 +88,8 @@ class Comparison(Case):
         self.check("the rest", self.compare(items[2:], second, "1 pes"), None)
         self.check("the end", self.compare(items[2:], second, "refused 31 Start pes 6",
                                            end=End(6, {31})), None)
-        wrong = {"another number": (items, "pes 2 pts 70", "1 pes"),
+        wrong: dict[str, tuple[Any, ...]] = {
+                 "another number": (items, "pes 2 pts 70", "1 pes"),
                  "another PTS": (items[:1], "pes 3 pts 71", "1 pes"),
                  "a refused one": ([Item(3, None, 33)], first, "1 pes"),
                  "one too few": (items[:1], "0 pes"),
@@ -117,11 +118,11 @@ class Comparison(Case):
                 calls.append(first)
                 return [f"refused 45 Lost pes {first}"]
 
-        reading: Any = Refused()
+        command: Any = Refused()
         packets = Packets(PID, [PacketRun(at, 1, None, 0, "m", "") for at in range(30)])
         for last, expected in ((18, None), (19, None), (20, 20), (29, 20)):
             calls.clear()
-            number = find_unproved_number(reading, packets, (0, last))
+            number = find_unproved_number(command, packets, (0, last))
             self.check(f"{last}", (number, len(calls)), (expected, min(last + 1, 20)))
 
 

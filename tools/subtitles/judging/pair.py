@@ -450,7 +450,7 @@ class PairJudge:
         """Raise `SurveyMismatch` if `survey` printed other PES packets of a part than the proved
         command `packets`. Add an entry for those that were not compared."""
         recording, pes = part.judged_recording[0], part.pes or NO_RANGE
-        number = find_unproved_number(recording.make_reading(), recording.packets, pes)
+        number = find_unproved_number(recording.make_packets_command(), recording.packets, pes)
         if number is not None:
             self.verdict.unchecked.append(Unchecked(
                 OUTSIDE, f"whether survey read PES packets {number} to {pes[1]} as the proved "

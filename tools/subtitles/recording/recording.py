@@ -23,7 +23,7 @@ from ..request.request import PID_CHOICE, Request, Selection, Unclear, WrongInpu
 from ..stream.gaps import (
     LossPlace, describe_gap_markers, explain_refusal, find_loss_places, find_recorded_range)
 from ..stream.packets import HEADER, PES, PTSPair, Packets
-from ..stream.proved import Reading, has_proved_numbers
+from ..stream.proved import PacketsCommand, has_proved_numbers
 from ..stream.survey import Survey, survey
 from .notices import Notice, find_announcements, refuse_unsent_page, find_silent_pids
 
@@ -160,16 +160,17 @@ class Recording:
         """Read the recording again with the chosen PID if `survey` has recognised this PID only
         after its first PES packets, and so does not count as `check` does."""
         is_chosen = self.is_stream and self.request.pid is None
-        if is_chosen and not has_proved_numbers(self.make_reading(), self.packets):
+        if is_chosen and not has_proved_numbers(self.make_packets_command(), self.packets):
             pid, other_pids = self.packets.pid, self.survey.by_pid
             self.survey = survey(self.command_paths.program_path, self.path, self.request.page,
                                  pid, look=self.show_progress)
             self.packets = self.survey.get_packets(str(pid))
             self.survey.by_pid = {**other_pids, pid: self.packets}
 
-    def make_reading(self) -> Reading:
-        """Return how the program reads the PES packets of the recording."""
-        return Reading(self.command_paths.program_path, self.path, self.list_program_options())
+    def make_packets_command(self) -> PacketsCommand:
+        """Return the command with which the program lists the PES packets of the page's PID."""
+        return PacketsCommand(self.command_paths.program_path, self.path,
+                              self.list_program_options())
 
     def show_progress(self) -> None:
         self.listener.printer.show_progress(lambda: self.name)

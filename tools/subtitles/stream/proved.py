@@ -33,8 +33,8 @@ class End(NamedTuple):
     faults: Collection[int] = ()
 
 
-class Reading(NamedTuple):
-    """How to read a recording: the program, the path, and the options for the PID."""
+class PacketsCommand(NamedTuple):
+    """The program and the arguments for `packets`: the recording, and the options for its PID."""
 
     program: str
     path: str
@@ -102,7 +102,7 @@ def find_end(packets: Packets) -> End:
     return End(packets.count, {packets.refusal} if packets.refusal else packets.damage_faults)
 
 
-def find_unproved_number(reading: Reading, packets: Packets, inside: Range) -> int | None:
+def find_unproved_number(command: PacketsCommand, packets: Packets, inside: Range) -> int | None:
     """Compare the PES packets of a range. Return the number from which on they were not compared,
     because too many of them are refused, or `None` if all were."""
     number: int | None = inside[0]
@@ -110,16 +110,16 @@ def find_unproved_number(reading: Reading, packets: Packets, inside: Range) -> i
         if number is None or number > inside[1]:
             return None
         rest = number, inside[1]
-        number = compare_lines(list_items(packets, rest), reading.list_packets(*rest),
+        number = compare_lines(list_items(packets, rest), command.list_packets(*rest),
                                find_end(packets))
     return number if number is not None and number <= inside[1] else None
 
 
-def has_proved_numbers(reading: Reading, packets: Packets) -> bool:
+def has_proved_numbers(command: PacketsCommand, packets: Packets) -> bool:
     """Return whether `survey` counts the PES packets of a PID as `packets` does. It counts from the
     TS packet on in which it recognised the PID, unless it was called with --pid."""
     try:
-        find_unproved_number(reading, packets, (0, NUMBERED - 1))
+        find_unproved_number(command, packets, (0, NUMBERED - 1))
     except SurveyMismatch:
         return False
     return True
