@@ -170,7 +170,8 @@ class Programs(CallCase):
         named = self.write("named", b"67 warning\n")
         process = self.judge(program, "--severity", named, "--json", "one.json", "--csv", "one.csv",
                              "--junit", "one.xml")
-        known, line = self.object(), f"waived: {CONTROL}"
+        known = self.object()
+        line = f"waived: {CONTROL}; not checked: no_video, losses"
         self.assertEqual((process.status, process.printed[-1]), (0, line), process)
         self.assertEqual((known["verdict"], known["status"], known["line"]), ("waived", 0, line))
         rows = list(csv.DictReader(self.text("one.csv").splitlines()))
@@ -189,7 +190,7 @@ class Programs(CallCase):
             process = self.qc(*HELLO, "-p", program, *words, "--quiet", "--json", "one.json",
                               "--csv", "one.csv", "--junit", "one.xml", "-o", "out")
             known, last = self.object(), line + "; the profile has --relative" * (
-                "--profile" in words)
+                "--profile" in words) + "; not checked: no_video, losses, clock"
             self.assertEqual((process.status, len(process.printed), process.printed[-1]),
                              (status, 2, last), status)
             self.assertEqual([known[name] for name in (
@@ -216,7 +217,8 @@ class UsageErrors(CallCase):
         for words, status in (
                 ((*HELLO, "--every", "x"), 64), ((*HELLO, "--none"), 64), ((), 64),
                 ((*HELLO, "more"), 64), (("--page", "8ff"), 64), ((*HELLO, "--jobs", "2"), 64),
-                ((HELLO[0], "none.ts"), 2), (("--file-only", "none.stl"), 2), ((*HELLO, "-p", "none"), 2),
+                ((HELLO[0], "none.ts"), 2), (("--file-only", "none.stl"), 2),
+                ((*HELLO, "-p", "none"), 2),
                 ((*HELLO, "--severity", "none"), 2), (("--batch", "none"), 2),
                 (("--collect", "none"), 2), (("--watch", "none"), 64),
                 ((*HELLO, "--csv", "none/one"), 2)):
@@ -239,7 +241,8 @@ class UsageErrors(CallCase):
         for name in ("one.stl", "one.pes", "list"):
             self.write(name, b"an input")
             for words in (["one.stl", "one.pes", "--every", "x"], ["one.stl", "--none"],
-                          ["--batch", "list", "--every", "x"], ["--severity", "list", "one.stl"]):
+                          ["--batch", "list", "--every", "x"],
+                          ["--severity", "list", "one.stl", "one.pes"]):
                 process = self.qc(*words, "--json", name)
                 self.assertEqual((process.status, self.read(name)), (
                     2 if "--severity" in words else 64, b"an input"), (name, words))

@@ -44,7 +44,8 @@ def check_installation(case: Case, prefix: str) -> None:
     process = run("subttx", "check", stl, "recording.pes", "--pes", "0-4")
     case.must("check", process.out == b"accepted 226 frames 5 transmissions\n", process)
     process = run("subttx-qc", stl, "story.ts", "-o", "report")
-    case.must("qc", process.out.splitlines()[-1].startswith(b"relative 226 frames 5 transmissions") and
+    last = process.out.splitlines()[-1]
+    case.must("qc", last.startswith(b"relative 226 frames 5 transmissions") and
               os.path.join(prefix, "bin", "subttx").encode() in process.out and
               os.path.exists(case.path("report/story.html")), process)
     process = run("subttx-air", "--help")
