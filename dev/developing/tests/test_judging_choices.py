@@ -425,7 +425,8 @@ class Profiles(Case):
                 ([stl, pes, "--every", "25"], "--every may be given with a recording"),
                 ([stl, pes, "--batch", "x"], "can't be given together")):
             process = self.tool("qc", "--measure", *words)
-            self.must(printed, process.status == 2 and not process.out
+            status = 2 if "is empty" in printed else 64
+            self.must(printed, process.status == status and not process.out
                       and len(process.told) == 1 and printed in process.told[0], process)
         known = read_options(make_parser(""), ["--measure", stl, pes], {}, {})
         with contextlib.redirect_stdout(io.StringIO()) as out:

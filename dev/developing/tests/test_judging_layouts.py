@@ -108,7 +108,7 @@ class LayoutMessages(Case):
 
     def test_reports_the_option_chosen_by_auto(self) -> None:
         process = self.tool("qc", "one.stl", "one.ts", "--layout", "auto")
-        self.must("auto", process.status == 2 and len(process.told) == 1 and
+        self.must("auto", process.status == 64 and len(process.told) == 1 and
                   "find the layout of your inserter with `--measure" in process.told[0], process)
 
     def test_names_the_cells_in_which_pages_differ(self) -> None:

@@ -41,8 +41,8 @@ from .test_judging_reasons import KEEPING_HEADER
 from .test_judging_verdicts import make_part_verdict
 
 BAD = b"\xe6: no letter"
-REPLACE_ADVICE = "replace it (it needs another region, or packets X/26, which are refused with " \
-    "fault 70)"
+REPLACE_ADVICE = "replace it (it needs other character sets, or packets X/26, which are " \
+    "refused with fault 70)"
 WORDS = "--origin", "0", "--every", "100"
 PAGE = 0, 0x88
 

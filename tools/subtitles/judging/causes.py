@@ -411,7 +411,10 @@ class Causes:
                 delayed.add_span(delayed.finder.find_owner(span.first), span)
         for place in sorted({*late} & {*delayed.pending}):
             cause = delayed.finder.find_cause(place, delayed.pending[place])
-            if cause.name in HIDDEN_BY_DELAY:
+            # A late subtitle that is erased at its own TCO is only late.
+            is_erased_in_time = cause.name == ERASED and \
+                delayed.first_wrong_frames[place] >= self.expected.subtitles[place].end
+            if cause.name in HIDDEN_BY_DELAY and not is_erased_in_time:
                 self.cause_by_index[place] = cause
 
     def add_frames(self, first: int, last: int) -> None:
