@@ -125,7 +125,8 @@ class MissingResources(Case):
                 "one with results": ([*pair, "--origin", "0", "-o", "out"], 0),
                 "a subtitle file": ([pair[0], "--file-only"], 0), "one that is refused": (wrong, 1),
                 "no recording": (["none.stl"], 64),
-                "no file": (["none.stl", "none.ts"], 2), "a pair that is not": ([*pair, "--page", "150"], 2)}
+                "no file": (["none.stl", "none.ts"], 2),
+                "a pair that is not": ([*pair, "--page", "150"], 2)}
         for (name, (words, status)), ending in itertools.product(
                 rows.items(), ["2>&-", *["2>/dev/full"] * os.path.exists("/dev/full")]):
             known = self.call(["sh", "-c", 'exec "$0" "$@"', get_tool_path("qc"), *words, "-p",
