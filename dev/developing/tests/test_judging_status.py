@@ -16,7 +16,7 @@ from subtitles.formats.stl import Subtitle, parse_subtitles
 from subtitles.judging.causes import Cause, CAUSE_NAMES
 from subtitles.judging.check import CheckOutput
 from subtitles.judging.sentence import (
-    CAUSE_RANKS, NAME_RANKS, NUMBER_RANKS, Rank, find_worst_cause, find_worst_fault,
+    CAUSE_RANKS, NAME_RANKS, NUMBER_RANKS, Rank, WorstFault, find_worst_cause, find_worst_fault,
     find_worst_named_fault, rank_number)
 from subtitles.judging.status import (
     ACCEPTED, CheckSummary, Decision, FAULT_NUMBERS, Grounds, LOST, NOT_ANSWERED, NOT_JUDGED,
@@ -359,6 +359,10 @@ class LeadingFaults(Case):
             sent = part.worst_transmission_fault
             self.must(f"{lines}", (sent and sent.fault.line) == expected, sent)
 
+    def find_lead(self, lines: Sequence[str], causes: Any) -> WorstFault | None:
+        output = make_check_output(*lines, path=self.path("list"))
+        return find_worst_fault(output, output.first_faults, causes)
+
     def test_chooses_the_subtitle_with_the_worst_cause(self) -> None:
         def at(second: int) -> str:
             return f"refused 72 Content frame 10:00:0{second}:00 row 22 column 3"
@@ -379,16 +383,15 @@ class LeadingFaults(Case):
                 cause_by_index={place: Cause(place, name, 1, None, None, "", 0)
                                 for place, name in enumerate(names)})
             causes.list_causes = lambda causes=causes: [*causes.cause_by_index.values()]
-            lead = find_worst_fault(make_check_output(*some, path=self.path("list")), causes)
+            lead = self.find_lead(some, causes)
             self.must(f"{names}", lead and lead.fault.line == expected, lead)
         for edges, expected in (({63: 0}, BEGIN), ({74: 0, 63: 0}, BEGIN), ({63: 1}, at(1)),
                                 ({74: 0, 63: 1}, END)):
             causes.frames_by_end_fault = edges
-            lead = find_worst_fault(make_check_output(BEGIN, *lines, END, path=self.path("list")),
-                                    causes)
+            lead = self.find_lead([BEGIN, *lines, END], causes)
             self.must(f"{edges}", lead and lead.fault.line == expected, lead)
         causes.frames_by_end_fault, causes.first_wrong_frames = {}, {0: 900_000 + SECOND + 9}
-        lead = find_worst_fault(make_check_output(*lines, path=self.path("list")), causes)
+        lead = self.find_lead(lines, causes)
         self.must("the fault that stands then", lead and lead.fault.line == at(1), lead)
         self.must("no cause", find_worst_cause([]) is None)
 

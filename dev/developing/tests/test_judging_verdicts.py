@@ -36,7 +36,9 @@ OTHER_LINES = ("refused 38 UnitLength pes 7", "refused 70 Repeat frame 00:00:09:
 
 
 def make_part_verdict(parts: Sequence[Part], severity: Severity | None = None) -> Verdict:
-    return Verdict(make_pair_request(), severity or Severity(None), "now", list(parts))
+    severity = severity or Severity(None)
+    return Verdict(make_pair_request(), severity, "now", [
+        dataclasses.replace(part, severity=severity) for part in parts])
 
 
 def make_pair_request(*args: str) -> Request:
@@ -248,9 +250,11 @@ class Verdicts(Case):
     def test_counts_faults_of_each_number_in_all_parts(self) -> None:
         verdict = make_part_verdict([make_part(0, 9, 0, make_answer(item))
                                      for item in (REFUSED, OTHER_LINES, OTHER_LINES)])
-        counts = [tuple(item) for item in count_fault_numbers(verdict.parts, {70})]
+        counts = [tuple(item) for item in count_fault_numbers(
+            verdict.parts, lambda part: part.check_output.counts_by_number)]
         verdict.named_faults.append(NamedFault(NEVER_SENT, ""))
-        self.must("each", counts == [(72, "Content", 1), (38, "UnitLength", 2)], counts)
+        self.must("each", counts == [(72, "Content", 1), (38, "UnitLength", 2), (70, "Repeat", 2)],
+                  counts)
         self.must("in all", verdict.fault_count == 6, verdict.fault_count)
         self.must("subtitles", verdict.subtitle_counts == SubtitleCounts(0, 0),
                   verdict.subtitle_counts)

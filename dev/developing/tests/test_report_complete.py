@@ -1,6 +1,7 @@
 """Compare a report page that contains all kinds of details with its expected text."""
 from __future__ import annotations
 
+import dataclasses
 import itertools
 import re
 from typing import Any
@@ -111,5 +112,6 @@ class CompletePage(Case):
 
     def test_counts_waived_faults_in_all_parts(self) -> None:
         verdict = self.verdict("rar")
-        verdict.severity = make_severity("68 warning")
+        verdict.parts = [dataclasses.replace(part, severity=make_severity("68 warning"))
+                         for part in verdict.parts]
         self.check("waived", [*report_page.list_waived(verdict)], ["68 Parity (4)"])

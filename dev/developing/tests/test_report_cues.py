@@ -5,7 +5,7 @@ from types import SimpleNamespace
 from typing import Any
 
 from developing.stl import make_gsi_block
-from subtitles.common.times import Span, Spans
+from subtitles.common.times import Span, format_frame
 from subtitles.formats.stl import NamedSubtitle, Subtitle, SubtitleFile
 from subtitles.judging.causes import Cause, LATE, NEVER, NOT_RECEIVED, UNKNOWN_CAUSE, WRONG_TEXT
 from subtitles.judging.cues import Cue, CueJudge, CueVerdict, add_decoded_page
@@ -18,7 +18,7 @@ from subtitles.report.page import SHAPES, keep_options_together
 from subtitles.stream.packets import Packets, PES
 from subtitles.stream.receiver import BLANK_PAGE, Rows, Timeline
 from .bench import Case
-from .parts import markup_text, parse_single_fault
+from .parts import make_answer, make_part, markup_text, parse_single_fault
 from .test_judging_status import make_severity
 
 
@@ -70,6 +70,13 @@ class ActualCues(Case):
                   [(item.begin, item.end) for item in result] == [(100, 200), (200, 300)], result)
 
 
+def make_list(faults: list[str], trusted: list[tuple[int, int]]) -> list[str]:
+    """Return the output of `check --all` with fault 60, other faults and trusted frames."""
+    return ["refused 60 Empty", *faults, *(
+        f"trusted frames {format_frame(first)} {format_frame(last)}"
+        for first, last in trusted), f"{len(faults) + 1} faults"]
+
+
 class CueVerdicts(Case):
     def test_considers_the_cause_and_simultaneous_faults(self) -> None:
         subtitle = Subtitle(1, 1, 100, 200, 20, 2, b"")
@@ -91,14 +98,13 @@ class CueVerdicts(Case):
             (UNKNOWN_CAUSE, [67], 100, ["wrong", "wrong", "waived"])]
         for name, numbers, first, expected_value in rows:
             cause = name and Cause(0, name, 3, None, None, "", 0)
-            marks = {number: Spans([(150, 150)]) for number in numbers}
-            part: Any = SimpleNamespace(
-                causes=SimpleNamespace(expected=programme) if cause else None, unmarked_losses=[],
-                request=SimpleNamespace(option="english"), trusted_frames=Spans([(first, 199)]),
-                check_output=SimpleNamespace(is_file=False, fault_spans=marks, verdict=REFUSED,
-                                             fault_numbers={*numbers, *[72] * bool(cause)}))
+            faults = [f"refused {number} Name frame {format_frame(150)}"
+                      for number in [*numbers, *[72] * bool(cause)]]
+            output = make_answer(make_list(faults, [(first, 199)]))
+            causes = SimpleNamespace(expected=programme) if cause else None
             cue = Cue(subtitle, page(b"one"), cause or None)
-            result = [CueJudge(part, severity).judge(cue).word for severity in waived]
+            result = [CueJudge(make_part(0, 300, 0, output, causes=causes,
+                                         severity=severity)).judge(cue).word for severity in waived]
             self.check(f"{name}, {numbers}, trusted from {first} on", result, expected_value)
 
     def test_marks_subtitles_with_losses_as_unknown(self) -> None:
@@ -108,7 +114,7 @@ class CueVerdicts(Case):
             part: Any = SimpleNamespace(
                 causes=None, unmarked_losses=[Span(*span)],
                 check_output=SimpleNamespace(is_file=False, fault_spans={}, verdict=ACCEPTED))
-            verdict = CueJudge(part, make_severity("")).judge(cue)
+            verdict = CueJudge(part).judge(cue)
             self.check(f"{span}", (verdict.word, verdict.doubt), (
                 word, "not received completely" if word == "not known" else ""))
 
@@ -123,11 +129,9 @@ class CueVerdicts(Case):
                            "check does not trust 10 of its frames: the out-cue is moved"),
             "nothing": ([], None, None, "not received")}
         for name, (spans, begin, end, reason) in rows.items():
-            part: Any = SimpleNamespace(
-                causes=None, trusted_frames=Spans(spans),
-                check_output=SimpleNamespace(is_file=False, fault_spans={}, verdict=REFUSED))
+            part = make_part(0, 300, 0, make_answer(make_list([], spans)))
             cue = Cue(Subtitle(1, 1, 100, 200, 20, 2, b""), page(b"one"), None, None, begin, end)
-            self.check(name, CueJudge(part, make_severity("")).judge(cue).doubt, reason)
+            self.check(name, CueJudge(part).judge(cue).doubt, reason)
 
 
 class TextMarkup(Case):

@@ -2,8 +2,9 @@
 from __future__ import annotations
 
 import collections
+import copy
 import functools
-from typing import Collection, Iterable, NamedTuple
+from typing import Callable, Collection, Iterable, NamedTuple
 
 from ..common.command_line import counted
 from ..common.shapes import Members
@@ -513,6 +514,14 @@ class Causes:
             return False
         sent_frame = self.expected.begins[place] - (cause.frames or 0)
         return self.timeline.find_page_number_at(sent_frame) + 1 < len(self.timeline.frames)
+
+    def leave_out(self, is_left_out: Callable[[Cause], bool]) -> Causes:
+        """Return a copy without some of the causes."""
+        other = copy.copy(self)
+        other.cause_by_index, other.pause_texts = (
+            {place: cause for place, cause in causes.items() if not is_left_out(cause)}
+            for causes in (self.cause_by_index, self.pause_texts))
+        return other
 
     def list_causes(self) -> list[Cause]:
         """Return the causes in the order of the subtitles and of the pauses after them."""

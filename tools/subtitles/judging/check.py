@@ -13,8 +13,7 @@ from typing import BinaryIO, Callable, Iterator, NamedTuple
 from ..common.files import add_name_to_errors, read_chunks
 from ..common.times import FRAMES_OF_A_DAY, Spans
 from ..formats.listing import (
-    ENDED, FaultLine, SKIPPED_PACKETS, REFUSED, STL_FAULTS, UNDECIDED, parse_accepted_line,
-    parse_count_line,
+    ENDED, FaultLine, SKIPPED_PACKETS, REFUSED, parse_accepted_line, parse_count_line,
     parse_fault_line, parse_place_time, is_check_line, split_line, parse_fault_number,
     parse_trusted_line)
 from ..request.commands import CommandPaths, Listener, OutputNames
@@ -99,11 +98,6 @@ class CheckOutput:
             self.fault_ends[index] = FaultEnd(None, int(value))
             if words[1] == self.skipping_fault:
                 self.skipped_packets.add(self.skipped_packets.ends[-1], int(value))
-
-    @property
-    def transmission_fault_count(self) -> int:
-        return sum(count for number, count in self.counts_by_number.items()
-                   if number not in STL_FAULTS | {UNDECIDED})
 
     def read_line(self, line: str) -> None:
         """Store one line of output, and append it to the file."""

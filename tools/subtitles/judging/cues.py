@@ -1,7 +1,6 @@
 """Find the times at which each subtitle of a part was expected and decoded, and its verdict."""
 from __future__ import annotations
 
-import functools
 import itertools
 import operator
 from typing import Iterator, NamedTuple, Sequence
@@ -18,7 +17,7 @@ from .causes import (
     WRONG_PLACE, WRONG_TEXT)
 from .pages import SPACE, format_page_text
 from .part import Part
-from .status import ACCEPTED, Severity, VALID
+from .status import ACCEPTED, VALID
 from .subtitles import ValidSubtitles
 from .transmissions import ExpectedPages
 
@@ -136,19 +135,13 @@ class CueVerdict(NamedTuple):
 class CueJudge:
     """Decides the verdict on each subtitle in a part."""
 
-    def __init__(self, part: Part, severity: Severity) -> None:
-        self.part, self.severity = part, severity
+    def __init__(self, part: Part) -> None:
+        self.part = part
         self.wording = CauseDescriber(part.causes, part.request.option) if part.causes else None
         cause_numbers = FAULTS_WITH_CAUSE if part.causes else set[int]()
         self.spans = {number: join_spans([spans]) for number,
                       spans in part.check_output.fault_spans.items()
                       if number not in cause_numbers | {BEGIN}}
-
-    @functools.cached_property
-    def is_cause_waived(self) -> bool:
-        """Return whether the severity file makes warnings of all faults that have a `Cause`."""
-        numbers = FAULTS_WITH_CAUSE & self.part.check_output.fault_numbers
-        return bool(numbers) and not any(map(self.severity.is_error, numbers))
 
     def judge(self, cue: Cue) -> CueVerdict:
         """Return the verdict on the subtitle of a cue."""
@@ -162,8 +155,8 @@ class CueJudge:
         if not words and not numbers:
             unsure = self.describe_doubt(cue)
             return CueVerdict(NOT_KNOWN if unsure else RIGHT, doubt=unsure)
-        is_waived = not any(map(self.severity.is_error, numbers)) and \
-            (self.is_cause_waived or not words)
+        is_waived = not self.part.error_numbers.intersection(numbers) and (
+            cue.cause is None or self.part.is_cause_waived(cue.cause))
         has_unknown_cause = cue.cause and cue.cause.name in (NOT_RECEIVED,
                                                              UNKNOWN_CAUSE) and not numbers
         word = WAIVED if is_waived else NOT_KNOWN if has_unknown_cause else WRONG
@@ -205,9 +198,9 @@ class SubtitleFaults(NamedTuple):
     subtitle: NamedSubtitle | None
     faults: Sequence[FaultLine]
 
-    def is_waived(self, severity: Severity) -> bool:
-        """Return whether the severity file turns all faults of the subtitle into warnings."""
-        return not any(severity.is_error(fault.number) for fault in self.faults)
+    def is_waived(self, part: Part) -> bool:
+        """Return whether all faults of the subtitle are only warnings."""
+        return not any(map(part.is_error, self.faults))
 
 
 def find_refused_subtitles(part: Part, file: SubtitleFile, valid_subtitles: ValidSubtitles | None) \
@@ -285,16 +278,15 @@ def find_text_spans(timeline: Timeline) -> Iterator[Span]:
             yield timeline.get_page_span(number)
 
 
-def make_subtitle_rows(part: Part, severity: Severity, valid_subtitles: ValidSubtitles | None) \
-        -> Iterator[Members]:
+def make_subtitle_rows(part: Part, valid_subtitles: ValidSubtitles | None) -> Iterator[Members]:
     """Yield the JSON value of each subtitle in a part, in the order of the file."""
-    rows = [*make_judged_rows(part, severity), *make_refused_rows(part, severity, valid_subtitles)]
+    rows = [*make_judged_rows(part), *make_refused_rows(part, valid_subtitles)]
     yield from sorted(rows, key=lambda row: int(row["position"]))
 
 
-def make_judged_rows(part: Part, severity: Severity) -> Iterator[Members]:
+def make_judged_rows(part: Part) -> Iterator[Members]:
     """Yield the JSON values of the judged subtitles."""
-    judge, option = CueJudge(part, severity), OPTION_BY_WORD[part.request.option].number
+    judge, option = CueJudge(part), OPTION_BY_WORD[part.request.option].number
     start = find_recording_start(part)
     for place, cue in enumerate(find_cues(part)):
         subtitle, verdict = cue.subtitle, judge.judge(cue)
@@ -311,14 +303,13 @@ def make_judged_rows(part: Part, severity: Severity) -> Iterator[Members]:
             "complete_after": part.delays[place] if part.delays else None}
 
 
-def make_refused_rows(part: Part, severity: Severity, valid_subtitles: ValidSubtitles | None) \
-        -> Iterator[Members]:
+def make_refused_rows(part: Part, valid_subtitles: ValidSubtitles | None) -> Iterator[Members]:
     """Yield the JSON values of the subtitles that are not judged because of faults in the file."""
     file = SubtitleFile(part.names.program_stl, part.request.between)
     for refused in find_refused_subtitles(part, file, valid_subtitles):
         if refused.subtitle and (refused.faults or valid_subtitles):
             word = NOT_KNOWN if not refused.faults else \
-                WAIVED if refused.is_waived(severity) else WRONG
+                WAIVED if refused.is_waived(part) else WRONG
             reason = "; ".join(fault.line for fault in refused.faults) or NEXT_REFUSED
             subtitle, unknown_values = refused.subtitle, dict.fromkeys((
                 "recording_offset", "actual_in", "actual_out", "delay_in", "delay_out",

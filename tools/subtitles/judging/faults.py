@@ -309,7 +309,7 @@ class PartFaults:
         meaning = describe_header_faults(place.headers, self.request) or meaning
         return {
             "part": self.part.number, "line": fault.line, "number": fault.number,
-            "name": fault.name, "severity": self.verdict.severity.classify(fault.number),
+            "name": fault.name, "severity": self.part.classify(fault, end),
             "file": "stl" if is_stl else "pes", "block": fault.block,
             "subtitle": subtitle and make_subtitle(subtitle),
             "byte": byte, "character": character, "text_offset": fault.at,

@@ -48,7 +48,7 @@ def explain_part(part: Part, verdict: Verdict, listener: Listener, is_result_wri
     if causes:
         report_causes(listener, causes, request.option)
     part = dataclasses.replace(
-        part, severity=verdict.severity, causes=causes,
+        part, causes=causes,
         drawing_differences=describe_part_drawing(part, causes, request.option) if causes else "",
         delays=measure_delays(part, causes, request, is_result_written),
         is_recording_read=part.is_read(),
@@ -238,7 +238,8 @@ class PairJudge:
             file = SubtitleFile(self.names.program_stl, self.request.between)
             faults = (fault for fault, _ in answer.read_faults())
             self.verdict.valid_subtitles = find_valid_subtitles(
-                file, faults, self.request.option, self.verdict.severity.is_error)
+                file, faults, self.request.option,
+                lambda fault: self.verdict.severity.is_error(fault.number))
         return answer.copy_without(EMPTY, self.names.make_temporary_path("refused.txt"))
 
     @property
@@ -383,7 +384,7 @@ class PairJudge:
             own = request if is_single_part else request.limit_to_range(*alignment.between)
             names = self.names if is_single_part else self.names.make_part_paths(number)
             parts.append(Part(number, own, names, CheckOutput(names.list_path), alignment,
-                              recording, self.skipped_positions))
+                              recording, self.skipped_positions, severity=self.verdict.severity))
         return parts
 
     def judge_part(self, part: Part, programme: PartSearch, subtitles: list[Subtitle]) -> None:

@@ -13,7 +13,8 @@ from ..common.files import SummedFile
 from ..common.times import (
     FRAMES_OF_A_DAY, FrameRange, Span, Spans, TICKS, compute_frame, format_frame, pts_of,
     subtract_pts_within)
-from ..formats.listing import EMPTY, FaultLine, SKIPPED_PACKETS, STL_FAULTS, UNDECIDED
+from ..formats.listing import (
+    EMPTY, FAULTS_WITH_CAUSE, FaultLine, SKIPPED_PACKETS, STL_FAULTS, UNDECIDED)
 from ..formats.stl import Subtitle, SubtitleFile
 from ..recording.recording import Recording
 from ..request.commands import Listener, MAX_LIST_LINES, OutputNames
@@ -21,10 +22,10 @@ from ..request.request import Request, Unclear
 from ..stream.gaps import LossPlace
 from ..stream.packets import NO_RANGE, PES, PTSPair, Packets, Range, parse_headers
 from ..stream.receiver import Timeline, decode_pages_around, read_national_option
-from .causes import CauseDescriber, Causes
-from .check import CheckOutput
+from .causes import Cause, CauseDescriber, Causes
+from .check import CheckOutput, FaultEnd, NO_END
 from .sentence import WorstFault, find_worst_fault
-from .status import CheckSummary, REFUSED, Severity
+from .status import ALL_ERRORS, CheckSummary, ERROR, REFUSED, Severity
 from .transmissions import ExpectedPages, KeepingHeaders
 
 
@@ -51,7 +52,7 @@ class Part:
     jumps: Sequence[PTSPair] = ()
     expected_pages: Callable[[], ExpectedPages] = make_empty_pages
     timeline: Callable[[], Timeline | None] = lambda: None
-    severity: Severity | None = None
+    severity: Severity = ALL_ERRORS
     causes: Causes | None = None
     delays: Sequence[int | None] = ()  # number of frames from each TCI to the complete page
     is_recording_read: bool = False  # also true if there is no recording
@@ -88,24 +89,64 @@ class Part:
         assert self.recording and self.alignment
         return self.recording, self.alignment
 
+    def classify(self, fault: FaultLine, end: FaultEnd = NO_END) -> str:
+        """Return `ERROR` or `WARNING` for a fault of this part, which ends at `end`."""
+        return self.severity.classify(fault.number)
+
+    def is_error(self, fault: FaultLine, end: FaultEnd = NO_END) -> bool:
+        return self.classify(fault, end) == ERROR
+
+    @functools.cached_property
+    def first_errors(self) -> dict[int, FaultLine]:
+        """Return the first fault with each number that is an error."""
+        return {number: fault for number, fault in self.check_output.first_faults.items()
+                if self.is_error(fault)}
+
     @property
-    def waived_numbers(self) -> set[int]:
-        """Return the numbers of the faults that the severity file turns into warnings. Return an
-        empty set if the part has only such faults, which then decide the verdict."""
-        numbers = {number for number in self.check_output.fault_numbers
-                   if self.severity and not self.severity.is_error(number)}
-        return numbers if numbers != self.check_output.fault_numbers else set()
+    def error_numbers(self) -> set[int]:
+        return set(self.first_errors)
+
+    @functools.cached_property
+    def error_counts(self) -> collections.Counter[int]:
+        """Return the number of errors with each number."""
+        return collections.Counter({
+            number: count for number, count in self.check_output.counts_by_number.items()
+            if number in self.first_errors})
+
+    @property
+    def waived_counts(self) -> collections.Counter[int]:
+        """Return the number of faults with each number that are only warnings."""
+        return self.check_output.counts_by_number - self.error_counts
+
+    def is_cause_waived(self, cause: Cause) -> bool:
+        """Return whether the faults that a cause explains are only warnings."""
+        return not self.error_numbers & FAULTS_WITH_CAUSE
+
+    @property
+    def reported_faults(self) -> dict[int, FaultLine]:
+        """Return the first error with each number. If there is no error, return the first waived
+        fault with each number."""
+        return self.first_errors or self.check_output.first_faults
+
+    @functools.cached_property
+    def reported_causes(self) -> Causes | None:
+        """Return the causes of errors. If there is no error, return those of waived faults."""
+        causes = self.causes
+        is_any_left_out = causes and self.first_errors and any(
+            map(self.is_cause_waived, causes.list_causes()))
+        return causes.leave_out(self.is_cause_waived) if causes and is_any_left_out else causes
 
     @functools.cached_property
     def worst_fault(self) -> WorstFault | None:
         """Return the fault to report first, if there is one."""
-        return find_worst_fault(self.check_output, self.causes, self.waived_numbers)
+        return find_worst_fault(self.check_output, self.reported_faults, self.reported_causes)
 
     @functools.cached_property
     def worst_transmission_fault(self) -> WorstFault | None:
         """Return the transmission fault to report first, if there is one."""
-        return find_worst_fault(self.check_output, self.causes,
-                                STL_FAULTS | {UNDECIDED} | self.waived_numbers)
+        faults = {number: fault for number, fault in self.reported_faults.items()
+                  if number not in STL_FAULTS | {UNDECIDED}}
+        return find_worst_fault(self.check_output, faults, self.reported_causes)
 
     @property
     def worst_fault_line(self) -> FaultLine | None:

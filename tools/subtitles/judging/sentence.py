@@ -3,7 +3,7 @@ from __future__ import annotations
 
 import collections
 import enum
-from typing import Collection, Iterable, NamedTuple, Sequence
+from typing import Iterable, Mapping, NamedTuple, Sequence
 
 from ..clock.start import advise_on_clock
 from ..common.checks import CLOCK, describe_kinds
@@ -91,17 +91,17 @@ class WorstFault(NamedTuple):
     has_cause: bool = False  # whether a cause explains the fault
 
 
-def find_worst_fault(answer: CheckOutput, causes: Causes | None,
-                     left_out: Collection[int] = ()) -> WorstFault | None:
-    """Return the first fault of the worst rank in a part, if there is a fault. Ignore the fault
-    numbers in `left_out`."""
+def find_worst_fault(answer: CheckOutput, faults: Mapping[int, FaultLine],
+                     causes: Causes | None) -> WorstFault | None:
+    """Return the first fault of the worst rank in a part, if there is a fault. `faults` has the
+    first fault to report with each number."""
     is_caused = bool(causes and causes.list_causes())
-    worst_faults = [WorstFault(rank_number(number), at, told)
-                    for at, (number, told) in enumerate(answer.first_faults.items())
-                    if number not in left_out and not (number == CONTENT and is_caused)]
+    worst_faults = [WorstFault(rank_number(number), at, fault)
+                    for at, (number, fault) in enumerate(faults.items())
+                    if not (number == CONTENT and is_caused)]
     cause = find_worst_cause(causes.list_causes()) if causes else None
     fault = find_fault_line(answer, causes, cause) if causes and cause else None
-    if cause and fault and fault.number not in left_out:
+    if cause and fault and fault.number in faults:
         worst_faults.append(WorstFault(rank_cause(cause), -1, fault, True))
     return min(worst_faults, default=None)
 

@@ -66,6 +66,9 @@ class Severity:
         return self.classify(number) == ERROR
 
 
+ALL_ERRORS = Severity(None)  # the severities without a severity file
+
+
 ACCEPTED, WAIVED = "accepted", "waived"  # a waived pair has only faults that are warnings
 VALID = "valid"  # a subtitle file without faults, and no recording
 RELATIVE = "relative"  # accepted or waived, but with an estimated clock

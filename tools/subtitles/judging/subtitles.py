@@ -198,9 +198,10 @@ def has_valid_subtitles(numbers: set[int]) -> bool:
 
 
 def find_valid_subtitles(file: SubtitleFile, faults: Iterable[FaultLine], option: str,
-                         is_error: Callable[[int], bool] = lambda number: True) -> ValidSubtitles:
+                         is_error: Callable[[FaultLine], bool] = lambda fault: True) \
+        -> ValidSubtitles:
     """Return the subtitles that can be judged, and those that can't because of the faults.
-    `is_error` says whether the faults with a number are errors."""
+    `is_error` says whether a fault is an error."""
     faults_by_position: dict[int, list[FaultLine]] = {}
     for fault in faults:
         subtitle = file.find_by_block(fault.block) if fault.block is not None else None
@@ -215,7 +216,7 @@ def find_valid_subtitles(file: SubtitleFile, faults: Iterable[FaultLine], option
     advice, known = OptionAdvice(file, option), read_meanings()
     refused = []
     for _, several in sorted(faults_by_position.items()):
-        errors = [fault for fault in several if is_error(fault.number)]
+        errors = [fault for fault in several if is_error(fault)]
         refused.append(make_refused_subtitle(file, (errors or several)[0], advice,
                                              known)._replace(is_waived=not errors))
     return ValidSubtitles([item for item in decode_subtitles(file.data)

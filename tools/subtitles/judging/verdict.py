@@ -3,7 +3,7 @@ from __future__ import annotations
 
 import collections
 import dataclasses
-from typing import Callable, Collection, Iterable, NamedTuple, Sequence
+from typing import Callable, Iterable, Mapping, NamedTuple, Sequence
 
 from ..clock.start import ESTIMATED_LATER_NOTE, ESTIMATED_NOTE, advise_on_clock
 from ..common.checks import (
@@ -13,7 +13,7 @@ from ..common.command_line import (
 from ..common.files import SummedFile
 from ..common.times import compute_time
 from ..formats.listing import (
-    FaultLine, LOST_PACKETS, NamedFault, PICTURES_LEFT, SILENT, STL_FAULTS, UNDECIDED)
+    LOST_PACKETS, NamedFault, PICTURES_LEFT, SILENT, STL_FAULTS, UNDECIDED)
 from ..formats.stl import Subtitle
 from ..recording.recording import Recording
 from ..recording.notices import Notice
@@ -94,15 +94,16 @@ def add_worst_fault(facts: Facts, worst: WorstFault | None) -> Facts:
     return facts._replace(first=worst.fault, has_cause=worst.has_cause) if worst else facts
 
 
-def count_fault_numbers(parts: Sequence[Part], left_out: Collection[int] = ()) -> list[FaultCount]:
-    """Return the number of faults in all parts by fault number, without those in `left_out`."""
+def count_fault_numbers(parts: Sequence[Part],
+                        count: Callable[[Part], Mapping[int, int]]) -> list[FaultCount]:
+    """Return the number of faults in all parts by fault number. `count` returns the numbers of one
+    part."""
     counts: collections.Counter[int] = collections.Counter()
     names: dict[int, str] = {}
     for part in parts:
-        counts.update(part.check_output.counts_by_number)
+        counts.update(count(part))
         names |= {number: fault.name for number, fault in part.check_output.first_faults.items()}
-    return [FaultCount(number, names.get(number, ""), count) for number, count in counts.items()
-            if number not in left_out]
+    return [FaultCount(number, names.get(number, ""), count) for number, count in counts.items()]
 
 
 ESTIMATED = "estimated"  # kind of the warning that the clock after a break was estimated
@@ -305,14 +306,12 @@ class Verdict:
     @property
     def sentence(self) -> str:
         """Return the verdict as one sentence."""
-        refused, waived = self.worst_part, self.waived_numbers
+        refused, counts = self.worst_part, count_fault_numbers(self.parts, self.count_reported)
         facts = Facts(
             self.word, self.subtitle_count, option=self.request.option,
-            faults=self.fault_count -
-            sum(part.check_output.counts_by_number[item] for part in self.parts
-                                          for item in waived),
-            counts=count_fault_numbers(self.parts, waived), waived=[
-                count for count in count_fault_numbers(self.parts) if count.number in waived],
+            faults=sum(count.fault_count for count in counts) + len(self.named_faults),
+            counts=counts, waived=count_fault_numbers(
+                self.parts, lambda part: part.waived_counts) if self.word == REFUSED else [],
             lost=[gap.format_line() for gap in self.gaps if gap.is_judged],
             warnings=self.collect_grounds().warnings,
             reason=self.unjudged_reason,
@@ -325,8 +324,14 @@ class Verdict:
         elif refused and not self.worst_named_fault:
             facts = add_worst_fault(facts._replace(hint=refused.hint,
                                                    of_block=refused.block_subtitle,
-                                                   causes=refused.causes), refused.worst_fault)
+                                                   causes=refused.reported_causes),
+                                    refused.worst_fault)
         return write_sentence(facts)
+
+    def count_reported(self, part: Part) -> collections.Counter[int]:
+        """Return the number of faults of a part with each number: of the errors if the pair is
+        refused, otherwise of all."""
+        return part.error_counts if self.word == REFUSED else part.check_output.counts_by_number
 
     @property
     def delay_of_all(self) -> int:
@@ -341,18 +346,17 @@ class Verdict:
     def add_transmission_facts(self, facts: Facts, valid_subtitles: ValidSubtitles) -> Facts:
         """Return a copy of `facts` with facts about the transmission added, for a file with refused
         subtitles. `valid_subtitles` holds the other subtitles, which are judged nevertheless."""
-        outputs = [part.check_output for part in self.parts]
         parts = [part for part in self.parts if part.worst_transmission_fault]
         part = find_worst_part(parts, lambda item: item.worst_transmission_fault)
         refused = valid_subtitles.describe() if self.word != REFUSED else \
-            valid_subtitles.describe_errors(self.severity.is_error(UNDECIDED) and any(
-                UNDECIDED in answer.fault_numbers for answer in outputs))
-        facts = facts._replace(refused=refused,
-                               subtitles=len(valid_subtitles.judged),
-                               faults=sum(answer.transmission_fault_count
-                                          for answer in outputs), counts=
-                               count_fault_numbers(self.parts, STL_FAULTS | {UNDECIDED}))
-        return add_worst_fault(facts._replace(hint=part.transmission_hint, causes=part.causes),
+            valid_subtitles.describe_errors(any(UNDECIDED in part.error_numbers
+                                                for part in self.parts))
+        counts = [count for count in facts.counts
+                  if count.number not in STL_FAULTS | {UNDECIDED}]
+        facts = facts._replace(refused=refused, subtitles=len(valid_subtitles.judged),
+                               faults=sum(count.fault_count for count in counts), counts=counts)
+        return add_worst_fault(facts._replace(hint=part.transmission_hint,
+                                              causes=part.reported_causes),
                                part.worst_transmission_fault) if part else facts
 
     @property
@@ -388,12 +392,12 @@ class Verdict:
         """Return the last line on standard output. This is the line of `check` for the first error.
         Without errors it is the line for the first waived fault. Without faults it is the
         `accepted` line, with the total number of frames if there are several parts."""
-        faults: list[FaultLine | NamedFault] = [
-            fault for part in self.parts for fault in part.check_output.first_faults.values()]
-        faults += self.named_faults
-        errors = [fault for fault in faults if self.severity.is_error(
-            fault.name if isinstance(fault, NamedFault) else fault.number)]
-        return self.format_check_line(next((fault.line for fault in errors or faults), None))
+        errors = [fault.line for part in self.parts for fault in part.first_errors.values()]
+        errors += [fault.line for fault in self.named_errors]
+        faults = [fault.line for part in self.parts
+                  for fault in part.check_output.first_faults.values()]
+        faults += [fault.line for fault in self.named_faults]
+        return self.format_check_line(next(iter(errors or faults), None))
 
     @property
     def worst_line(self) -> str | None:
@@ -406,24 +410,19 @@ class Verdict:
     def worst_named_fault(self) -> NamedFault | None:
         """Return the worst fault without a number, unless a numbered fault is worse."""
         worst = self.worst_part.worst_fault if self.worst_part else None
-        errors = [fault for fault in self.named_faults if self.severity.is_error(fault.name)]
-        candidates = errors if errors or self.word == REFUSED else self.named_faults
+        candidates = self.named_errors if self.named_errors or self.word == REFUSED \
+            else self.named_faults
         return find_worst_named_fault(candidates, worst.rank if worst else None)
+
+    @property
+    def named_errors(self) -> list[NamedFault]:
+        return [fault for fault in self.named_faults if self.severity.is_error(fault.name)]
 
     @property
     def worst_part(self) -> Part | None:
         refused = [part for part in self.parts if part.is_refused]
-        errors = [part for part in refused
-                  if any(map(self.severity.is_error, part.check_output.fault_numbers))]
+        errors = [part for part in refused if part.error_numbers]
         return find_worst_part(errors or refused, lambda part: part.worst_fault)
-
-    @property
-    def waived_numbers(self) -> set[int]:
-        """Return the numbers of the faults that the severity file turns into warnings. Return an
-        empty set if the pair is not refused."""
-        numbers = {number for part in self.parts for number in part.check_output.fault_numbers}
-        return {number for number in numbers if not self.severity.is_error(number)} \
-            if self.word == REFUSED else set()
 
     def format_check_line(self, refused: str | None) -> str | None:
         """Return the verdict and a line of `check`, or `None` if the pair is not judged. The line

@@ -126,8 +126,7 @@ class PageResult:
         """Return the JSON values of all subtitles, also of those that are not in the file."""
         if not self.reading or not self.part:
             return []
-        judge, errors = CueJudge(self.part, self.verdict.severity), find_likely_errors(
-            self.reading.pages)
+        judge, errors = CueJudge(self.part), find_likely_errors(self.reading.pages)
         rows, number = [], 0
         for at, page in enumerate(self.reading.pages):
             number += page.is_written

@@ -20,7 +20,7 @@ from ..judging.pages import format_page_text
 from ..judging.part import Part
 from ..judging.sentence import (
     CAUSE_RANKS, describe_shared_cause, describe_single_cause, rank_number)
-from ..judging.status import Severity, VALID
+from ..judging.status import VALID
 from ..judging.subtitles import ValidSubtitles
 from ..stream.receiver import BLANK_PAGE
 from .blocks import make_fault_lines, mark_text, mark_times
@@ -60,12 +60,11 @@ class CueRow(NamedTuple):
 class CueList:
     """The cue list of a part of a recording."""
 
-    def __init__(self, part: Part, severity: Severity, valid_subtitles: ValidSubtitles |
-                 None) -> None:
-        self.part, self.severity, self.valid_subtitles = part, severity, valid_subtitles
+    def __init__(self, part: Part, valid_subtitles: ValidSubtitles | None) -> None:
+        self.part, self.valid_subtitles = part, valid_subtitles
         self.option = OPTION_BY_WORD[part.request.option].number
         self.start, self.causes = find_recording_start(part), part.causes
-        self.judge, self.cues = CueJudge(part, severity), [*find_cues(part)]
+        self.judge, self.cues = CueJudge(part), [*find_cues(part)]
         self.rows = sorted([*self.make_judged_rows(), *self.make_refused_rows()],
                            key=lambda row: row.position)
         self.counts = collections.Counter(key for row in self.rows for key in row.kinds)
@@ -105,7 +104,8 @@ class CueList:
         """Return the row about a text that was sent in the pause after a subtitle."""
         assert self.causes and cause.frame is not None
         text = format_page_text(cause.sent_page or BLANK_PAGE, self.option)
-        return CueRow(position, ROW_CLASSES[WAIVED if self.judge.is_cause_waived else WRONG], [
+        is_waived = self.part.is_cause_waived(cause)
+        return CueRow(position, ROW_CLASSES[WAIVED if is_waived else WRONG], [
             make_cause_key(cause)], [
                 "", self.format_offset(cause.frame), "", "", format_frame(cause.frame),
                 format_frame(self.causes.find_pause_text_span(cause).last + 1), "", text,
@@ -135,7 +135,7 @@ class CueList:
             subtitle, faults = refused
             if subtitle and faults and faults[0].block:
                 text = mark_text(read_block_text(self.file, faults[0].block), faults)
-                row_class = ROW_CLASSES[WAIVED if refused.is_waived(self.severity) else WRONG]
+                row_class = ROW_CLASSES[WAIVED if refused.is_waived(self.part) else WRONG]
                 kinds = [*dict.fromkeys(f"n{fault.number}" for fault in faults)]
                 yield self.make_file_row(subtitle, mark_times(subtitle, faults), text,
                                          make_fault_lines(self.file, faults), row_class, kinds)
@@ -162,13 +162,14 @@ class CueList:
     @functools.cached_property
     def kinds(self) -> list[Kind]:
         """Return the kinds of fault in the part, worst first."""
-        is_waived = self.judge.is_cause_waived
-        names = {cause.name for cause in self.causes.list_causes()} if self.causes else set[str]()
-        ranked = [(CAUSE_RANKS[name], Kind(make_cause_class(name), name, is_waived))
+        causes = self.causes.list_causes() if self.causes else []
+        names = {cause.name for cause in causes}
+        errors = {cause.name for cause in causes if not self.part.is_cause_waived(cause)}
+        ranked = [(CAUSE_RANKS[name], Kind(make_cause_class(name), name, name not in errors))
                   for name in names]
         ranked += [(rank_number(number),
                     Kind(f"n{number}", f"{number} {self.get_fault_name(number)}",
-                         not self.severity.is_error(number)))
+                         number not in self.part.error_numbers))
                    for number in self.part.check_output.counts_by_number
                    if not (names and number in FAULTS_WITH_CAUSE)]
         return [kind for _, kind in sorted(ranked)]

@@ -20,7 +20,7 @@ from ..judging.coverage import describe_unchecked
 from ..judging.part import Part, belongs_to_part, find_lost_spans
 from ..judging.status import ACCEPTED, LOST, NOT_JUDGED, REFUSED, RELATIVE, VALID, WAIVED, WARNED
 from ..judging.subtitles import advise_on_midnight
-from ..judging.verdict import Verdict, summarize_delays
+from ..judging.verdict import Verdict, count_fault_numbers, summarize_delays
 from ..request.commands import CommandPaths
 from ..stream.gaps import limit_lines
 from ..stream.receiver import BLANK_PAGE
@@ -151,7 +151,7 @@ class PartView:
 
     def __init__(self, verdict: Verdict, part: Part) -> None:
         self.verdict, self.part = verdict, part
-        self.cue_list = CueList(part, verdict.severity, verdict.valid_subtitles)
+        self.cue_list = CueList(part, verdict.valid_subtitles)
         self.gaps = [gap for gap in verdict.gaps if gap.is_judged
                      and belongs_to_part(gap.place, part)]
         self.decoded = part.causes.timeline if part.causes else part.decoded_pages
@@ -235,7 +235,7 @@ class PartView:
             fault_items += markup("<li>and {:,} more: <code>check --all</code> lists them</li>",
                                   omitted_count) \
                 if omitted_count else NO_MARKUP
-            waived = "" if self.verdict.severity.is_error(number) else " (waived)"
+            waived = "" if number in self.part.error_numbers else " (waived)"
             rows.append(markup(
                 '<tr id="n{}"><th scope="row">{} {}{}</th><td data-name="Faults">{:,}</td><td '
                 'data-name="First">{}</td><td data-name="Into recording">{}</td><td><details>'
@@ -282,12 +282,9 @@ def make_scope_section(verdict: Verdict) -> Markup:
 
 def list_waived(verdict: Verdict) -> Iterator[str]:
     """Yield descriptions of the faults that the severity file turns into warnings."""
-    counts = {number: part.check_output.first_faults[number].name for part in verdict.parts
-              for number in part.check_output.counts_by_number}
-    for number, name in sorted(counts.items()):
-        if not verdict.severity.is_error(number):
-            count = sum(part.check_output.counts_by_number[number] for part in verdict.parts)
-            yield f"{number} {name} ({count:,})"
+    counts = count_fault_numbers(verdict.parts, lambda part: part.waived_counts)
+    for number, name, count in sorted(counts):
+        yield f"{number} {name} ({count:,})"
     yield from (f"{named_fault.name}: {named_fault.text}" for named_fault in verdict.named_faults
                 if not verdict.severity.is_error(named_fault.name))
 

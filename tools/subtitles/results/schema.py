@@ -302,7 +302,7 @@ def list_cause_rows(known: ResultSource) -> Iterator[dict[str, Value]]:
 def list_subtitle_rows(verdict: Verdict) -> Iterator[dict[str, Value]]:
     """Yield a row for each subtitle of all parts. Yield no rows if the pair was not judged."""
     for part in verdict.parts if verdict.word != NOT_JUDGED else ():
-        yield from make_subtitle_rows(part, verdict.severity, verdict.valid_subtitles)
+        yield from make_subtitle_rows(part, verdict.valid_subtitles)
 
 
 def add_numbers_if_known(numbers: list[int | None]) -> int | None:
