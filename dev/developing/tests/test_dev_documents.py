@@ -6,6 +6,8 @@ import glob
 import os
 import re
 import struct
+import subprocess
+import sys
 import unittest
 from typing import Iterator
 
@@ -375,6 +377,20 @@ class Examples(Case):
     def test_jobs_take_the_language_of_each_file(self) -> None:
         self.must("judge.sh", "--option auto" in (
             read(os.path.join(TOP, "docs", "manual", "judge.sh")) or ""))
+
+    def test_what_the_script_of_the_manual_keeps_has_the_same_verdict(self) -> None:
+        manual = read(os.path.join(TOP, "docs", "MANUAL.md")) or ""
+        script = next(text for language, text in BLOCK.findall(manual) if language == "python")
+        examples = os.path.join(TOP, "examples")
+        recording = os.path.join(examples, "recording.ts")
+        with open(recording, "rb") as file:
+            kept = subprocess.run([sys.executable, "-c", script, "0", "0x100", "0x101"],
+                                  input=file.read(), stdout=subprocess.PIPE, check=True).stdout
+        verdicts = [self.tool("qc", os.path.join(examples, "story.stl"), path, "--origin",
+                              "5000000000").out.splitlines()[-1:]
+                    for path in (recording, self.write("kept.ts", kept))]
+        self.check("bytes", 0 < len(kept) <= os.path.getsize(recording), True)
+        self.check("verdict", verdicts[1], verdicts[0])
 
     def test_the_severity_file_of_the_manual_is_valid(self) -> None:
         manual = read(os.path.join(TOP, "docs", "manual", "qc.md")) or ""
