@@ -106,7 +106,7 @@ class AirCase(Case):
         result = judge.Judge(self.args(*more), "qc")
         result.checker = checker  # type: ignore
         result.monitor.look = lambda *_: None  # type: ignore
-        result.monitor.free = [1 << 40]
+        result.monitor.free = {"results": 1 << 40}
         return result
 
     def write_schedule(self, *lines: str) -> None:

@@ -406,10 +406,10 @@ class JudgedProgrammes(AirCase):
         os.unlink(self.path("schedule"))
         judge.look(DAY + 700)
         self.check("results", self.verdicts(), {NAME: "relative"})
-        self.check("alarms", "schedule" in judge.monitor.alarms(), True)
+        self.check("alarms", judge.monitor.find_alarms()["schedule"], True)
         self.write_schedule("2026-12-01T08:10:00Z one.stl")
         judge.look(DAY + 705)
-        self.check("it is there again", "schedule" in judge.monitor.alarms(), False)
+        self.check("it is there again", judge.monitor.find_alarms()["schedule"], False)
 
     def test_judges_two_pages_on_the_same_segments(self) -> None:
         self.write_schedule("2026-12-01T08:10:00Z one.stl",
@@ -493,8 +493,9 @@ ALARM_CASES: dict[str, tuple[dict[str, Any], list[str]]] = {
     "no byte": ({"last_byte": DAY - 11}, ["silence"]),
     "a clock": ({"is_clock_wrong": True}, ["clock"]),
     "segments were deleted": ({"is_deleted_early": True}, ["disk"]),
-    "a full disk": ({"free": [5, 1 << 40]}, ["disk"]),
+    "a full disk": ({"free": {"segments": 5, "results": 1 << 40}}, ["disk"]),
     "no room for the recorder": ({"has_note": True}, ["disk"]),
+    "a bug": ({"has_bug": True}, ["bug"]),
     "no header": ({"headers": {(0, 0x88): DAY - 601}}, ["page 888"]),
     "a header just now": ({"headers": {(0, 0x88): DAY - 599}}, []),
     "it has just begun": ({"headers": {(0, 0x88): 0.0}, "oldest": DAY - 599}, []),
@@ -524,9 +525,9 @@ class State(AirCase):
         for name, (values, expected) in ALARM_CASES.items():
             monitor = Monitor()
             monitor.now, monitor.oldest, monitor.last_byte = DAY, DAY - 9999, DAY - 9
-            monitor.free = [1 << 40] * 2
+            monitor.free = {"segments": 1 << 40, "results": 1 << 40}
             vars(monitor).update(values)
-            state = json.loads(json.dumps(monitor.state()))
+            state = json.loads(json.dumps(monitor.make_contents()))
             self.check(name, (state["alarms"], state["warnings"]),
                        (expected, WARNINGS.get(name, [])))
 
@@ -537,7 +538,7 @@ class State(AirCase):
         self.check("segments", (monitor.segments, monitor.last_byte, monitor.oldest),
                    (5, DAY + 50, DAY))
         monitor.look(self.path("nothing"), out, DAY + 60, "/bin/true", [], DAY)
-        self.check("without a folder", (monitor.segments, monitor.free[0]), (0, 0))
+        self.check("without a folder", (monitor.segments, monitor.free["segments"]), (0, 0))
 
     def test_reports_the_headers_of_pages(self) -> None:
         self.put_segment(0, 10, read_example_file("recording.ts"))

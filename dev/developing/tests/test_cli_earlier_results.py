@@ -369,6 +369,24 @@ class WatchedFolders(Case):
         self.must("judged", lines == ["b  accepted"], lines)
         self.must("read", sorted(reads) == ["a.json", "b.json", "c.json"], reads)
 
+    def test_keeps_the_state_of_a_watched_folder_for_monitoring(self) -> None:
+        self.write_pair()
+        states = []
+
+        def judged(calls: PairRunner, item: BatchItem) -> Row:
+            calls.report()
+            states.append(json.loads(self.read("out/state.json")))
+            return row(item.name, "accepted")
+
+        with mock.patch.object(collection, "STATE_SECONDS", 0.0):
+            self.run_watch(6, judged)
+        states.append(json.loads(self.read("out/state.json")))
+        self.check("waiting, verdicts, last result", [
+            (state["waiting"], state["verdicts"], state["last_result"]) for state in states],
+            [(1, {}, ""), (0, {"accepted": 1}, "a: accepted")])
+        self.write("out/state.json", b'{\n "format": 7,\n "verdict": "accepted"')
+        self.assertRaises(Stop, refuse_folders, self.arguments())
+
     def test_reports_a_locked_pair_once_and_retries(self) -> None:
         self.write_pair()
         begun = list[str]()

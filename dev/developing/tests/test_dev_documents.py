@@ -352,12 +352,12 @@ class StatedFacts(Case):
 
     def test_the_chapter_names_each_alarm(self) -> None:
         monitor = Monitor()
-        monitor.now, monitor.free, monitor.headers = 1e9, [0], {(0, 0x88): 0.0}
+        monitor.now, monitor.free, monitor.headers = 1e9, {"results": 0}, {(0, 0x88): 0.0}
         monitor.late, monitor.schedule_faults, monitor.is_clock_wrong = ["one"], ["line 1"], True
         chapter = read_document("docs/manual/air.md")
         item = chapter.partition("- `alarms`, ")[2].partition("\n- ")[0]
         self.check("alarms", sorted(re.findall("^  - `([a-z][a-z 8]*)`:", item, re.M)),
-                   sorted(monitor.alarms()))
+                   sorted(monitor.find_alarms()))
 
     def test_each_mentioned_option_exists(self) -> None:
         forms = ("tools/*", "dev/*", "bench/*", "tools/subtitles/*/*.py", "crates/*/src/*.rt")

@@ -265,8 +265,8 @@ class NamesOfFiles(Case):
     def test_gives_no_two_results_the_same_name(self) -> None:
         of_names = {"film": "film", "film.1": "film%2E1", "film.12": "film%2E12",
                     "film~12": "film%7E12", "line 12": "line%2012", "film.v2": "film.v2",
-                    "index": "%69ndex", "index.1": "index%2E1", ".film": "%2Efilm",
-                    "film~2": "film%7E2", "50%": "50%25",
+                    "index": "%69ndex", "state": "%73tate", "index.1": "index%2E1",
+                    ".film": "%2Efilm", "film~2": "film%7E2", "50%": "50%25",
                     "caf\udce9": "caf%E9", "caf%E9": "caf%25E9", "caf\\xe9": "caf\\xe9",
                     "a\x1b\n": "a%1B%0A", "line 5": "line%205", "line 5 ": "line 5 ", "-a": "-a",
                     "a\u202eb": "a%E2%80%AEb", "": "%", "%": "%25", "Index": "Index"}

@@ -6,7 +6,7 @@ delivery    whether a subtitle file is complete
 schedule    when each programme is on air, and how it is judged
 check       judging a programme from a continuous part of the feed, in a forked process
 decision    choosing the result of a programme
-state       state file for monitoring
+state       state of the feed, the disks, the schedule and the results
 judge       judging the programmes of a schedule
 status      state files as a line for Nagios and as metrics for Prometheus
 main        command line of tools/air

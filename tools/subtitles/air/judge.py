@@ -13,6 +13,7 @@ import sys
 import time
 
 from ..cli.single import handle_signals, hold_lock, now as date
+from ..cli.state import log_bug, write_state
 from ..common.command_line import INPUT, Stop, format_error, print_stdout
 from ..common.files import TEMPORARY_PREFIX, open_result
 from ..judging.status import NOT_JUDGED
@@ -25,7 +26,7 @@ from .decision import (
 from .delivery import Delivery, read_delivery
 from .schedule import Programme, Schedule, read_schedule
 from .segments import find_deleted, find_segments, find_unbroken_runs
-from .state import Monitor, write_state
+from .state import Monitor
 
 # minimum and maximum delay in seconds after a system error
 RETRY_SECONDS, MAX_RETRY_SECONDS = 2.0, 60.0
@@ -86,7 +87,7 @@ class Judge:
         self.monitor.look(self.segments, self.out, now, self.program,
                           {item.request.page for item in self.schedule.programmes},
                           min([now - 2 * self.args.margin, *begins]))
-        write_state(self.out, self.monitor.state())
+        write_state(self.out, self.monitor.make_contents())
 
     def read_schedule(self, now: float) -> None:
         """Read the schedule. If it can't be read, keep the previous one."""
@@ -242,8 +243,7 @@ class Judge:
                     target.write(encode_result(outcome.result))
         self.checker.clear()
         self.attempts.pop(name, None)
-        self.monitor.last_result = f"{name}: {outcome.reason}"
-        self.monitor.verdicts[outcome.result["verdict"]] += 1
+        self.monitor.add_result(name, outcome.result["verdict"], outcome.reason)
         line, *_ = outcome.reason.split("\n")
         print_stdout(f"{date()}  {name}  {outcome.verdict}: {line}")
         self.call_hook(os.path.join(self.out, main), outcome.result["verdict"])
@@ -265,7 +265,7 @@ def judge_schedule(args: argparse.Namespace, program_name: str) -> int:
     """Judge a schedule's programmes, once or until a signal arrives. Return the exit status."""
     handle_signals()
     os.makedirs(args.work or args.out, exist_ok=True)
-    with hold_lock(args.out, "air", "another run of air is judging into "):
+    with log_bug(args.out), hold_lock(args.out, "air", "another run of air is judging into "):
         for name in os.listdir(args.out):
             if name.startswith(TEMPORARY_PREFIX):  # left by a killed run
                 os.unlink(os.path.join(args.out, name))

@@ -4,6 +4,7 @@ from __future__ import annotations
 import os
 
 from ..cli.main import make_number_parser, read_seconds
+from ..cli.state import log_bug
 from ..common.command_line import Stop, ToolParser, UsageError, add_program
 from ..common.files import make_safe_name
 from ..common.program import TOP
@@ -65,7 +66,8 @@ def make_status_parser() -> ToolParser:
     """Return the argument parser of the command `status`."""
     parser = ToolParser("Print a line about each folder of results. The status is that of Nagios: "
                         "0 OK, 1 WARNING, 2 CRITICAL, 3 UNKNOWN.")
-    parser.add_argument("out", metavar="OUT", nargs="+", help="read the state of `judge` in OUT")
+    parser.add_argument("out", metavar="OUT", nargs="+",
+                        help="read the state of `judge` or `qc --watch` in OUT")
     parser.add_argument("--max-age", metavar="S", type=read_seconds, default=60,
                         help="raise an alarm if the state is older than S seconds (default: 60)")
     parser.add_argument("--metrics", metavar="FILE",
@@ -79,7 +81,8 @@ def main(text: str, words: list[str]) -> int:
     if mode == "record":
         args = make_record_parser().parse_args(line)
         os.makedirs(args.segments, exist_ok=True)
-        record(0, args.segments, Limits(args.length, 3600 * args.keep, 1_000_000 * args.free))
+        with log_bug(args.segments):
+            record(0, args.segments, Limits(args.length, 3600 * args.keep, 1_000_000 * args.free))
         return 0
     if mode == "status":
         args = make_status_parser().parse_args(line)

@@ -1,4 +1,4 @@
-"""Print the state of `judge` for monitoring: a line with a status for Nagios, and metrics for
+"""Print the state of a service for monitoring: a line with a status for Nagios, and metrics for
 Prometheus."""
 from __future__ import annotations
 
@@ -11,7 +11,7 @@ from typing import Any, Iterator
 
 from ..common.command_line import format_error, print_stdout
 from ..common.files import open_result
-from .state import NAME
+from ..request.commands import STATE
 
 OK, WARNING, CRITICAL, UNKNOWN = range(4)  # statuses of Nagios and Icinga
 WORDS = ("OK", "WARNING", "CRITICAL", "UNKNOWN")
@@ -35,24 +35,23 @@ def check_state(state: dict[str, Any], age: float, max_age: float) -> tuple[int,
         f"{name}={value}" for name, value in perf.items())
 
 
-def make_metrics(out: str, state: dict[str, Any]) -> Iterator[tuple[str, dict[str, str], float]]:
+def make_metrics(state: dict[str, Any]) -> Iterator[tuple[str, dict[str, str], float]]:
     """Yield the name, the labels and the value of each metric of a state."""
-    for name, key in (("date", "date"), ("last_byte", "last_byte")):
-        seconds = read_date(state[key])
+    for name in ("date", "last_byte"):
+        seconds = read_date(state.get(name))
         if seconds is not None:
             yield f"{name}_timestamp_seconds", {}, seconds
-    for page, date in state["last_header"].items():
+    for page, date in state.get("last_header", {}).items():
         yield "last_header_timestamp_seconds", {"page": page}, read_date(date) or 0.0
-    for alarm in ("silence", "clock", "disk", "late", "schedule"):
-        yield "alarm", {"alarm": alarm}, float(alarm in state["alarms"])
-    for alarm in state["alarms"]:
-        if alarm.startswith("page "):
-            yield "alarm", {"alarm": alarm}, 1.0
+    for key, value in (("alarms", 1.0), ("inactive_alarms", 0.0)):
+        for alarm in state.get(key, ()):
+            yield "alarm", {"alarm": alarm}, value
     for folder, free in state["free_bytes"].items():
         yield "free_bytes", {"folder": folder}, free
     yield "waiting", {}, state["waiting"]
     yield "late", {}, len(state["late"])
-    yield "segments", {}, state["segments"]
+    if "segments" in state:  # `qc --watch` has none
+        yield "segments", {}, state["segments"]
     for verdict, count in state.get("verdicts", {}).items():
         yield "results_total", {"verdict": verdict}, count
 
@@ -83,12 +82,12 @@ def print_status(outs: list[str], max_age: float, metrics: str | None) -> int:
             if os.path.basename(os.path.abspath(out)) == "results" else os.path.basename(
                 os.path.abspath(out))
         try:
-            with open(os.path.join(out, NAME), encoding="utf-8") as file:
+            with open(os.path.join(out, STATE), encoding="utf-8") as file:
                 state = json.load(file)
             age = now - (read_date(state["date"]) or 0.0)
             status, text = check_state(state, age, max_age)
             lines += [(metric, {"feed": name, **labels}, value)
-                      for metric, labels, value in make_metrics(out, state)]
+                      for metric, labels, value in make_metrics(state)]
         except (OSError, ValueError, KeyError, TypeError, AttributeError) as reason:
             status, text = UNKNOWN, format_error(reason)
         lines.append(("status", {"feed": name}, status))

@@ -5,4 +5,5 @@ collection     tables, pages and files about many results
 main           the command line, and the options that each mode accepts
 measure        --measure: proposing a profile from correct recordings
 batch          judging the pairs in a folder, a list, or a watched folder
+state          the state file of a service, for monitoring
 """

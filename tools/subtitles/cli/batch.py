@@ -21,7 +21,7 @@ from ..common.files import OutputIsInput, NO_INPUTS, make_temporary_folder
 from ..common.program import ProgramInfo, TOP, describe_program
 from ..judging.status import NOT_JUDGED
 from ..report import page
-from ..request.commands import CommandPaths, PartFiles, Progress
+from ..request.commands import CommandPaths, PartFiles, Progress, STATE
 from ..request.lines import (
     BatchItem, collect_inputs, find_file_problem, find_folder_pairs, find_subtitle_files,
     read_line_pair, read_pairs)
@@ -32,7 +32,8 @@ from ..results.files import (
 from .main import write_unjudged
 from .single import (
     FilesInUse, PairOptions, SIGNALS, handle_signals, ignore_signals, judge_and_report, lock_folder,
-    lock_pair, refuse_folder_files, refuse_pair_files, remove_results)
+    lock_pair, refuse_file, refuse_folder_files, refuse_pair_files, remove_results)
+from .state import log_bug
 
 
 # A forked process judges each pair, since loading the modules takes ten times as long as judging a
@@ -220,6 +221,7 @@ class PairRunner:
         # names of pairs whose files another run of qc was writing
         self.names_in_use: set[str] = set()
         self.is_stopped = False
+        self.report: Callable[[], None] = lambda: None  # called while pairs are judged
         describe_program(command_paths.program_path)  # caches the checksum for forked processes
 
     def get_result_path(self, item: BatchItem) -> str:
@@ -268,6 +270,7 @@ class PairRunner:
     def collect_rows(self, seconds: float) -> Iterator[Row]:
         """Wait up to `seconds` until a process ends. Yield the rows of the pairs whose processes
         have ended, and stop the processes that are over their limit."""
+        self.report()
         for call in wait_for_any(self.running_pairs, seconds):
             yield self.finish(call)
         for call, running_pair in self.running_pairs.items():
@@ -467,19 +470,28 @@ def refuse_folders(args: argparse.Namespace) -> None:
     if os.path.samefile(args.watch, args.out):
         raise Stop(f"{args.out} is the watched folder: give another folder with -o")
     refuse_folder_files(args.out, NO_INPUTS)
+    refuse_file(os.path.join(args.out, STATE), NO_INPUTS)
 
 
 def watch(args: argparse.Namespace, program_name: str) -> int:
+    """Watch a folder until a signal is received. Return status 2."""
+    refuse_folders(args)
+    with log_bug(args.out):
+        return judge_arriving_pairs(args, program_name)
+
+
+def judge_arriving_pairs(args: argparse.Namespace, program_name: str) -> int:
     """Judge pairs as they arrive, until a signal is received. Return status 2. A pair that was
     being judged at that time has no result, and is judged after a restart."""
-    refuse_folders(args)
     command_paths = CommandPaths(program_name, args.program)
     calls = PairRunner(command_paths, args.out, args.out, args.is_kept, args.limit)
     program = describe_program(command_paths.program_path)
     folder_watch = FolderWatch(args.watch, args.settled)
     results = collection.FolderRows(args.out)
+    calls.report = results.report
 
     def handle_row(row: Row) -> None:
+        results.state.waiting -= 1
         if row.name in calls.names_in_use:  # report this once, and judge the pair in a later scan
             folder_watch.handled_states.pop(row.name, None)
             if results.rows.get(row.name) == row:
@@ -493,6 +505,8 @@ def watch(args: argparse.Namespace, program_name: str) -> int:
             calls.inputs = collect_inputs(items)
             ready_pairs = [item for item in folder_watch.find_ready_items(items)
                    if not is_reusable(results.identities.pop(item.name, None), item, program)]
+            results.state.waiting = len(ready_pairs)
+            results.report()
             judge_items(calls, ready_pairs, {}, args.jobs or os.cpu_count() or 1, handle_row)
             results.write_page()
             time.sleep(SCAN_SECONDS)

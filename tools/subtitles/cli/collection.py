@@ -22,6 +22,7 @@ from ..results.files import (
     write_file, make_row, make_table_lines, make_unjudged)
 from ..results.schema import FORMAT
 from .single import now, refuse_folder_files
+from .state import State, write_state
 
 
 STYLE = Markup("""<style>
@@ -203,11 +204,12 @@ def write_collection(args: argparse.Namespace, rows: Sequence[Row], sources: Seq
 
 # A page with N pairs in a watched folder is rewritten at most every N / 1000 seconds.
 PAIRS_PER_SECOND = 1000
+STATE_SECONDS = 5.0  # seconds between updates of the state file
 
 
 class FolderRows:
-    """The rows of the results in a folder. For each result, `identities` has the members that show
-    whether the result is up to date."""
+    """The rows of the results in a folder, and the state of the service that writes them. For each
+    result, `identities` has the members that show whether the result is up to date."""
 
     IDENTITY_KEYS = "request", "files_at_start", "program", "verdict"
 
@@ -215,6 +217,7 @@ class FolderRows:
         self.folder, self.rows = folder, dict[str, Row]()
         self.identities = dict[str, dict[str, Any]]()
         self.is_page_outdated, self.next_page = False, 0.0
+        self.state, self.next_state = State(), 0.0
         for path, result in read_results(folder):
             if result is not None:
                 name = os.path.basename(path).removesuffix(ENDING)
@@ -226,9 +229,17 @@ class FolderRows:
         """Print the verdict on a pair, and add its row to the index page."""
         self.rows[row.name], self.is_page_outdated = row, True
         line = worst_fault(row)
-        time_text = time.strftime("%Y-%m-%d %H:%M:%S")
-        print_stdout(f"{time_text}  {row.name}  {row.verdict}{': ' if line else ''}{line}")
+        text = f"{row.verdict}{': ' if line else ''}{line}"
+        self.state.add_result(row.name, row.verdict, text)
+        print_stdout(f"{time.strftime('%Y-%m-%d %H:%M:%S')}  {row.name}  {text}")
         self.write_page()
+
+    def report(self) -> None:
+        """Write the state file every few seconds."""
+        if time.monotonic() >= self.next_state:
+            self.next_state = time.monotonic() + STATE_SECONDS
+            self.state.look_at_folders(time.time(), results=self.folder)
+            write_state(self.folder, self.state.make_contents())
 
     def write_page(self, is_last: bool = False) -> None:
         """Write the page if there is a new verdict. Unless `is_last`, wait one second per thousand

@@ -29,7 +29,7 @@ from ..judging.status import ACCEPTED, NOT_JUDGED, RELATIVE, Severity, VALID
 from ..judging.verdict import FailedOutput, Unjudged, Verdict
 from ..recording.recording import Recording
 from ..request.commands import (
-    CommandPaths, Listener, LOCK, OutputNames, PartFiles, Progress, Printer, list_pair_files,
+    CommandPaths, Listener, LOCK, OutputNames, PartFiles, Progress, Printer, STATE, list_pair_files,
     make_index_path, make_lock_path, make_pair_name, format_profile)
 from ..request.request import Request, Unclear, IncompleteAnswer, keep_stl, make_request
 from ..results import files as results
@@ -42,6 +42,7 @@ from ..stream.gaps import limit_lines
 # JSON result by its first bytes.
 
 RESULT = re.compile(rb'\{\s*"format": [0-9]+,\s*"(verdict": "|status": )')
+STATE_PREFIX = b'{\n "date": "'  # first bytes of a state file
 PREFIX_BYTES = 4096  # maximum number of bytes to read to recognise a file
 KEPT_SECONDS = 600  # maximum number of seconds from writing a recording to writing its result
 
@@ -79,6 +80,8 @@ def is_own_file(path: str) -> bool:
     if ending == ".txt":
         line = data.split(b"\n")[0].decode("utf-8", "replace")
         return is_check_line(line) and parse_count_line(line) is None
+    if os.path.basename(path) == STATE:
+        return data.startswith(STATE_PREFIX)
     return bool(RESULT.match(data)) if ending == ".json" else data.startswith(HEAD.page())
 
 

@@ -65,18 +65,20 @@ def quote_command(*args: str) -> str:
 #     film.json       the pair of film.stl         film~2.json     the second film.stl of a list
 #     film.1.html     the first part of film.stl   line 7.json     line 7, which has no valid pair
 #     film%2E1.json   the pair of film.1.stl       %69ndex.json    the pair of index.stl
+#     %73tate.json    the pair of state.stl
 
 PART_ENDINGS = ("cut.pes", "txt", "html")
 KEPT_PES, KEPT_TS = "recording.pes", "recording.ts"  # suffixes of a kept recording
 PAIR_ENDINGS = (*PART_ENDINGS, KEPT_PES, KEPT_TS, "json")
 LOCK = "lock"  # suffix of the lock file of a pair that is being judged
 INDEX = "index"  # name of the page with all pairs of a folder
+STATE = "state.json"  # file with the state of a service
 ESCAPE = "%"
 # Parts of names that are escaped: a leading dot, control characters, and suffixes that look like
 # the number of a second pair, of a part or of a line.
 ESCAPED_PARTS = re.compile(rf"^\.|{ESCAPE}|{CONTROL_CHARACTERS.pattern}|[.~](?=[0-9]+$)|(?<=^line) "
                            rf"(?=[0-9]+$)"
-                           r"|^i(?=ndex$)")
+                           r"|^i(?=ndex$)|^s(?=tate$)")
 MAX_NAME_BYTES, KEPT_NAME_BYTES = 180, 120  # a longer name is cut, and a digest is appended
 
 
