@@ -101,7 +101,8 @@ class CueVerdicts(Case):
             faults = [f"refused {number} Name frame {format_frame(150)}"
                       for number in [*numbers, *[72] * bool(cause)]]
             output = make_answer(make_list(faults, [(first, 199)]))
-            causes = SimpleNamespace(expected=programme) if cause else None
+            causes = SimpleNamespace(expected=programme, frames_by_end_fault={}) if cause \
+                else None
             cue = Cue(subtitle, page(b"one"), cause or None)
             result = [CueJudge(make_part(0, 300, 0, output, causes=causes,
                                          severity=severity)).judge(cue).word for severity in waived]

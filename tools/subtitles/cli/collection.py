@@ -211,7 +211,7 @@ class FolderRows:
     """The rows of the results in a folder, and the state of the service that writes them. For each
     result, `identities` has the members that show whether the result is up to date."""
 
-    IDENTITY_KEYS = "request", "files_at_start", "program", "verdict"
+    IDENTITY_KEYS = "request", "files_at_start", "program", "verdict", "waivers"
 
     def __init__(self, folder: str) -> None:
         self.folder, self.rows = folder, dict[str, Row]()

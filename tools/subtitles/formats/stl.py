@@ -301,9 +301,15 @@ class SubtitleFile:
                              tti[1] + 256 * tti[2], decode_time(tti[5:9]),
                              decode_time(tti[9:13]))
 
+    def find_block_begin(self, block: int) -> int | None:
+        """Return the frame of the TCI of a block's subtitle. Return `None` if it is not a time, and
+        for the GSI block and an incomplete block."""
+        return decode_frame(self.block(self.first_blocks[block])[5:9]) \
+            if 0 < block < len(self.first_blocks) else None
+
     def is_outside(self, block: int) -> bool:
         """Return whether the subtitle of a block is outside the judged range."""
-        begin = decode_frame(self.block(self.first_blocks[block])[5:9])
+        begin = self.find_block_begin(block)
         return begin is not None and not self.between.includes(begin)
 
     def count(self) -> int:

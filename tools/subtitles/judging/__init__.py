@@ -1,5 +1,6 @@
 """Judge a pair: run `check` on its parts, and explain its faults.
 
+waivers        waivers of a severity file, each for one fault in one subtitle
 status         the verdict in one word, and its exit status
 check          running `check --all`, and reading the faults that it prints
 pages          text of pages, differences between pages, rows that no receiver shows

@@ -19,6 +19,7 @@ from .pages import (
     describe_attribute_difference, describe_extra_rows, describe_move, format_page_text,
     is_partial_page, is_text_moved, join_page_text)
 from .transmissions import ExpectedPages, PageTransmissions, name_omitted_rows
+from .waivers import Owners
 
 
 # Each subtitle that has a wrong page at any frame gets one cause.
@@ -300,6 +301,17 @@ class CauseFinder(PageTransmissions):
         cause = self.classify_after_end(place, number, span.first)
         return cause if cause.name == TEXT_IN_PAUSE else None
 
+    def is_page_of(self, place: int, frame: int) -> bool:
+        """Return whether the page in a wrong frame concerns the subtitle at `place`: the frame is
+        in its time, or the page was sent for this subtitle, or in its time and not erased."""
+        subtitle, number = self.subtitles[place], self.timeline.find_page_number_at(frame)
+        if subtitle.begin <= frame < subtitle.end or number >= 0 and \
+                self.timeline.pages[number] == self.pages[place]:
+            return True
+        if frame < subtitle.begin:
+            return place > 0 and self.is_sent_for_next(number, place - 1)
+        return number >= 0 and self.timeline.frames[number] < subtitle.end
+
     def describe_removal(self, place: int, number: int) -> str:
         """Describe how long page `number` stayed after the TCO, or return "" if this is unknown."""
         last_frame, end = self.timeline.get_page_span(number).last, self.subtitles[place].end
@@ -514,6 +526,18 @@ class Causes:
             return False
         sent_frame = self.expected.begins[place] - (cause.frames or 0)
         return self.timeline.find_page_number_at(sent_frame) + 1 < len(self.timeline.frames)
+
+    def find_owners(self, first: int, last: int) -> Owners:
+        """Return which subtitles the wrong pages from frame `first` to `last` concern. A wrong page
+        concerns the subtitle that it belongs to and the subtitle that is expected in its frame."""
+        owners = []
+        for span in self.finder.split_frames(first, last):
+            place = self.finder.find_owner(span.first)
+            group = {self.expected.begins[place]
+                     if self.finder.is_page_of(place, span.first) else None}
+            count, is_due = self.expected.count_begun(span.first)
+            owners.append(group | ({self.expected.begins[count - 1]} if is_due else set()))
+        return owners
 
     def leave_out(self, is_left_out: Callable[[Cause], bool]) -> Causes:
         """Return a copy without some of the causes."""

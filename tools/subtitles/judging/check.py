@@ -8,7 +8,7 @@ import os
 import re
 import shutil
 import subprocess
-from typing import BinaryIO, Callable, Iterator, NamedTuple
+from typing import BinaryIO, Callable, Collection, Iterator, NamedTuple
 
 from ..common.files import add_name_to_errors, read_chunks
 from ..common.times import FRAMES_OF_A_DAY, Spans
@@ -162,14 +162,15 @@ class CheckOutput:
         with open(self.path, "wb"):
             pass
 
-    def summarize(self, is_read: bool = True) -> CheckSummary:
+    def summarize(self, is_read: bool = True,
+                  waived_numbers: Collection[int] = ()) -> CheckSummary:
         """Return the values that decide the verdict on a part. If the output has a line that
         `check` never prints, the part is not judged."""
         is_clear = self.unknown_line is None
         is_list = is_clear and self.first_fault is not None and self.frames is None
         counted = parse_count_line(self.last_line) if is_list else None
         return CheckSummary(self.exit_status, is_clear and self.is_accepted, self.fault_count,
-                            counted, self.fault_numbers, is_read, self.is_file)
+                            counted, self.fault_numbers, is_read, self.is_file, waived_numbers)
 
     @property
     def verdict(self) -> str:

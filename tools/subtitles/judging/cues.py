@@ -155,7 +155,7 @@ class CueJudge:
         if not words and not numbers:
             unsure = self.describe_doubt(cue)
             return CueVerdict(NOT_KNOWN if unsure else RIGHT, doubt=unsure)
-        is_waived = not self.part.error_numbers.intersection(numbers) and (
+        is_waived = not any(self.part.has_error(number, begin) for number in numbers) and (
             cue.cause is None or self.part.is_cause_waived(cue.cause))
         has_unknown_cause = cue.cause and cue.cause.name in (NOT_RECEIVED,
                                                              UNKNOWN_CAUSE) and not numbers

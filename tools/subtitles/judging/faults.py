@@ -25,6 +25,7 @@ from .causes import CauseDescriber
 from .check import FaultEnd
 from .pages import SPACE, describe_code, format_page_text
 from .part import Part
+from .status import ERROR, WARNING
 from .subtitles import OptionAdvice, advise_on_midnight
 from .transmissions import PageHeader, describe_effect, describe_header_faults, find_page_headers
 from .verdict import Verdict
@@ -309,7 +310,8 @@ class PartFaults:
         meaning = describe_header_faults(place.headers, self.request) or meaning
         return {
             "part": self.part.number, "line": fault.line, "number": fault.number,
-            "name": fault.name, "severity": self.part.classify(fault, end),
+            "name": fault.name,
+            "severity": ERROR if self.part.is_error(fault, end) else WARNING,
             "file": "stl" if is_stl else "pes", "block": fault.block,
             "subtitle": subtitle and make_subtitle(subtitle),
             "byte": byte, "character": character, "text_offset": fault.at,

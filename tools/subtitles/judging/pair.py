@@ -155,8 +155,10 @@ class PairJudge:
 
     def judge(self) -> None:
         """Judge the pair; raise `Unclear` if the operator must decide something first."""
-        request = self.request
+        request, verdict = self.request, self.verdict
         refuse_files(request)
+        verdict.severity = verdict.severity.limit_to_file(
+            request.stl, lambda: sum_file(request.stl_path, request.stl).sha256, verdict.date[:10])
         if request.language is not None:
             self.listener.add_selection(Selection(
                 OPTION_CHOICE, request.option, describe_option(request)))
@@ -164,13 +166,15 @@ class PairJudge:
         is_refused = answer.fault_numbers != {EMPTY}
         if not is_refused:
             self.check_hidden_rows()
-        if request.recording is None or is_refused and not self.verdict.valid_subtitles:
+        if request.recording is None or is_refused and not verdict.valid_subtitles:
             self.judge_file_only(answer, is_refused)
         elif is_refused:
             self.judge_valid_subtitles(answer)
         else:
             with self.catch_missing_page():
                 self.judge_transmission()
+        verdict.warn(verdict.find_waiver_notices())
+        self.listener.add_notes(*verdict.advise_on_waiver())
 
     @contextlib.contextmanager
     def catch_missing_page(self) -> Iterator[None]:
@@ -238,8 +242,9 @@ class PairJudge:
             file = SubtitleFile(self.names.program_stl, self.request.between)
             faults = (fault for fault, _ in answer.read_faults())
             self.verdict.valid_subtitles = find_valid_subtitles(
-                file, faults, self.request.option,
-                lambda fault: self.verdict.severity.is_error(fault.number))
+                file, faults, self.request.option, lambda fault:
+                self.verdict.severity.is_subtitle_error(
+                    fault.number, [{file.find_block_begin(fault.block or 0)}]))
         return answer.copy_without(EMPTY, self.names.make_temporary_path("refused.txt"))
 
     @property

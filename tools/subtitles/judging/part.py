@@ -5,7 +5,7 @@ import array
 import collections
 import dataclasses
 import functools
-from typing import Callable, Collection, Iterator, Sequence
+from typing import Callable, Collection, Iterator, NamedTuple, Sequence
 
 from ..clock.start import Clock, TimedPart
 from ..common.command_line import counted
@@ -14,7 +14,8 @@ from ..common.times import (
     FRAMES_OF_A_DAY, FrameRange, Span, Spans, TICKS, compute_frame, format_frame, pts_of,
     subtract_pts_within)
 from ..formats.listing import (
-    EMPTY, FAULTS_WITH_CAUSE, FaultLine, SKIPPED_PACKETS, STL_FAULTS, UNDECIDED)
+    BEGIN, CONTENT, EMPTY, END, FAULTS_WITH_CAUSE, FaultLine, SKIPPED_PACKETS, STL_FAULTS,
+    UNDECIDED, parse_place_time)
 from ..formats.stl import Subtitle, SubtitleFile
 from ..recording.recording import Recording
 from ..request.commands import Listener, MAX_LIST_LINES, OutputNames
@@ -25,13 +26,25 @@ from ..stream.receiver import Timeline, decode_pages_around, read_national_optio
 from .causes import Cause, CauseDescriber, Causes
 from .check import CheckOutput, FaultEnd, NO_END
 from .sentence import WorstFault, find_worst_fault
-from .status import ALL_ERRORS, CheckSummary, ERROR, REFUSED, Severity
+from .status import ALL_ERRORS, CheckSummary, REFUSED, Severity
 from .transmissions import ExpectedPages, KeepingHeaders
+from .waivers import Owners
 
 
 def make_empty_pages() -> ExpectedPages:
     """Return an object without pages, since a refused subtitle file has no expected pages."""
     return ExpectedPages([], [])
+
+
+class FaultSeverities(NamedTuple):
+    """The faults of a part that are errors. The keys of the last two members are fault numbers of
+    waivers, each with the TCI of a subtitle: `waived_counts` says how many faults are waived there,
+    `other_owners` which other subtitles need a waiver too."""
+
+    first_errors: dict[int, FaultLine]
+    error_counts: collections.Counter[int]
+    waived_counts: collections.Counter[tuple[int, int | None]]
+    other_owners: dict[tuple[int, int | None], set[int | None]]
 
 
 @dataclasses.dataclass(frozen=True)
@@ -89,38 +102,95 @@ class Part:
         assert self.recording and self.alignment
         return self.recording, self.alignment
 
-    def classify(self, fault: FaultLine, end: FaultEnd = NO_END) -> str:
-        """Return `ERROR` or `WARNING` for a fault of this part, which ends at `end`."""
-        return self.severity.classify(fault.number)
-
     def is_error(self, fault: FaultLine, end: FaultEnd = NO_END) -> bool:
-        return self.classify(fault, end) == ERROR
+        """Return whether a fault of this part, which ends at `end`, is an error."""
+        return self.severity.is_subtitle_error(fault.number, self.find_owners(fault, end))
+
+    def find_owners(self, fault: FaultLine, end: FaultEnd) -> Owners:
+        """Return the subtitles that a fault concerns in each of its frames. The list is empty if
+        there is no waiver for the number of the fault."""
+        if fault.number not in self.severity.waivers.numbers:
+            return []
+        if fault.block is not None:
+            return [{self.complete_file.find_block_begin(fault.block)}]
+        if fault.number == UNDECIDED:  # all subtitles that are not judged need a waiver
+            blocks = self.complete_file.start_blocks
+            return [{self.complete_file.find_block_begin(blocks[position - 1])}
+                    for position in sorted(self.skipped_positions)]
+        if fault.frame is None:
+            return [{None}]
+        last = parse_place_time(end.time) if end.time else fault.frame
+        if fault.number == CONTENT:
+            return self.causes.find_owners(fault.frame, last) if self.causes else [{None}]
+        return self.expected_pages().find_owners(fault.frame, last)
 
     @functools.cached_property
+    def complete_file(self) -> SubtitleFile:
+        return SubtitleFile(self.names.program_stl)
+
+    @functools.cached_property
+    def severities(self) -> FaultSeverities:
+        """Return which faults are errors. The list of faults is read only if there are waivers."""
+        output, waivers = self.check_output, self.severity.waivers
+        result = FaultSeverities({}, collections.Counter(), collections.Counter(), {})
+        if not waivers.numbers & output.fault_numbers:
+            errors = {number for number in output.fault_numbers if self.severity.is_error(number)}
+            return result._replace(
+                first_errors={number: fault for number, fault in output.first_faults.items()
+                              if number in errors},
+                error_counts=collections.Counter({
+                    number: count for number, count in output.counts_by_number.items()
+                    if number in errors}))
+        for fault, end in output.read_faults():
+            number, owners = fault.number, self.find_owners(fault, end)
+            if self.severity.is_subtitle_error(number, owners):
+                result.first_errors.setdefault(number, fault)
+                result.error_counts[number] += 1
+            covered = [group for group in owners if waivers.cover(number, [group])]
+            result.waived_counts.update((number, owner) for owner in set().union(*covered))
+            for group in owners:
+                for owner in group if group not in covered else ():
+                    result.other_owners.setdefault((number, owner), set()).update(group - {owner})
+        return result
+
+    @property
     def first_errors(self) -> dict[int, FaultLine]:
         """Return the first fault with each number that is an error."""
-        return {number: fault for number, fault in self.check_output.first_faults.items()
-                if self.is_error(fault)}
+        return self.severities.first_errors
 
     @property
     def error_numbers(self) -> set[int]:
         return set(self.first_errors)
 
-    @functools.cached_property
+    @property
     def error_counts(self) -> collections.Counter[int]:
         """Return the number of errors with each number."""
-        return collections.Counter({
-            number: count for number, count in self.check_output.counts_by_number.items()
-            if number in self.first_errors})
+        return self.severities.error_counts
 
     @property
     def waived_counts(self) -> collections.Counter[int]:
         """Return the number of faults with each number that are only warnings."""
         return self.check_output.counts_by_number - self.error_counts
 
+    def has_error(self, number: int, begin: int) -> bool:
+        """Return whether a fault with this number, in the subtitle that begins in a frame, is an
+        error."""
+        return number in self.error_numbers and not (
+            self.severity.waivers.cover(number, [{begin}])
+            and (number, begin) not in self.severities.other_owners)
+
     def is_cause_waived(self, cause: Cause) -> bool:
         """Return whether the faults that a cause explains are only warnings."""
-        return not self.error_numbers & FAULTS_WITH_CAUSE
+        assert self.causes
+        subtitles, index = self.causes.expected.subtitles, cause.subtitle_index
+        of_ends = self.causes.frames_by_end_fault
+        indices = {BEGIN: {0, of_ends.get(BEGIN)}, END: {len(subtitles) - 1, of_ends.get(END)},
+                   CONTENT: {index}}
+        errors = {number for number in self.error_numbers & FAULTS_WITH_CAUSE
+                  if index in indices[number]}
+        if errors == {CONTENT} and cause.frame is None:  # not a text in a pause
+            return not self.has_error(CONTENT, subtitles[index].begin)
+        return not errors
 
     @property
     def reported_faults(self) -> dict[int, FaultLine]:
@@ -130,7 +200,7 @@ class Part:
 
     @functools.cached_property
     def reported_causes(self) -> Causes | None:
-        """Return the causes of errors. If there is no error, return those of waived faults."""
+        """Return the causes of errors, or if there is no error, the causes of waived faults."""
         causes = self.causes
         is_any_left_out = causes and self.first_errors and any(
             map(self.is_cause_waived, causes.list_causes()))
@@ -178,7 +248,9 @@ class Part:
         return SubtitleFile(self.names.program_stl, self.request.between, self.skipped_positions)
 
     def summarize_check(self) -> CheckSummary:
-        return self.check_output.summarize(self.is_recording_read)
+        waived = {number for number in self.check_output.fault_numbers - self.error_numbers
+                  if self.severity.is_error(number)}
+        return self.check_output.summarize(self.is_recording_read, waived)
 
     @property
     def is_refused(self) -> bool:

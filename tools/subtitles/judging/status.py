@@ -1,13 +1,16 @@
 """Decide the verdict, its exit status, and which faults are errors. No other module does this."""
 from __future__ import annotations
 
-from typing import Collection, Iterable, NamedTuple, Sequence
+import copy
+from typing import Callable, Collection, Iterable, NamedTuple, Sequence
 
 from ..common.command_line import (
     BUG, BUG_STATUS, OTHER_STATUS, STATUSES_BY_KIND, Stop, UNDECIDED, USAGE_STATUS)
 from ..common.files import read_bounded_bytes
 from ..formats.listing import ENDS_FILE, ENDS_READING, FAULT_NAMES, LOST_PACKETS, SILENT
 from ..request.lines import MAX_PROFILE_BYTES, decode_text
+from .waivers import (
+    EXAMPLE, FileWaivers, Owners, Waiver, choose_waivers, is_waiver, parse_waiver)
 
 
 ERROR, WARNING = "error", "warning"
@@ -25,16 +28,22 @@ class Severity:
     a warning only with `is_loss_allowed` (--allow-lost) or if the file lists them; the name
     `others` in the file does not include them. --allow-lost also makes an interval without a PES
     packet (79) a warning, unless the file lists 79 or `others`, or the operator gave --pace.
+    A waiver makes a fault in one subtitle a warning.
     """
 
     def __init__(self, path: str | None, is_loss_allowed: bool = False,
                  is_pace_given: bool = False) -> None:
         self.severity_by_fault: dict[int | str, str] = {}
+        self.all_waivers: list[Waiver] = []
+        self.waivers = FileWaivers()  # the waivers for the judged subtitle file
         self.is_loss_allowed, self.is_pace_given = is_loss_allowed, is_pace_given
         if path is not None:
             text = decode_text(path, read_bounded_bytes(path, MAX_PROFILE_BYTES))
             for at, line in enumerate(text.split("\n"), 1):
-                self.read_line(path, at, line.partition("#")[0].split())
+                if is_waiver(line):
+                    self.all_waivers.append(parse_waiver(path, at, line))
+                else:
+                    self.read_line(path, at, line.partition("#")[0].split())
 
     def read_line(self, path: str, line_number: int, words: list[str]) -> None:
         """Parse one line of the severity file. Raise `Stop` if it is invalid."""
@@ -44,7 +53,8 @@ class Severity:
         name = " ".join(names)
         is_number = name.isascii() and name.isdecimal()
         if severity not in (ERROR, WARNING) or not is_number and name not in (OTHERS, *FAULT_NAMES):
-            raise Stop(f"{path}, line {line_number}: a line is `NUMBER error` or `NUMBER warning`")
+            raise Stop(f"{path}, line {line_number}: a line is `NUMBER error` or `NUMBER warning`, "
+                       f"or for one subtitle `{EXAMPLE}`")
         if name in (OTHERS, *FAULT_NAMES):
             self.severity_by_fault[name] = severity
         elif name.lstrip("0") in map(str, FAULT_NUMBERS):
@@ -64,6 +74,16 @@ class Severity:
 
     def is_error(self, number: int | str) -> bool:
         return self.classify(number) == ERROR
+
+    def is_subtitle_error(self, number: int, owners: Owners) -> bool:
+        """Return whether a fault that concerns some subtitles is an error."""
+        return self.is_error(number) and not self.waivers.cover(number, owners)
+
+    def limit_to_file(self, name: str, find_checksum: Callable[[], str], day: str) -> Severity:
+        """Return a copy that uses the waivers for a subtitle file on a day."""
+        severity = copy.copy(self)
+        severity.waivers = choose_waivers(self.all_waivers, name, find_checksum, day)
+        return severity
 
 
 ALL_ERRORS = Severity(None)  # the severities without a severity file
@@ -98,6 +118,7 @@ class CheckSummary(NamedTuple):
     fault_numbers: Collection[int] = ()
     is_read: bool = True  # false if there is a recording, but `check` read no PES packet
     is_file: bool = False  # whether only the subtitle file was judged, and has no fault
+    waived_numbers: Collection[int] = ()  # fault numbers that only waived subtitles have
 
 
 class Grounds(NamedTuple):
@@ -164,7 +185,8 @@ def decide(grounds: Grounds) -> Decision:
         return Decision(NOT_JUDGED, not_judged_kind=find_worst_kind(grounds.error_kinds))
     if not words and not grounds.named_faults or NOT_JUDGED in words:
         return Decision(NOT_JUDGED, NOT_ANSWERED, BUG)
-    faults: list[int | str] = [number for part in grounds.parts for number in part.fault_numbers]
+    faults: list[int | str] = [number for part in grounds.parts for number in part.fault_numbers
+                               if number not in part.waived_numbers]
     if any(grounds.severity.is_error(fault) for fault in [*faults, *grounds.named_faults]):
         return Decision(REFUSED)
     if not words or not all(part.is_read for part in grounds.parts):

@@ -23,6 +23,7 @@ from ..stream.receiver import (
 from ..stream.survey import survey_runs
 from .check import CheckOutput
 from .pages import is_partial_page, join_page_text
+from .waivers import Owners
 
 
 ERASE_CLEAR = "C4 (erase page) is clear"
@@ -200,6 +201,11 @@ class ExpectedPages(SubtitleList):
         return ExpectedPages([dataclasses.replace(item, begin=item.begin + frames,
                                                   end=item.end + frames)
                               for item in self.subtitles], self.pages, self.timeline)
+
+    def find_owners(self, first: int, last: int) -> Owners:
+        """Return which subtitles are expected from frame `first` to `last`."""
+        begun = [self.count_begun(frame) for frame in (first, *self.list_cues(first, last))]
+        return [{self.begins[count - 1] if is_due else None} for count, is_due in begun]
 
     @functools.cached_property
     def positions_by_page(self) -> dict[Rows, list[int]]:

@@ -3,7 +3,8 @@ from __future__ import annotations
 
 import collections
 import dataclasses
-from typing import Callable, Iterable, Mapping, NamedTuple, Sequence
+import os
+from typing import Callable, Collection, Iterable, Iterator, Mapping, NamedTuple, Sequence
 
 from ..clock.start import ESTIMATED_LATER_NOTE, ESTIMATED_NOTE, advise_on_clock
 from ..common.checks import (
@@ -11,9 +12,9 @@ from ..common.checks import (
 from ..common.command_line import (
     RESOURCE, classify_error, format_error, format_frame_range, was)
 from ..common.files import SummedFile
-from ..common.times import compute_time
+from ..common.times import compute_time, format_frame
 from ..formats.listing import (
-    LOST_PACKETS, NamedFault, PICTURES_LEFT, SILENT, STL_FAULTS, UNDECIDED)
+    CONTENT, LOST_PACKETS, NamedFault, PICTURES_LEFT, SILENT, STL_FAULTS, UNDECIDED)
 from ..formats.stl import Subtitle
 from ..recording.recording import Recording
 from ..recording.notices import Notice
@@ -27,6 +28,7 @@ from .status import (
     decide)
 from .subtitles import SubtitleCounts, ValidSubtitles
 from .unchecked import Unchecked, list_check_entries, summarize_pictures
+from .waivers import Waiver
 
 
 # Faults that may delay a page. Without them, and with --within 0, each page is complete at its TCI.
@@ -134,6 +136,16 @@ class Unjudged(NamedTuple):
     suggestions: tuple[str, ...] = ()
     is_temporary: bool = False  # whether a system error is the reason, so another run may succeed
     is_stopped: bool = False  # whether a signal stopped the run
+
+
+class UsedWaiver(NamedTuple):
+    """A waiver for the judged file, the number of faults that it waives, the TCI of subtitles that
+    need a waiver too (`None` for a pause), and whether it has ended."""
+
+    waiver: Waiver
+    fault_count: int
+    owners: Collection[int | None]
+    has_ended: bool = False
 
 
 class FailedOutput(NamedTuple):
@@ -413,6 +425,35 @@ class Verdict:
         candidates = self.named_errors if self.named_errors or self.word == REFUSED \
             else self.named_faults
         return find_worst_named_fault(candidates, worst.rank if worst else None)
+
+    def list_waivers(self) -> Iterator[UsedWaiver]:
+        """Yield the waivers for the subtitle file, with the faults that each of them waives."""
+        waivers, severities = self.severity.waivers, [part.severities for part in self.parts]
+        for waiver in waivers.used:
+            owners = set[int | None]().union(*(item.other_owners.get(waiver.key, ())
+                                               for item in severities))
+            yield UsedWaiver(waiver, sum(item.waived_counts[waiver.key] for item in severities),
+                             owners)
+        yield from (UsedWaiver(waiver, 0, set(), True) for waiver in waivers.ended)
+
+    def find_waiver_notices(self) -> Iterator[Notice]:
+        """Yield a warning for each waiver that has not ended and waives nothing."""
+        for waiver, fault_count, owners, has_ended in self.list_waivers():
+            if not fault_count and not has_ended:
+                times = ", ".join("a pause" if frame is None else format_frame(frame)
+                                  for frame in sorted(owners, key=lambda frame: frame or 0))
+                yield Notice("waiver", f"the waiver in {waiver.describe()}, waives nothing" + (
+                    f": the fault also concerns {times}" if times else ""), waiver.time)
+
+    def advise_on_waiver(self) -> Iterator[str]:
+        """Yield the line that waives the first wrong subtitle, if the severity file waives wrong
+        pages of all subtitles."""
+        begins = [part.causes.expected.begins[place] for part in self.parts if part.causes
+                  for place in sorted(part.causes.cause_by_index)]
+        if begins and not self.severity.is_error(CONTENT):
+            yield f"{self.request.severity} waives fault {CONTENT} in all subtitles; to waive it " \
+                f"in one: {CONTENT} warning at {format_frame(begins[0])} in " \
+                f'{os.path.basename(self.request.stl)} until YYYY-MM-DD by "NAME": REASON'
 
     @property
     def named_errors(self) -> list[NamedFault]:

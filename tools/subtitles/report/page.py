@@ -235,7 +235,9 @@ class PartView:
             fault_items += markup("<li>and {:,} more: <code>check --all</code> lists them</li>",
                                   omitted_count) \
                 if omitted_count else NO_MARKUP
-            waived = "" if number in self.part.error_numbers else " (waived)"
+            waived_count = self.part.waived_counts[number]
+            waived = " (waived)" if waived_count == count else \
+                f" ({waived_count:,} waived)" if waived_count else ""
             rows.append(markup(
                 '<tr id="n{}"><th scope="row">{} {}{}</th><td data-name="Faults">{:,}</td><td '
                 'data-name="First">{}</td><td data-name="Into recording">{}</td><td><details>'
@@ -285,6 +287,10 @@ def list_waived(verdict: Verdict) -> Iterator[str]:
     counts = count_fault_numbers(verdict.parts, lambda part: part.waived_counts)
     for number, name, count in sorted(counts):
         yield f"{number} {name} ({count:,})"
+    for waiver, fault_count, _, _ in verdict.list_waivers():
+        if fault_count:
+            yield f"{waiver.number} in the subtitle at {waiver.time} ({fault_count:,}), until " \
+                f"{waiver.until}, by {waiver.author}: {waiver.reason}"
     yield from (f"{named_fault.name}: {named_fault.text}" for named_fault in verdict.named_faults
                 if not verdict.severity.is_error(named_fault.name))
 

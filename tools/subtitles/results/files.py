@@ -295,13 +295,17 @@ def describe_inputs(request: Request) -> dict[str, Any]:
             "severity": describe_file(request.severity)}
 
 
-def is_current(result: dict[str, Any], request: Request, program: ProgramInfo) -> bool:
+def is_current(result: dict[str, Any], request: Request, program: ProgramInfo,
+               day: str | None = None) -> bool:
     """Return whether a result is up to date: the options and the files of the pair, and the
-    versions of the program and the tools have not changed."""
+    versions of the program and the tools have not changed, and no waiver that it used has ended
+    before `day` (YYYY-MM-DD, by default the current day in UTC)."""
+    day = day or time.strftime("%Y-%m-%d", time.gmtime())
     return "request" in result and result["request"] == REQUEST.to_json(request) \
         and result["files_at_start"] == describe_inputs(request) \
         and result["program"]["sha256"] == program.sha256 \
-        and result["program"]["version"] == program.version
+        and result["program"]["version"] == program.version \
+        and all(item["ended"] or day <= item["until"] for item in result["waivers"])
 
 
 # CSV files. For many pairs, a file has a line for each pair, followed by a line for each fault of

@@ -24,6 +24,7 @@ from ..judging.part import Part
 from ..judging.status import (
     ACCEPTED, NOT_JUDGED, POSSIBLE_RESULTS, REFUSED, RELATIVE, STATUSES, VALID)
 from ..judging.verdict import Verdict
+from ..judging.waivers import WAIVABLE
 from ..request.request import CHOICES, list_request_members
 
 
@@ -194,7 +195,8 @@ WARNING = Record(
     "warning", "",
     Member("kind", OneOf(
         "pts_behind", "pts_early", "pts_changed", "page", "type", "language", "option",
-        "character_set", "repeat", "clock_jump", "pause", "blocks", "subtitles", "cut", "hidden")),
+        "character_set", "repeat", "clock_jump", "pause", "blocks", "subtitles", "cut", "hidden",
+        "waiver")),
     Member("line", Text()),
     Member("time", Maybe(TIME), "The time of the first occurrence."))
 
@@ -206,6 +208,21 @@ UNCHECKED = Record(
            lambda item: item.begin),
     Member("to", Maybe(TIME), getter=lambda item: item.end),
     Member("text", Text()))
+
+WAIVER = Record(
+    "waiver", "",
+    Member("number", Integer(min(WAIVABLE), max(WAIVABLE)), "The fault number.",
+           lambda item: item.waiver.number),
+    Member("time", TIME, "The TCI of the subtitle.", lambda item: item.waiver.time),
+    Member("file", Text(), "The file name, or `sha256:` and its checksum.",
+           lambda item: item.waiver.file),
+    Member("until", Text(r"[0-9]{4}-[0-9]{2}-[0-9]{2}"), "The last day (UTC).",
+           lambda item: item.waiver.until),
+    Member("ended", Flag(), "Whether this day is before `date`.", lambda item: item.has_ended),
+    Member("author", Text(), getter=lambda item: item.waiver.author),
+    Member("reason", Text(), getter=lambda item: item.waiver.reason),
+    Member("fault_count", COUNT, "The number of faults that it waives, at least in part.",
+           lambda item: item.fault_count))
 
 TRUSTED = Record("trusted_frames", "", Member("part", PART),
                  Member("from", TIME), Member("to", TIME, "The last trusted frame."))
@@ -367,6 +384,8 @@ LISTS = (
     Member("hints", ListOf(Text(), MAX_LISTED_ITEMS), getter=lambda known: known.verdict.hints),
     Member("warnings", ListOf(WARNING, MAX_LISTED_ITEMS),
            getter=lambda known: known.verdict.warnings),
+    Member("waivers", ListOf(WAIVER, MAX_LISTED_ITEMS), "The waivers for this subtitle file, also "
+           "those that have ended.", lambda known: known.verdict.list_waivers()),
     Member("commands", ListOf(Text(), MAX_LISTED_ITEMS),
            getter=lambda known: known.verdict.commands),
     Member("choices", ListOf(CHOICE, MAX_LISTED_ITEMS),

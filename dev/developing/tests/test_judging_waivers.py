@@ -1,0 +1,196 @@
+"""Test waivers, which make a fault in one subtitle of one file only a warning."""
+from __future__ import annotations
+
+import hashlib
+import json
+from typing import Any, Sequence
+
+from subtitles.common.command_line import Stop
+from subtitles.common.times import format_frame
+from subtitles.judging.status import CheckSummary, Grounds, REFUSED, WAIVED, decide
+from subtitles.judging.waivers import Waiver, choose_waivers, is_waiver, parse_waiver
+from subtitles.results.files import describe_inputs, is_current
+from subtitles.results.schema import REQUEST
+from .bench import Case
+from .parts import make_example_request
+from .results import make_result
+from .test_cli_earlier_results import PROGRAM
+from .test_judging_status import make_severity
+from .transmissions import ShownSubtitle, join_pes_packets, schedule_pages, write_subtitle_file
+
+LINE = '72 warning at 10:03:30:17 in news.stl until 2027-01-31 by "Ann": her decision #4'
+SUM = "ab" * 32
+# The second subtitle is followed by the third without a pause.
+TIMES = [(100, 160), (200, 260), (260, 320), (400, 460), (500, 560)]
+PROGRAMME = [(begin, end, b"Number %d" % number) for number, (begin, end) in enumerate(TIMES, 1)]
+
+
+def make_waiver(number: int, subtitle: int, file: str = "one.stl",
+                until: str = "2999-12-31") -> str:
+    """Return a line that waives a fault in a subtitle of `PROGRAMME`."""
+    time = format_frame(TIMES[subtitle - 1][0])
+    return f'{number} warning at {time} in {file} until {until} by "Ann": known'
+
+
+def replace_subtitles(changes: dict[int, ShownSubtitle | None]) -> list[ShownSubtitle]:
+    """Return `PROGRAMME` with changed subtitles, by number. Leave out those that are `None`."""
+    sent = [changes.get(number, subtitle) for number, subtitle in enumerate(PROGRAMME, 1)]
+    return [subtitle for subtitle in sent if subtitle]
+
+
+WRONG_TEXTS = replace_subtitles({2: (200, 260, b"Numbex 2"), 4: (400, 460, b"Numbex 4")})
+NEITHER_SENT = replace_subtitles({2: None, 3: None})
+EARLY_CUE = replace_subtitles({2: (200, 250, b"Number 2"), 3: (250, 320, b"Number 3")})
+TEXT_IN_PAUSE = sorted([*PROGRAMME, (340, 380, b"Another text")])
+NOT_ERASED = replace_subtitles({3: (260, 390, b"Number 3")})
+
+
+class ParsedWaivers(Case):
+    def test_reads_a_waiver(self) -> None:
+        waiver = parse_waiver("file", 7, f"  {LINE}\r")
+        self.check("waiver", waiver, Waiver(72, "10:03:30:17", "news.stl", "2027-01-31", "Ann",
+                                            "her decision #4", 7))
+        for name, line, expected in (
+                ("spaces", LINE.replace(" ", "   ").replace("news", "the news"), "the news.stl"),
+                ("a checksum", LINE.replace("news.stl", f"sha256:{SUM}"), f"sha256:{SUM}")):
+            self.check(name, parse_waiver("file", 7, line).file, expected)
+        for line, expected_value in ((LINE, True), (f"# {LINE}", False), ("72 warning", False)):
+            self.check(line, is_waiver(line), expected_value)
+
+    def test_refuses_a_wrong_waiver(self) -> None:
+        form, number = "line 2: a waiver for one subtitle is a line such as", \
+            "can't be waived for one subtitle"
+        rows = {
+            "no file": (LINE.replace(" in news.stl", ""), form),
+            "no day": (LINE.replace(" until 2027-01-31", ""), form),
+            "no name": (LINE.replace('"Ann"', '" "'), form),
+            "no reason": (LINE.partition(":")[0] + ":03:30:17 in a until 2027-01-31 by \"Ann\": ",
+                          form),
+            "error": (LINE.replace("72 warning", "72 error"), "a line is `NUMBER error`"),
+            "all faults": (LINE.replace("72", "others"), "a line is `NUMBER error`"),
+            "frame 25": (LINE.replace(":17", ":25"), "10:03:30:25 is not a time code"),
+            "31 February": (LINE.replace("01-31", "02-31"), "2027-02-31 is not a day"),
+            "a short day": (LINE.replace("01-31", "1-31"), "2027-1-31 is not a day"),
+            "a folder": (LINE.replace("news", "in/news"), "without its folder"),
+            "a short checksum": (LINE.replace("news.stl", "sha256:ab"), "ab is not a SHA-256"),
+            **{f"fault {item}": (LINE.replace("72", f"{item}"), number) for item in (
+                *range(10, 26), *range(30, 46), *range(60, 64), 74, 76, 79)}}
+        for name, (line, message) in rows.items():
+            with self.subTest(name), self.assertRaisesRegex(Stop, message):
+                make_severity("", line)
+
+    def test_uses_waivers_for_the_file_up_to_their_day(self) -> None:
+        waiver = parse_waiver("", 1, LINE)
+        by_sum = waiver._replace(file=f"sha256:{SUM}")
+        key = {(72, ((10 * 60 + 3) * 60 + 30) * 25 + 17)}
+        rows: dict[str, tuple[Waiver, str, str, set[tuple[int, int]], int]] = {
+            "the last day": (waiver, "in/news.stl", "2027-01-31", key, 0),
+            "the day after": (waiver, "in/news.stl", "2027-02-01", set(), 1),
+            "another file": (waiver, "other.stl", "2027-01-31", set(), 0),
+            "the checksum": (by_sum, "other.stl", "2027-01-31", key, 0),
+            "another checksum": (by_sum._replace(file=f"sha256:{SUM[:-1]}c"), "news.stl",
+                                 "2027-01-31", set(), 0)}
+        for name, (item, path, day, keys, ended) in rows.items():
+            chosen = choose_waivers([item], path, lambda: SUM, day)
+            self.check(name, (chosen.keys, len(chosen.ended)), (keys, ended))
+
+    def test_a_result_is_judged_again_after_the_day_of_a_waiver(self) -> None:
+        request = make_example_request("one.stl", "one.ts")
+        for until, has_ended, day, expected in (
+                ("2027-01-31", False, "2027-01-31", True),
+                ("2027-01-31", False, "2027-02-01", False),
+                ("2027-01-31", True, "2027-02-01", True)):
+            result = make_result(
+                "waived", request=REQUEST.to_json(request), program=PROGRAM._asdict(),
+                files_at_start=describe_inputs(request),
+                waivers=[{"until": until, "ended": has_ended}])
+            self.check(f"{until} {has_ended} {day}", is_current(result, request, PROGRAM, day),
+                       expected)
+
+
+class WaivedSubtitles(Case):
+    def test_a_number_of_waived_subtitles_decides_nothing(self) -> None:
+        for waived, expected in (({72}, WAIVED), (set[int](), REFUSED), ({67}, REFUSED)):
+            part = CheckSummary(1, False, 1, 1, {72}, waived_numbers=waived)
+            decision = decide(Grounds([part], make_severity(), has_clock=True))
+            self.check(f"{waived}", decision.word, expected)
+
+    def judge(self, sent: Sequence[ShownSubtitle], severity: Sequence[str],
+              programme: Sequence[ShownSubtitle] = PROGRAMME) -> dict[str, Any]:
+        """Judge a transmission by `programme` with a severity file. Return the JSON result."""
+        own = write_subtitle_file(self, sent, "sent.stl")
+        recording = self.write("one.pes", join_pes_packets(schedule_pages(self, own)))
+        stl = write_subtitle_file(self, programme)
+        self.write("severity", "\n".join(severity).encode())
+        self.tool("qc", stl, recording, "--origin", "0", "--every", "25", "--severity",
+                  self.path("severity"), "--json", self.path("one.json"), "-p", self.bench.program)
+        result: dict[str, Any] = json.loads(self.read("one.json"))
+        return result
+
+    def test_waives_a_fault_only_in_the_subtitles_that_the_waivers_name(self) -> None:
+        write_subtitle_file(self, PROGRAMME)
+        checksum = "sha256:" + hashlib.sha256(self.read("one.stl")).hexdigest()
+        two, three, four = (make_waiver(72, number) for number in (2, 3, 4))
+        rows: dict[str, tuple[list[ShownSubtitle], list[str], str, str]] = {
+            "no waiver": (WRONG_TEXTS, [], REFUSED, "2 of 5 subtitles have the wrong text"),
+            "one of two": (WRONG_TEXTS, [two], REFUSED, "subtitle 4 at 00:00:16:00 has the"),
+            "the other": (WRONG_TEXTS, [four], REFUSED, "subtitle 2 at 00:00:08:00 has the"),
+            "both": (WRONG_TEXTS, [two, four], WAIVED, "2 of 5 subtitles have the wrong text"),
+            "by the checksum": (WRONG_TEXTS, [two, make_waiver(72, 4, checksum)], WAIVED, ""),
+            "another file": (WRONG_TEXTS, [two, make_waiver(72, 4, "two.stl")], REFUSED, "4 at"),
+            "another number": (WRONG_TEXTS, [two, make_waiver(68, 4)], REFUSED, "subtitle 4 at"),
+            "ended": (WRONG_TEXTS, [two, make_waiver(72, 4, until="2026-01-01")], REFUSED, "4 at"),
+            "72 in all": (WRONG_TEXTS, ["72 warning"], WAIVED, "2 of 5 subtitles"),
+            "one of two in one fault": (NEITHER_SENT, [two], REFUSED,
+                                        'subtitle 3 at 00:00:10:10, "Number 3", was never'),
+            "both of one fault": (NEITHER_SENT, [two, three], WAIVED, ""),
+            "early": (EARLY_CUE, [three], REFUSED, "appeared 10 frames early"),
+            "early, and the one before": (EARLY_CUE, [two, three], WAIVED, ""),
+            "not erased": (NOT_ERASED, [three], WAIVED, "was not erased"),
+            "a text in the pause after it": (TEXT_IN_PAUSE, [three], REFUSED, "in a pause")}
+        for name, (sent, lines, verdict, words) in rows.items():
+            result = self.judge(sent, lines)
+            self.check(name, (result["verdict"], words in result["sentence"]), (verdict, True))
+
+    def test_says_which_waiver_waives_nothing(self) -> None:
+        two, three, five = (make_waiver(72, number) for number in (2, 3, 5))
+        rows: dict[str, tuple[list[ShownSubtitle], list[str], list[str]]] = {
+            "all are used": (WRONG_TEXTS, [two], []),
+            "a right subtitle": (WRONG_TEXTS, ["", two, five], [
+                "the waiver in line 3, fault 72 at 00:00:20:00, waives nothing"]),
+            "the fault has another subtitle": (EARLY_CUE, [three], [
+                "the waiver in line 1, fault 72 at 00:00:10:10, waives nothing: the fault also "
+                "concerns 00:00:08:00"]),
+            "ended": (PROGRAMME, [make_waiver(72, 5, until="2026-01-01")], []),
+            "another file": (PROGRAMME, [make_waiver(72, 5, "two.stl")], [])}
+        for name, (sent, lines, expected) in rows.items():
+            result = self.judge(sent, lines)
+            self.check(name, [warning["line"] for warning in result["warnings"]
+                              if warning["kind"] == "waiver"], expected)
+
+    def test_the_result_names_the_waivers_and_what_they_waive(self) -> None:
+        result = self.judge(WRONG_TEXTS, [
+            "67 warning", make_waiver(72, 2), make_waiver(72, 4, until="2026-01-01"),
+            make_waiver(72, 1, "two.stl")])
+        self.check("waivers", [(item["time"], item["until"], item["ended"], item["fault_count"])
+                               for item in result["waivers"]], [
+            ("00:00:08:00", "2999-12-31", False, 1), ("00:00:16:00", "2026-01-01", True, 0)])
+        self.check("faults", [(fault["time"], fault["severity"]) for fault in result["faults"]], [
+            ("00:00:08:00", "warning"), ("00:00:16:00", "error")])
+        self.check("subtitles", [item["verdict"] for item in result["subtitles"]],
+                   ["right", "waived", "right", "wrong", "right"])
+
+    def test_says_how_to_waive_one_subtitle_if_72_is_waived_in_all(self) -> None:
+        for lines, is_told in ((["72 warning"], True), (["others warning"], True), ([], False),
+                               ([make_waiver(72, 2), make_waiver(72, 4)], False)):
+            notes = self.judge(WRONG_TEXTS, lines)["notes"]
+            self.check(f"{lines}", any("to waive it in one: 72 warning at 00:00:08:00 in one.stl "
+                                       "until" in note for note in notes), is_told)
+
+    def test_a_refused_subtitle_needs_a_waiver_for_the_unknown_page_too(self) -> None:
+        programme = replace_subtitles({4: (400, 460, b"Number \x9f 4")})
+        fifty, unknown = make_waiver(51, 4), make_waiver(78, 4)
+        for lines, verdict in (([], REFUSED), ([fifty], REFUSED), ([unknown], REFUSED),
+                               ([fifty, unknown], WAIVED)):
+            result = self.judge(PROGRAMME, lines, programme)
+            self.check(f"{lines}", result["verdict"], verdict)
