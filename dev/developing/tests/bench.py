@@ -25,11 +25,9 @@ from typing import Any, Callable, Mapping, NamedTuple, NoReturn, Sequence, Tuple
 from developing import DEV, TOOLS
 from subtitles.common.program import TOP, find_built_program
 from .failures import (
-    Mismatch, explain_condition, find_calling_frame, format_comparison, format_place_of, list_lines,
-    shorten_lines)
+    Mismatch, explain_condition, find_calling_frame, format_comparison, format_failure, list_lines)
 
 EXAMPLES = os.path.join(TOP, "examples")
-MAX_NAME_LENGTH = 160  # maximum number of characters of a check's name in a message
 INTERNAL_ERROR = ": internal error: "  # in the message of a tool that failed because of a bug
 SECONDS = 600  # time limit for a command or a wait, in seconds
 
@@ -91,20 +89,16 @@ class Case(unittest.TestCase):
         """
         with self.subTest(name):
             if not is_right:
-                frame = find_calling_frame()
-                parts = [f"{name[:MAX_NAME_LENGTH]}\n  {format_place_of(frame)}",
-                         explain_condition(frame)]
-                parts += [f"  found:    {shorten_lines(list_lines(told))}"] * (told != "")
-                raise Mismatch("\n".join(filter(None, parts)))
+                found = "\n".join(list_lines(told))
+                raise Mismatch(format_failure(name, explain_condition(find_calling_frame()),
+                                              f"  found:    {found}" * (told != "")))
         return bool(is_right)
 
     def check(self, name: str, result: object, expected: object) -> bool:
         """Check that two values are equal. Continue after a failure."""
         with self.subTest(name):
             if result != expected:
-                raise Mismatch(f"{name[:MAX_NAME_LENGTH]}\n  "
-                               f"{format_place_of(find_calling_frame())}\n"
-                               f"{format_comparison(result, expected)}")
+                raise Mismatch(format_failure(name, format_comparison(result, expected)))
         return result == expected
 
     def check_rows(self, function: Callable[..., object], rows: Mapping[str, Row]) -> None:

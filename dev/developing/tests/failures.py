@@ -12,7 +12,8 @@ from typing import Iterator
 
 # Files that are skipped in the search for the caller.
 HELPERS = ("bench.py", "failures.py", "snapshots.py", "stories.py")
-MAX_LINES_PRINTED = 60  # maximum number of printed lines
+MAX_NAME_LENGTH = 160  # maximum number of characters of a check's name in a message
+MAX_LINES_PRINTED = 40  # maximum number of printed lines of a failure
 MAX_TEXT_PRINTED = 600  # maximum number of printed characters of a value in a comparison
 WIDTH = 96
 
@@ -37,10 +38,17 @@ def format_place_of(frame: FrameType) -> str:
     return f"{os.path.basename(path)}:{frame.f_lineno}: {line}"
 
 
-def shorten_lines(lines: list[str]) -> str:
-    """Join lines, but replace those after MAX_LINES_PRINTED with a line that gives their number."""
-    more = [f"  .. {len(lines) - MAX_LINES_PRINTED} more lines"] * (len(lines) > MAX_LINES_PRINTED)
-    return "\n".join([*lines[:MAX_LINES_PRINTED], *more])
+def format_failure(name: str, *parts: str) -> str:
+    """Return the message of a failed check: its name, its place in a test, and `parts`.
+
+    Lines after MAX_LINES_PRINTED are replaced with a line that gives their number.
+    """
+    place = f"  {format_place_of(find_calling_frame())}"
+    lines = "\n".join(filter(None, (name[:MAX_NAME_LENGTH], place, *parts))).split("\n")
+    if len(lines) > MAX_LINES_PRINTED:
+        count = len(lines) - MAX_LINES_PRINTED + 1
+        lines[MAX_LINES_PRINTED - 1:] = [f"  .. {count} more lines"]
+    return "\n".join(lines)
 
 
 def crop(text: str) -> str:
@@ -58,7 +66,7 @@ def format_comparison(result: object, expected: object) -> str:
     if len(own) == 1 and len(expected_value) == 1:
         return f"  expected: {expected_value[0]}\n  found:    {own[0]}"
     diff = difflib.unified_diff(expected_value, own, "expected", "found", lineterm="", n=2)
-    return shorten_lines([f"  {line}" for line in diff])
+    return "\n".join(f"  {line}" for line in diff)
 
 
 def condition_in(frame: FrameType, helper: str) -> ast.expr | None:
@@ -102,8 +110,9 @@ def explain_condition(frame: FrameType, helper: str = "must") -> str:
             if isinstance(fact, ast.Compare) and len(fact.ops) == 1:
                 left, right = value(fact.left), value(fact.comparators[0])
                 kind = isinstance(fact.ops[0], ast.Eq)
-                return f"{text}\n" + (format_comparison(left, right) if kind else shorten_lines(
-                    [f"  left:     {crop(repr(left))}", f"  right:    {crop(repr(right))}"]))
+                return f"{text}\n" + (format_comparison(left, right) if kind else
+                                      f"  left:     {crop(repr(left))}\n"
+                                      f"  right:    {crop(repr(right))}")
             return text
     except Exception as error:
         return f"  not explained: {type(error).__name__}: {error}"

@@ -1,6 +1,7 @@
 """Test the scripts of the gate: what they count, and what they must not count as passed."""
 from __future__ import annotations
 
+import io
 import os
 import shutil
 import unittest
@@ -12,6 +13,8 @@ from developing.shown import has_expected_status
 from subtitles.common.command_line import Stop
 from subtitles.common.program import TOP
 from .bench import Case, get_tool_path, import_script
+from .failures import MAX_LINES_PRINTED
+from .runner import Counts
 
 GATE = os.path.join(TOP, ".ci", "run")
 # The stages of the gate in their order: the script, and the counts in its last line.
@@ -120,6 +123,33 @@ class DocumentStatuses(unittest.TestCase):
             with self.subTest(name):
                 self.assertEqual([status for status in possible
                                   if has_expected_status(status, command, output)], statuses)
+
+
+class FailedChecks(Case):
+    def test_shows_what_was_expected_and_found_in_few_lines(self) -> None:
+        def fail(case: Case) -> None:
+            case.check("a number", 1 + 1, 3)
+            case.must("two conditions", case.folder == "" and len(case.folder) > 1, "no folder")
+            case.check("many lines", "a\n" * 99, "b\n" * 99)
+
+        counts = Counts(False)
+        counts.out = io.StringIO()
+        case = type("Failing", (Case,), {"test": fail, "setUp": lambda _: None})("test")
+        case.run(counts)
+        number, conditions, many = counts.out.getvalue().split("FAILED: ")[1:]
+        self.check("number", number.splitlines()[2:], ["  expected: 3", "  found:    2"])
+        self.check("conditions", [line for line in conditions.splitlines() if "false" in line
+                                  or "found" in line],
+                   ["  false:    len(case.folder) > 1", "  found:    'no folder'"])
+        self.check("lines", len(many.splitlines()), MAX_LINES_PRINTED)
+
+    def test_check_tools_says_at_once_what_it_runs(self) -> None:
+        name = "test_dev_gate.Counts"
+        process = self.tool("check-tools", "--jobs", "3", "-p", self.bench.program, name)
+        first, *_, last = process.out.decode().splitlines()
+        self.check("status", process.status, 0)
+        self.check("first line", first, f"running 1 test, 3 at a time, of {self.bench.program}")
+        self.check("last line", last, "11 passed, 0 failed")
 
 
 class ReleasedLines(unittest.TestCase):

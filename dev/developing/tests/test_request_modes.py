@@ -308,8 +308,9 @@ VALID: dict[str, list[list[str]]] = {
 # Scripts whose valid calls are in the gate, in another test, or need the toolchain.
 CALLED_ELSEWHERE = {
     "tools/check-program": ["check-live", "check-manual", "check-preview", "check-readme",
-                            "check-tools", "faults"],
+                            "faults"],
     ".ci/run": ["check-program"], "test_dev_clones": ["release"],
+    "test_dev_scripts": ["check-tools"],
     "test_dev_documents": ["make-pages", "make-picture"],
     "the toolchain": ["prove", "slow-proofs"], "by hand": ["plant", "install-test-tools"]}
 
