@@ -42,6 +42,7 @@ from developing.pes import (  # noqa: E402
     encode_pts)
 from developing.stl import (  # noqa: E402
     DOUBLE_HEIGHT, END_BOX, START_BOX, make_box_line, make_gsi_block, make_subtitle_blocks)
+from subtitles.common.command_line import ToolParser, parse_number, run  # noqa: E402
 from subtitles.common.program import find_built_program  # noqa: E402
 from subtitles.common.times import FRAMES_A_SECOND, FRAMES_OF_A_DAY, TICKS  # noqa: E402
 from subtitles.formats.stl import NEW_LINE, TTI  # noqa: E402
@@ -249,13 +250,22 @@ def record(pes: str, ts: str, size: int = 0) -> None:
         file.write(group + filling[len(group):])
 
 
-def main() -> None:
-    if len(sys.argv) != 5 or sys.argv[1] not in EVERY or not sys.argv[2].isdecimal():
-        sys.exit(__doc__)
-    if not SHOWN < int(sys.argv[2]) <= FRAMES_OF_A_DAY:
-        sys.exit(f"inputs.py: COUNT is {SHOWN + 1} to {FRAMES_OF_A_DAY}")
-    make(find_built_program(), sys.argv[1], int(sys.argv[2]), sys.argv[3], sys.argv[4])
+def parse_count(text: str) -> int:
+    """Parse the number of frames or subtitles."""
+    return parse_number(text, SHOWN + 1, FRAMES_OF_A_DAY,
+                        f"number of frames: give {SHOWN + 1} to {FRAMES_OF_A_DAY}")
+
+
+def main(argv: list[str]) -> int:
+    parser = ToolParser(__doc__)
+    parser.add_argument("kind", metavar="KIND", choices=EVERY)
+    parser.add_argument("count", metavar="COUNT", type=parse_count)
+    parser.add_argument("stl", metavar="STL")
+    parser.add_argument("pes", metavar="PES")
+    args = parser.parse_args(argv)
+    make(find_built_program(), args.kind, args.count, args.stl, args.pes)
+    return 0
 
 
 if __name__ == "__main__":
-    main()
+    run(main)

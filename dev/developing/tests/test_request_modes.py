@@ -255,6 +255,9 @@ WRONG_USAGE: dict[str, list[list[str]]] = {
     "slow-proofs": [[]], "make-examples": [[], ["a", "b"]], "check-tools": [["--jobs", "0"]],
     "edits": [["--release", "--tests"], ["--applies", "name"]],
     "check-every-place": [["--count", "x"], ["--recordings", "x"]], "faults": [["-v", "none"]],
+    "../.ci/run": [["--anew", "sub_check"]], "../bench/run": [["a", "b", "c"]],
+    "../bench/count": [["none"], ["-p"]],
+    "../bench/inputs.py": [[], ["none", "99", "a", "b"], ["day", "75", "a", "b"]],
 }
 WRONG_FILES: dict[str, list[list[str]]] = {
     "air": [["judge", "schedule", "segments", "-o", "out"]],
@@ -343,7 +346,7 @@ class WrongArguments(Case):
     def test_refuses_wrong_arguments(self) -> None:
         self.addCleanup(os.chdir, os.getcwd())
         os.chdir(self.folder)
-        for name in list_tool_names():
+        for name in sorted({*list_tool_names(), *WRONG_USAGE}):
             usage = [*WRONG_USAGE.get(name, []), ["--colour"], ["---"]]
             for words, status in [*((words, 64) for words in usage),
                                   *((words, 2) for words in WRONG_FILES.get(name, []))]:
@@ -352,7 +355,8 @@ class WrongArguments(Case):
                     self.tool(name, *words)
                 self.check_no_internal_error(process.told)
                 self.must(f"{name} {' '.join(words)}", process.status == status and not process.out
-                          and len(process.told) == 1 and process.told[0].startswith(name + ": ")
+                          and len(process.told) == 1
+                          and process.told[0].startswith(os.path.basename(name) + ": ")
                           and sorted(os.listdir(self.folder)) == before, process)
 
     def test_writes_one_unjudged_entry_into_each_requested_file(self) -> None:
