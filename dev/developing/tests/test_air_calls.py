@@ -246,9 +246,9 @@ class Calls(Feeds):
 
     def test_refuses_a_folder_that_another_call_writes(self) -> None:
         self.write("schedule", b"")
-        for name, folder, line in (("recorder", "segments", "record segments"),
-                                   ("air", "out", "judge schedule segments -o out")):
+        for name, folder, line in (("recorder", "segments", "air record segments"),
+                                   ("state", "out", "air judge schedule segments -o out"),
+                                   ("state", "out", "qc --watch segments -o out")):
             with hold_lock(self.path(folder), name, ""):
-                process = self.tool("air", *line.split())
-            self.must(name, process.status == 2 and process.told[0].startswith("air: another "),
-                      process)
+                process = self.tool(*line.split())
+            self.must(line, process.status == 2 and ": another " in process.told[0], process)

@@ -12,8 +12,8 @@ import subprocess
 import sys
 import time
 
-from ..cli.single import handle_signals, hold_lock, now as date
-from ..cli.state import log_bug, write_state
+from ..cli.single import handle_signals, now as date
+from ..cli.state import lock_service, log_bug, write_state
 from ..common.command_line import INPUT, Stop, format_error, print_stdout
 from ..common.files import TEMPORARY_PREFIX, open_result
 from ..judging.status import NOT_JUDGED
@@ -265,7 +265,7 @@ def judge_schedule(args: argparse.Namespace, program_name: str) -> int:
     """Judge a schedule's programmes, once or until a signal arrives. Return the exit status."""
     handle_signals()
     os.makedirs(args.work or args.out, exist_ok=True)
-    with log_bug(args.out), hold_lock(args.out, "air", "another run of air is judging into "):
+    with log_bug(args.out), lock_service(args.out):
         for name in os.listdir(args.out):
             if name.startswith(TEMPORARY_PREFIX):  # left by a killed run
                 os.unlink(os.path.join(args.out, name))

@@ -33,7 +33,7 @@ from .main import write_unjudged
 from .single import (
     FilesInUse, PairOptions, SIGNALS, handle_signals, ignore_signals, judge_and_report, lock_folder,
     lock_pair, refuse_file, refuse_folder_files, refuse_pair_files, remove_results)
-from .state import log_bug
+from .state import lock_service, log_bug
 
 
 # A forked process judges each pair, since loading the modules takes ten times as long as judging a
@@ -476,7 +476,7 @@ def refuse_folders(args: argparse.Namespace) -> None:
 def watch(args: argparse.Namespace, program_name: str) -> int:
     """Watch a folder until a signal is received. Return status 2."""
     refuse_folders(args)
-    with log_bug(args.out):
+    with log_bug(args.out), lock_service(args.out):
         return judge_arriving_pairs(args, program_name)
 
 

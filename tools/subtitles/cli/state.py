@@ -11,7 +11,7 @@ from typing import Any, Iterator
 from ..common.command_line import BUG, classify_error, escape_hidden, format_error
 from ..common.files import open_result
 from ..request.commands import STATE
-from .single import now as date
+from .single import hold_lock, now as date
 
 BUG_LOG = "bug.log"  # message of the last bug that ended a service, in the folder that it writes to
 BUG_SECONDS = 86_400.0  # seconds after a bug during which the alarm `bug` is active
@@ -73,6 +73,12 @@ def has_recent_bug(folder: str, now: float) -> bool:
     with contextlib.suppress(OSError):
         return os.stat(os.path.join(folder, BUG_LOG)).st_mtime > now - BUG_SECONDS
     return False
+
+
+def lock_service(folder: str) -> contextlib.AbstractContextManager[None]:
+    """Lock a folder of results until the `with` block ends, since only one service may write the
+    state file. No pair has the lock's name."""
+    return hold_lock(folder, "state", "another service is judging into ")
 
 
 @contextlib.contextmanager
