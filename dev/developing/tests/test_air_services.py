@@ -3,16 +3,20 @@ from __future__ import annotations
 
 import configparser
 import os
+import re
 import shlex
-import shutil
+from typing import Callable
 
 from subtitles.common.program import TOP
-from .bench import Case, get_tool_path
+from .bench import EXAMPLES, Case, get_tool_path
+from .booted import BootedSystem
+from .programmes import wait_until
 
 MANUAL = os.path.join(TOP, "docs", "manual")
 RECORD_UNIT, JUDGE_UNIT = "subttx-air-record@.service", "subttx-air-judge@.service"
 WATCH_UNIT = "subttx-watch@.service"
 STATE = "/var/lib/"  # the folder of StateDirectory=
+FOLDER_IN = "/srv/in"  # the watched folder
 # For each unit, the argument that precedes the folder to which its command writes.
 UNITS = {RECORD_UNIT: "record", JUDGE_UNIT: "-o", WATCH_UNIT: "-o"}
 
@@ -85,15 +89,92 @@ class Units(Case):
             # Wrong options do not become right by a restart. All else may, also a missing folder.
             self.check(f"{name}: never again", unit["Service"]["RestartPreventExitStatus"], "64")
 
-    def test_systemd_accepts_the_units(self) -> None:
-        if not shutil.which("systemd-analyze"):
-            self.skipTest("units, since there is no systemd-analyze")
+
+class RunningUnits(Case):
+    """The installed units, started by systemd."""
+
+    def setUp(self) -> None:
+        super().setUp()
+        self.system = BootedSystem(self.folder)
+        self.addCleanup(self.system.stop)
+        self.system.call(get_tool_path("install"), "--systemd", "-p", self.bench.program,
+                         "/usr/local")
+        self.system.call("systemd-sysusers")
+        for name, words in (("one", ""), ("wrong", " --no-such-option")):
+            text = self.conf.replace("NAME", name)
+            for option in ("RECORD", "JUDGE", "WATCH"):
+                text = re.sub(f"^{option}=.*", rf"\g<0>{words}", text, flags=re.M)
+            self.put(f"/etc/subttx/{name}.conf", text)
+            self.put(f"/etc/subttx/{name}.schedule", "")
+        self.system.call("mkdir", FOLDER_IN)
+
+    @property
+    def conf(self) -> str:
+        """Return the example of a channel's settings, with a receiver that never ends."""
+        with open(os.path.join(MANUAL, "subttx-channel.conf"), encoding="utf-8") as file:
+            text = re.sub("^RECEIVER=.*", f"RECEIVER=tail -c +1 -f {EXAMPLES}/recording.ts",
+                          file.read(), flags=re.M)
+        return re.sub("^IN=.*", f"IN={FOLDER_IN}", text, flags=re.M)
+
+    def put(self, path: str, text: str) -> None:
+        """Write a file in the booted system."""
+        self.system.call("sh", "-c", 'mkdir -p "${1%/*}" && printf %s "$2" >"$1"', "sh", path, text)
+
+    def show(self, unit: str, *names: str) -> list[str]:
+        """Return properties of a unit."""
+        return [self.system.call("systemctl", "show", "--value", "-p", name, unit)
+                for name in names]
+
+    def has_failed(self, unit: str, restarts: int) -> bool:
+        """Return whether systemd gave up a unit, or restarted it `restarts` times."""
+        state, count = self.show(unit, "ActiveState", "NRestarts")
+        return state == "failed" or int(count) >= restarts
+
+    def put_pair(self) -> None:
+        """Put a pair into the watched folder."""
+        for ending, source in (("stl", "story.stl"), ("ts", "recording.ts"), ("done", None)):
+            self.system.call("cp", f"{EXAMPLES}/{source}" if source else os.devnull,
+                             f"{FOLDER_IN}/film.{ending}")
+
+    def read_file(self, name: str) -> str:
+        return self.system.call("sh", "-c", f"cat {STATE}subttx/one/{name}")
+
+    def test_each_unit_does_its_work_and_stops_without_failure(self) -> None:
+        """`systemd-analyze verify` accepts a unit whose command is empty."""
+        units = {name: name.replace("@", "@one") for name in UNITS}
+        work: dict[str, Callable[[], object]] = {
+            RECORD_UNIT: lambda: "G" in self.read_file("segments/*.ts"),
+            JUDGE_UNIT: lambda: re.search('"segments": [1-9]',
+                                          self.read_file("results/state.json")),
+            WATCH_UNIT: lambda: '"verdict": "relative"' in self.read_file("results/film.json")}
+        for name, is_done in work.items():
+            if name == WATCH_UNIT:
+                self.put_pair()
+            self.system.call("systemctl", "start", units[name])
+            wait_until(lambda: is_done() or self.has_failed(units[name], 3))
+            self.must(f"{name}: its work", is_done(), self.show(
+                units[name], "ActiveState", "SubState", "Result", "ExecMainStatus"))
+            self.system.call("systemctl", "stop", units[name])
+            self.check(f"{name}: stopped", self.show(units[name], "ActiveState", "Result"),
+                       ["inactive", "success"])
+
+    def test_wrong_options_end_each_unit(self) -> None:
         for name in UNITS:
-            with open(os.path.join(MANUAL, name), encoding="utf-8") as file:
-                text = file.read()
-            text = text.replace("subttx-air ", get_tool_path("air") + " ").replace(
-                "subttx-qc ", get_tool_path("qc") + " ").replace("User=subttx", "User=root")
-            unit_name = name.replace("@", "@news")
-            process = self.call(["systemd-analyze", "verify", self.write(unit_name, text.encode())])
-            own = [line for line in process.told if unit_name in line]
-            self.must(name, process.status == 0 and not own, process)
+            unit = name.replace("@", "@wrong")
+            self.system.call("systemctl", "start", unit)
+            wait_until(lambda: self.has_failed(unit, 3))
+            self.check(f"{name}: state, status, restarts", self.show(
+                unit, "ActiveState", "ExecMainStatus", "NRestarts"), ["failed", "64", "0"])
+
+    def test_the_watch_unit_waits_for_its_folder(self) -> None:
+        unit = WATCH_UNIT.replace("@", "@one")
+        self.put(f"/etc/systemd/system/{unit}.d/test.conf", "[Service]\nRestartSec=100ms\n")
+        self.system.call("systemctl", "daemon-reload")
+        self.system.call("rmdir", FOLDER_IN)
+        self.system.call("systemctl", "start", unit)
+        wait_until(lambda: self.has_failed(unit, 10))
+        self.system.call("mkdir", FOLDER_IN)
+        self.put_pair()
+        wait_until(lambda: self.read_file("results/film.json") or self.has_failed(unit, 99))
+        self.check("state, result", self.show(unit, "ActiveState", "Result"),
+                   ["active", "success"])
