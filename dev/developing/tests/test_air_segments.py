@@ -293,12 +293,22 @@ class Recorded(AirCase):
     def test_deletes_what_it_wrote_before_the_clock_was_set_back(self) -> None:
         self.put_segments(3800, 3820)  # segments of another run
         item = self.recorder(kept=10_000)
-        with mock.patch.object(recorder, "print_stderr", lambda _: None):
+        with mock.patch.object(recorder, "print_stderr", lambda _: None), \
+                mock.patch.object(time, "monotonic", lambda: DAY):
             for at in (-20, -10, *range(3600, 3700, 10), *range(0, 80, 10)):
                 self.now = DAY + at
                 item.take(b".")
         self.check("begins", [int(begin) for begin, _ in self.read_segments()],
                    [-20, -10, *range(0, 80, 10), 3800, 3810])
+
+    def test_deletes_segments_from_the_future_an_hour_after_its_start(self) -> None:
+        self.put_segments(9000, 9030)  # written by a recorder that was killed while ahead
+        item = self.recorder(kept=10_000)
+        # The time, and the number of segments from the future
+        for at, count in ((0, 3), (3600, 3), (3610, 1), (3620, 0)):
+            self.now = DAY + at
+            item.take(b".")
+            self.check(f"at {at}", sum(begin >= 9000 for begin, _ in self.read_segments()), count)
 
     def test_raises_any_other_error(self) -> None:
         with mock.patch.object(os, "write", side_effect=OSError(errno.EIO, "disk")):

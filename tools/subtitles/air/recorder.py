@@ -27,6 +27,9 @@ MAX_STEP_BACK = 10.0  # seconds by which the names of segments may be ahead of t
 # Errors of a full disk or quota, and seconds without room after which the note is written. On a
 # disk that several recorders share, there is room for a moment after each of them deletes segments.
 FULL_ERRORS, NOTE_SECONDS = (errno.ENOSPC, errno.EDQUOT), 60.0
+# Seconds after the start during which segments from the future are kept, since the clock may be
+# behind. After that, the clock of an earlier run is assumed to have been ahead.
+FUTURE_SECONDS = 3600.0
 
 
 class Limits(NamedTuple):
@@ -47,8 +50,9 @@ class Recorder:
         self.is_new = True  # data before the next segment may be missing
         self.segment_begin = self.latest = 0.0  # segment start, and the time in the segment's name
         self.latest_wrong = 0.0  # the latest time in a name before the clock was set back
-        # Monotonic times when enough disk space was free, and when bytes were lost.
-        self.last_room, self.last_loss = time.monotonic(), -math.inf
+        # Monotonic times of the start, when enough disk space was free, and when bytes were lost.
+        self.start = self.last_room = time.monotonic()
+        self.last_loss = -math.inf
 
     def take(self, data: bytes) -> None:
         """Write bytes. If the disk is full, delete the oldest segments. Bytes that still can't be
@@ -103,11 +107,13 @@ class Recorder:
             self.file = None
 
     def make_room(self, now: float) -> None:
-        """Delete segments that this recorder wrote before the clock was set back, segments after
-        their retention time, and the oldest if too little disk space is free."""
+        """Delete segments from the future that were written before the clock was set back, segments
+        after their retention time, and the oldest if too little disk space is free."""
+        is_certain = time.monotonic() > self.start + FUTURE_SECONDS
         for _ in range(MAX_DELETED_SEGMENTS):
             before = now - self.limits.kept if self.has_room() else math.inf
-            if not self.delete_first(now + MAX_STEP_BACK, self.latest_wrong + 0.001):
+            wrong = math.inf if is_certain else self.latest_wrong + 0.001
+            if not self.delete_first(now + MAX_STEP_BACK, wrong):
                 self.delete_first(-math.inf, before)
         self.has_room()
         self.write_note()
