@@ -5,6 +5,7 @@ from __future__ import annotations
 import contextlib
 import functools
 import os
+import time
 from typing import NamedTuple
 
 from ..cli.batch import DONE_SUFFIX
@@ -53,7 +54,7 @@ def read_delivery(request: Request, now: float, settled: float) -> Delivery:
         return Delivery(f"{stl} does not exist")
     except (OSError, Stop) as reason:
         return Delivery(format_error(reason))
-    if info.st_mtime > now - settled:
+    if info.st_mtime > now - settled and time.monotonic() < find_first_look(stl, version) + settled:
         fault = f"{stl} was changed at {date(info.st_mtime)} and may still be incomplete"
     elif info.st_size < content.announced_size:
         blocks = [(size - GSI) // TTI for size in (content.announced_size, info.st_size)]
@@ -64,6 +65,13 @@ def read_delivery(request: Request, now: float, settled: float) -> Delivery:
     with contextlib.suppress(OSError):
         fault = "" if os.stat(marker).st_mtime_ns >= info.st_mtime_ns else fault
     return Delivery(fault, content, version)
+
+
+@functools.lru_cache(maxsize=10_000)
+def find_first_look(_path: str, _version: tuple[int, int]) -> float:
+    """Return the monotonic time of the first look at a version of a file. If the file was written
+    while a clock was ahead, its mtime does not show for how long it has not changed."""
+    return time.monotonic()
 
 
 @functools.lru_cache(maxsize=10_000)
