@@ -519,6 +519,14 @@ CLOCK_CASES = {
     "a name of another zone": (-3540, 60, (False, 50)),
     "a file that no clock could name": (1e8, 60, (False, 50))}
 
+# The begin and the last write of segments, whether the clock is wrong at the last write, and the
+# number of segments that are used.
+LONG_SEGMENTS = {
+    "half an hour each": ([(0, 1800), (1800, 3600), (3600, 4800)], False, 3),
+    "after a pause": ([(0, 1800), (2000, 3600), (3600, 4800)], False, 3),
+    "named in another zone": ([(0, 3610), (10, 3620), (20, 3630)], True, 0),
+    "one copied without its time": ([(0, 10), (10, 3600), (20, 30), (30, 40)], True, 3)}
+
 
 class State(AirCase):
     def test_raises_each_alarm(self) -> None:
@@ -555,6 +563,16 @@ class State(AirCase):
             monitor = Monitor()
             monitor.look(self.path("segments"), self.path("out"), DAY + 60, "/bin/true", [], DAY)
             self.check(name, (monitor.is_clock_wrong, monitor.last_byte - DAY), expected)
+
+    def test_uses_long_segments_that_do_not_overlap(self) -> None:
+        for name, (times, is_wrong, count) in LONG_SEGMENTS.items():
+            self.delete_all("segments")
+            for begin, end in times:
+                self.put_segment(begin, end)
+            monitor, now = Monitor(), DAY + max(end for _, end in times)
+            monitor.look(self.path("segments"), self.path("out"), now, "/bin/true", [], DAY)
+            self.check(name, (monitor.is_clock_wrong, len(find_segments(
+                self.path("segments"), DAY, now))), (is_wrong, count))
 
     def test_reports_segments_that_are_deleted_early(self) -> None:
         for is_new, needed, expected in ((False, 5, True), (False, 10, False), (True, 5, False)):

@@ -22,10 +22,11 @@ NOTE = "no-room.txt"  # file that `record` writes if deleting segments does not 
 BLOCK = 1 << 19  # bytes per read, and bytes to compare on each side of a segment boundary
 MAX_STALL = 60.0  # seconds for which a recorder may stall without losing data
 # A segment is not used if its last write was more than a minute before the time in its name, or so
-# long after it that the name may be in another time zone.
+# long after it that the name may be in another time zone: it then overlaps the segments next to it.
 CLOCK_TOLERANCE, MAX_SEGMENT_SECONDS = 60.0, 900.0
 PACKET_SIZES, SYNC = (188, 192, 204), 0x47
 MIN_SYNC_PACKETS = 5  # number of sync bytes needed to find where TS packets begin
+TimedName = tuple[float, str]  # start time and name of a segment
 Sides = tuple[list[int], list[int]]  # counters or PCR, before and after a segment boundary
 
 
@@ -63,7 +64,7 @@ def parse_segment_begin(name: str) -> float | None:
     return None
 
 
-def list_segment_names(folder: str) -> list[tuple[float, str]]:
+def list_segment_names(folder: str) -> list[TimedName]:
     """Return the start times and the names of the segments in a folder, earliest first."""
     timed_names = ((parse_segment_begin(name), name) for name in os.listdir(folder))
     return sorted((begin, name) for begin, name in timed_names if begin is not None)
@@ -79,27 +80,32 @@ def find_deleted(folder: str) -> float:
 
 def find_segments(folder: str, begin: float, end: float) -> list[Segment]:
     """Return the segments that overlap a period, earliest first. Skip empty segments, which a power
-    failure may leave."""
+    failure may leave, and segments whose names are wrong."""
     names = list_segment_names(folder)
-    first = max(bisect.bisect_left(names, (begin, "")) - 1, 0)  # the segment before may overlap too
-    found = (stat_segment(folder, name, time) for time, name in names[first:] if time < end)
-    return [segment for segment in found if segment and segment.size and segment.end >= begin]
+    # The segment before may overlap too. One more on each side shows whether a name is right.
+    first = max(bisect.bisect_left(names, (begin, "")) - 2, 0)
+    last = bisect.bisect_left(names, (end, "")) + 1
+    return [segment for segment, _, is_right in compare_times(folder, names[first:last])
+            if is_right and segment.size and segment.begin < end and segment.end >= begin]
 
 
-def stat_segment(folder: str, name: str, begin: float) -> Segment | None:
-    """Return the segment in the file `name`, which begins at the time `begin`. Return `None` if the
-    file was deleted, or if its last write contradicts its name."""
-    path = os.path.join(folder, name)
-    with contextlib.suppress(FileNotFoundError):
-        info = os.stat(path)
-        if has_right_time(begin, info.st_mtime):
-            return Segment(path, info.st_size, begin, max(begin, info.st_mtime), name.endswith(NEW))
-    return None
-
-
-def has_right_time(begin: float, end: float) -> bool:
-    """Return whether a segment may begin at the time in its name and end at its last write."""
-    return -CLOCK_TOLERANCE <= end - begin <= MAX_SEGMENT_SECONDS
+def compare_times(folder: str, names: Iterable[TimedName]) -> list[tuple[Segment, float, bool]]:
+    """Return each segment that was not deleted, its last write, and whether its name agrees with
+    that. The name of a long segment agrees if the segment does not overlap the ones next to it."""
+    found = list[tuple[Segment, float]]()
+    for begin, name in names:
+        path = os.path.join(folder, name)
+        with contextlib.suppress(FileNotFoundError):
+            info = os.stat(path)
+            end = max(begin, info.st_mtime)
+            found.append((Segment(path, info.st_size, begin, end, name.endswith(NEW)),
+                          info.st_mtime))
+    before = [-math.inf, *(write for _, write in found)]
+    after = [*(segment.begin for segment, _ in found[1:]), math.inf]
+    return [(segment, write, segment.begin <= write + CLOCK_TOLERANCE and (
+                write <= segment.begin + MAX_SEGMENT_SECONDS
+                or max(last_write - segment.begin, write - next_begin) <= CLOCK_TOLERANCE))
+            for (segment, write), last_write, next_begin in zip(found, before, after)]
 
 
 class UnbrokenRun(NamedTuple):

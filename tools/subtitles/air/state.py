@@ -3,21 +3,20 @@ from __future__ import annotations
 
 import contextlib
 import os
-from typing import Any, Collection, Iterable, Sequence
+from typing import Any, Collection, Sequence
 
 from ..cli.single import now as date
 from ..cli.state import State
 from ..common.command_line import Stop
 from ..formats.teletext import Page, page_name
 from ..stream.survey import survey
-from .segments import CLOCK_TOLERANCE, NEW, NOTE, has_right_time, list_segment_names
+from .segments import CLOCK_TOLERANCE, NEW, NOTE, TimedName, compare_times, list_segment_names
 
 SILENCE = 10.0  # seconds without data after which the alarm `silence` is active
 PAGE_SILENCE = 600.0  # seconds without a page header after which the alarm for the page is active
 SEARCH_EVERY = 60.0  # seconds between searches for page headers
 NEWEST_SEGMENTS = 3  # number of segments that show when the last byte was written
 MAX_ZONE_SECONDS = 86_400.0  # seconds by which a time zone can't change the name of a segment
-TimedName = tuple[float, str]  # start time and name of a segment
 
 
 class Monitor(State):
@@ -44,7 +43,8 @@ class Monitor(State):
         self.has_note = os.path.exists(os.path.join(segments, NOTE))
         self.is_deleted_early = self.oldest > needed and not names[0][1].endswith(NEW)
         past_names = [item for item in names if item[0] <= now + CLOCK_TOLERANCE]
-        self.look_at_clock(segments, {*names[-NEWEST_SEGMENTS:], *past_names[-NEWEST_SEGMENTS:]})
+        self.look_at_clock(segments, sorted({*names[-NEWEST_SEGMENTS:],
+                                             *past_names[-NEWEST_SEGMENTS:]}))
         headers = {page: min(self.headers.get(page, 0.0), now) for page in pages}
         is_new = headers.keys() != self.headers.keys()
         self.headers = headers
@@ -53,19 +53,17 @@ class Monitor(State):
             first = now - (PAGE_SILENCE if is_new else 2 * SEARCH_EVERY)
             self.search(segments, [item for item in past_names if item[0] >= first], program)
 
-    def look_at_clock(self, folder: str, names: Iterable[TimedName]) -> None:
+    def look_at_clock(self, folder: str, names: Sequence[TimedName]) -> None:
         """Compare the names and the last writes of segments with the clock. A segment from the
         future is no sign that the feed is alive. A file that no clock could name is ignored."""
         self.last_byte, self.is_clock_wrong = 0.0, False
-        for begin, name in names:
-            with contextlib.suppress(OSError):
-                end = os.stat(os.path.join(folder, name)).st_mtime
-                if begin > end + MAX_ZONE_SECONDS:
+        with contextlib.suppress(OSError):
+            for segment, write, is_right in compare_times(folder, names):
+                if segment.begin > write + MAX_ZONE_SECONDS:
                     continue
-                self.is_clock_wrong |= max(begin, end) > self.now + CLOCK_TOLERANCE or \
-                    not has_right_time(begin, end)
-                if end <= self.now + 1:
-                    self.last_byte = max(self.last_byte, min(end, self.now))
+                self.is_clock_wrong |= not is_right or segment.end > self.now + CLOCK_TOLERANCE
+                if write <= self.now + 1:
+                    self.last_byte = max(self.last_byte, min(write, self.now))
 
     def search(self, folder: str, names: Sequence[TimedName], program: str) -> None:
         """Search segments for headers of the scheduled pages, from the last segment back."""
