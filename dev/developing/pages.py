@@ -179,7 +179,7 @@ def make_tool_parts(text: str, name: str = "qc") -> dict[str, str]:
         words = value[1:-1].replace(",", ", ")
         return format_option(name, "WORD", f"{to_sentence(means)} WORD is {words}.")
 
-    prose = re.split(r"\n(?:positional arguments|options):\n", text)[0]
+    prose = re.split(r"\n(?:positional arguments|options|optional arguments):\n", text)[0]
     paragraphs = [part for part in prose.strip().split("\n\n") if part.strip()]
     calls = [part for part in paragraphs if part.startswith("    ")]
     status = [part for part in paragraphs[1:] if part.startswith("Status ")]
