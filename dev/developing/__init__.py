@@ -13,9 +13,9 @@ signs         the symbols of definitions and their meanings
 promises      the index in docs/CLAUSES.md: promises, and the clauses that state them
 cited         names and numbers in the documents
 shown         the command lines of documents, with the output shown there
-edits         mutants of the crates
-bugs          mutants of the tools: small mistakes, made in the syntax tree
-planting      runs of tests on mutants of the tools
+edits         faulty programs: edits of the crates
+bugs          planted bugs: small mistakes of the tools, made in the syntax tree
+planting      runs of tests on planted bugs
 looks         checks of reports in a browser
 compiled      the tools, compiled once for many test calls
 pes           Teletext packets and their PES packets

@@ -1,4 +1,4 @@
-"""Make mutants of a module, each with one typical mistake."""
+"""Plant bugs in a module, one typical mistake each time."""
 from __future__ import annotations
 
 import ast
@@ -17,7 +17,7 @@ Changes = Iterator[tuple[str, ast.AST]]
 
 
 class Bug(NamedTuple):
-    """A mutant: its line, function and kind, the old and the new code, and the complete module."""
+    """A planted bug: its line, function and kind, the old and new code, and the complete module."""
 
     line: int
     function: str
@@ -160,7 +160,7 @@ SKIPPED = ("annotation", "returns", "decorator_list", "exc", "cause", "msg")
 
 def find_places(node: ast.AST, names: str = "", inside: str = MODULE
                 ) -> Iterator[tuple[ast.AST, str, int | None, str]]:
-    """Yield the places in a syntax tree whose nodes a mutant may change.
+    """Yield the places in a syntax tree whose nodes a planted bug may change.
 
     Each place is a parent node, the name of its field, the index if the field is a list, and the
     name of the function. Type hints, raised exceptions and constant text are skipped.
@@ -214,7 +214,7 @@ def shorten(node: ast.AST) -> str:
 
 
 def make_bugs(text: str, interval: int = 1, at: int = 0) -> Iterator[Bug]:
-    """Yield every `interval`th mutant from index `at` on, unless its code equals the original's."""
+    """Yield every `interval`th bug from index `at` on, unless its code equals the original's."""
     tree = ast.parse(text)
     seen = [compile_comparable(ast.unparse(tree)), None]
     count = 0

@@ -1,4 +1,4 @@
-"""Find the tests that call a function, and check whether a test fails on a mutant.
+"""Find the tests that call a function, and check whether a test fails on a planted bug.
 
 The tests are loaded once, in a copy of the repository. Each test run is a forked process.
 """
@@ -196,7 +196,7 @@ def run_forked(serve: Callable[[], Answer], seconds: float) -> Answer:
             os.setsid()
             os.dup2(os.open(os.devnull, os.O_WRONLY), 2)
             os.write(writing, json.dumps(serve()).encode())
-        except BaseException as error:  # the mutant cannot be loaded
+        except BaseException as error:  # the module with the bug cannot be loaded
             os.write(writing, json.dumps(
                 {"passed": 0, "failed": "loading", "by": type(error).__name__}).encode())
         finally:
@@ -246,7 +246,7 @@ class Worker:
 
 def serve(folder: str, program: str) -> None:
     """Run tasks from standard input: trace a test, or run tests with changed files."""
-    sys.dont_write_bytecode = False  # store bytecode of the copy, but not of mutants
+    sys.dont_write_bytecode = False  # store bytecode of the copy, but not of modules with a bug
     copy = LoadedCopy(folder, program)
     sys.dont_write_bytecode = True
     out = os.fdopen(os.dup(1), "w")
