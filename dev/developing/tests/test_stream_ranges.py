@@ -1,21 +1,22 @@
-"""Test --from and --to, and the files written for printed commands."""
+"""Test --from and --to, files written for printed commands, and PTS that go back."""
 from __future__ import annotations
 
 import os
 
 from developing.stl import make_gsi_block, make_subtitle_blocks, make_tti_block
-from subtitles.common.times import FRAMES_OF_A_DAY, FrameRange, TICKS, format_frame
+from subtitles.common.times import CLOCK, FRAMES_OF_A_DAY, FrameRange, TICKS, format_frame
 from subtitles.formats.stl import Subtitle, SubtitleFile, decode_subtitles
 from subtitles.judging.pair import find_adjoining_end, find_nearest_pauses
 from subtitles.judging.subtitles import HOUR, advise_on_title
 from subtitles.judging.transmissions import read_subtitles
-from subtitles.stream.packets import Packets
+from subtitles.stream.packets import PES, PacketRun, Packets
+from subtitles.stream.ranges import find_step_back
 from .bench import Case
 from .judged import ProgrammeCase, judge_files, list_shown_files
 from .parts import make_answer, make_example_request, make_part
 from .transmissions import (
     CLOSING, HEADER, join_pes_packets, make_delay, write_programme, make_numbered_row,
-    schedule_pages, write_subtitle_file)
+    schedule_pages, subtitle_times, write_subtitle_file)
 
 MINUTE = 1500  # frames in a minute
 EARLIER, LATER = ("--to", "00:01:00:00"), ("--from", "00:01:00:00")
@@ -267,3 +268,35 @@ class AdjoiningSubtitles(ProgrammeCase):
                                        (4, 300, [150, 350]), (0, 300, [])):
             self.assertEqual(find_nearest_pauses(subtitles[:count], frame), expected,
                              (count, frame))
+
+
+class StepsBack(Case):
+    def test_finds_a_pts_before_that_of_the_previous_pes_packet(self) -> None:
+        # Runs of PES packets: the frame of the first, their number and the step in frames
+        rows: dict[str, tuple[list[tuple[int, int, int]], tuple[int, int, int] | None]] = {
+            "forward": ([(10, 3, 1), (13, 2, 5)], None),
+            "to the same frame": ([(10, 3, 1), (12, 1, 0)], None),
+            "by two frames": ([(10, 3, 1), (10, 2, 1)], (3, 12, 2 * TICKS)),
+            "within a run": ([(12, 2, 1), (20, 3, -4)], (3, 20, 4 * TICKS)),
+            "before the programme": ([(5, 2, 1), (4, 1, 0), (30, 1, 0)], None),
+            "from its last frame": ([(39, 1, 0), (20, 1, 0)], (1, 39, 19 * TICKS)),
+            "after the programme": ([(40, 1, 0), (20, 1, 0)], None),
+            "past the largest PTS": ([(CLOCK // TICKS + 1, 1, 0), (2, 1, 0)], None)}
+        for name, (runs, expected) in rows.items():
+            packets, number = Packets(PES), 0
+            for frame, length, step in runs:
+                packets.runs.append(PacketRun(number, length, TICKS * frame % CLOCK, TICKS * step,
+                                              "", ""))
+                number += length
+            self.check(name, find_step_back(packets, 10, 40, 0), expected)
+
+    def test_the_sentence_names_it_first(self) -> None:
+        stl = write_programme(self, subtitle_times(9))
+        for by, words in ((150, "the PTS go back by 5 s 10 frames in PES packet 10, after "
+                           "00:00:11:10; 2 of 9 subtitles"), (5, "")):
+            sent = make_delay(-by, 300 * TICKS - 1)(schedule_pages(self, stl))
+            judged_pair = judge_files(self, stl, self.write("one.pes", join_pes_packets(sent)),
+                                      "--origin", "0", "--every", "25")
+            sentence = judged_pair.result["sentence"]
+            self.must(f"{by}", words in sentence and "never sent" not in sentence and
+                      ("go back" in sentence) == bool(words), sentence)

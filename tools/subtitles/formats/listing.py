@@ -32,7 +32,7 @@ FAULT_LINE = re.compile(
 EMPTY = 60  # there is no PES packet
 DISPLAY = 13  # fault of the display standard code (DSC)
 EMPTY_TIME, OUT_OF_ORDER = 21, 56  # empty or decreasing times in a subtitle file
-OFF_FRAME, GAP = 61, 73
+OFF_FRAME, ORDER, GAP = 61, 62, 73
 # Number of the fault in frames next to refused subtitles, where the expected page is unknown
 UNDECIDED = 78
 STL_FAULTS = {*range(10, 26), *range(50, 58)}

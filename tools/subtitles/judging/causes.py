@@ -39,6 +39,7 @@ NOT_READABLE = "some of the PES packets at that time cannot be read"
 NEXT_PROGRAMME = "the page sent at the last TCO is the next programme's"
 COMPLETED_LATER = "as expected only after another PES packet of the same frame"
 OMITTED_BY_REPEAT = "missing after a header with C4 (erase page) clear"
+SENT_AND_PTS_GO_BACK = "sent at another time, since the PTS go back"
 EVEN_PARITY = "a byte of its rows has even parity"
 
 
@@ -526,6 +527,15 @@ class Causes:
             return False
         sent_frame = self.expected.begins[place] - (cause.frames or 0)
         return self.timeline.find_page_number_at(sent_frame) + 1 < len(self.timeline.frames)
+
+    def doubt_unsent(self, sent_places: Collection[int]) -> None:
+        """Replace the cause `NEVER` of subtitles whose text was sent at times that the PTS do not
+        show, since they go back."""
+        for place in sent_places:
+            cause = self.cause_by_index.get(place)
+            if cause and cause.name == NEVER:
+                self.cause_by_index[place] = cause._replace(name=UNKNOWN_CAUSE,
+                                                            details=SENT_AND_PTS_GO_BACK)
 
     def find_owners(self, first: int, last: int) -> Owners:
         """Return which subtitles the wrong pages from frame `first` to `last` concern. A wrong page

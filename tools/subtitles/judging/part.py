@@ -14,14 +14,17 @@ from ..common.times import (
     FRAMES_OF_A_DAY, FrameRange, Span, Spans, TICKS, compute_frame, format_frame, pts_of,
     subtract_pts_within)
 from ..formats.listing import (
-    BEGIN, CONTENT, EMPTY, END, FAULTS_WITH_CAUSE, FaultLine, SKIPPED_PACKETS, STL_FAULTS,
+    BEGIN, CONTENT, EMPTY, END, FAULTS_WITH_CAUSE, FaultLine, ORDER, SKIPPED_PACKETS, STL_FAULTS,
     UNDECIDED, parse_place_time)
+from ..formats.layout import encode_text_characters
 from ..formats.stl import Subtitle, SubtitleFile
+from ..formats.teletext import OPTION_BY_WORD
 from ..recording.recording import Recording
 from ..request.commands import Listener, MAX_LIST_LINES, OutputNames
 from ..request.request import Request, Unclear
 from ..stream.gaps import LossPlace
 from ..stream.packets import NO_RANGE, PES, PTSPair, Packets, Range, parse_headers
+from ..stream.ranges import StepBack, find_step_back
 from ..stream.receiver import Timeline, decode_pages_around, read_national_option
 from .causes import Cause, CauseDescriber, Causes
 from .check import CheckOutput, FaultEnd, NO_END
@@ -252,6 +255,16 @@ class Part:
                   if self.severity.is_error(number)}
         return self.check_output.summarize(self.is_recording_read, waived)
 
+    @functools.cached_property
+    def step_back(self) -> StepBack | None:
+        """Return where the PTS go back during the programme, if they do and the part is refused
+        because of the times of its PES packets."""
+        if self.alignment is None or not self.error_numbers & {ORDER, *FAULTS_WITH_CAUSE}:
+            return None
+        inside = self.pes if self.request.breaks else None
+        return find_step_back(self.packets, self.alignment.begin, self.alignment.end,
+                              self.alignment.origin, inside)
+
     @property
     def is_refused(self) -> bool:
         """Return whether the part has any faults, whatever their severity."""
@@ -371,6 +384,12 @@ def find_part_causes(part: Part) -> Causes | None:
     causes.classify_faults(part.check_output)
     if alignment.clock.delay_frames and not request.within:
         causes.classify_by_delay(alignment.clock.delay_frames)
+    if part.step_back:
+        option, sent = OPTION_BY_WORD[request.option], {item.letters
+                                                        for item in part.packets.changes}
+        causes.doubt_unsent([
+            place for place, subtitle in enumerate(causes.expected.subtitles)
+            if encode_text_characters(subtitle.text, option) in sent])
     return causes if causes.list_causes() else None
 
 

@@ -11,8 +11,8 @@ from ..common.command_line import counted, format_frame_range, was
 from ..common.times import format_frame
 from ..formats.listing import (
     BEGIN, CONTENT, CONTROL, END, ENDS_READING, FaultLine, GAP, INCOMPLETE, LOSSES, LOST_PACKETS,
-    NamedFault, NEVER_SENT, NOT_SHOWN, OFF_FRAME, PARITY, PICTURES_LEFT, STL_FAULTS, UNDECIDED,
-    FAULTS_WITH_CAUSE)
+    NamedFault, NEVER_SENT, NOT_SHOWN, OFF_FRAME, ORDER, PARITY, PICTURES_LEFT, STL_FAULTS,
+    UNDECIDED, FAULTS_WITH_CAUSE)
 from ..formats.stl import Subtitle
 from ..formats.teletext import OPTION_BY_WORD
 from .causes import (
@@ -244,6 +244,7 @@ class Facts(NamedTuple):
     has_picture: bool = False  # whether the operator may use --start
     unchecked: Sequence[str] = ()  # kinds of the checks that were not made everywhere
     mismatch: str = ""  # says that the subtitle file is probably another programme's
+    step_back: str = ""  # says where the PTS go back
 
 
 def write_sentence(facts: Facts) -> str:
@@ -262,8 +263,10 @@ def write_verdict(facts: Facts) -> str:
     """Return the sentence about a verdict on a pair that was judged."""
     if facts.word == REFUSED:
         waived = f"; waived: {describe_counts(facts.waived)}" if facts.waived else ""
-        mismatch = f"{facts.mismatch}; " if facts.mismatch else ""
-        return f"Refused: {mismatch}{describe_faults(facts)}{waived}."
+        faults = describe_faults(facts)
+        step_back = "" if facts.step_back in faults else facts.step_back
+        reasons = filter(None, [facts.mismatch, step_back, faults])
+        return f"Refused: {'; '.join(reasons)}{waived}."
     if facts.word == RELATIVE:
         return f"{describe_relative_match(facts)} was not checked: " \
             f"{advise_on_clock(facts.has_picture)}."
@@ -387,6 +390,8 @@ def describe_first_fault(facts: Facts) -> str:
             else ""
         return f"{facts.lost[0]}{more}{describe_other_faults(facts)}; record that part again"
     words = FAULT_CLAUSES.get(fault.number, fault.name)
+    if fault.number == ORDER and facts.step_back:
+        facts, words, fault = facts._replace(hint=""), facts.step_back, fault._replace(pes=None)
     block = f"{facts.of_block} (block {fault.block})," if facts.of_block else f"block {fault.block}"
     place = fault.time or (f"PES packet {fault.pes}" if fault.pes is not None else
                            block if fault.block is not None else "")

@@ -330,7 +330,8 @@ class Verdict:
             named=self.worst_named_fault.text if self.worst_named_fault else "",
             is_file=self.request.recording is None, within=self.request.within,
             parts=len(self.parts), delay=self.delay_of_all, has_picture=self.has_picture,
-            unchecked=self.unchecked_kinds, mismatch=self.mismatch)
+            unchecked=self.unchecked_kinds, mismatch=self.mismatch,
+            step_back=refused.step_back.describe() if refused and refused.step_back else "")
         if refused and self.valid_subtitles:
             facts = self.add_transmission_facts(facts, self.valid_subtitles)
         elif refused and not self.worst_named_fault:

@@ -6,7 +6,9 @@ import itertools
 from typing import Iterator, NamedTuple
 
 from ..common.command_line import counted
-from ..common.times import FRAMES_OF_A_DAY, TICKS, compute_frame, format_frame, pts_of, wrap_pts
+from ..common.times import (
+    FRAMES_OF_A_DAY, TICKS, compute_frame, describe_duration, format_frame, pts_of, subtract_pts,
+    wrap_pts)
 from .packets import BLANK, CLOSED, HEADER, OPEN, PacketRun, Packets, PageChange, Range
 
 
@@ -84,6 +86,41 @@ def find_range(packets: Packets, begin: int, end: int, origin: int, every: int |
     begin_frame = compute_frame(next(packets.pts((first, ending.number))), origin, within)
     return PacketRange((first, ending.number), read, begin_frame, ending.last, first_packet_frame,
                        ending.has_end, is_over)
+
+
+class StepBack(NamedTuple):
+    """A PES packet whose PTS is before that of the previous PES packet: its number, the previous
+    frame, and the difference in ticks."""
+
+    number: int
+    frame: int
+    ticks: int
+
+    def describe(self) -> str:
+        frames, ticks = divmod(self.ticks, TICKS)
+        duration = " ".join([describe_duration(frames)] * (frames > 0)
+                            + [counted(ticks, "tick")] * (ticks > 0))
+        return f"the PTS go back by {duration} in PES packet {self.number}, after " \
+            f"{format_frame(self.frame)}"
+
+
+def find_step_back(packets: Packets, begin: int, end: int, origin: int,
+                   inside: Range | None = None) -> StepBack | None:
+    """Return the first PES packet that goes back from a frame between `begin` and `end`. Search
+    only the PES packets in the range `inside`, if it is given."""
+    last: int | None = None
+    for run in packets.list_runs_between(*inside) if inside else packets.runs:
+        if run.pts is None or run.last is None:
+            continue
+        steps = [(run.first, last, run.pts)] if last is not None else []
+        if run.length > 1 and subtract_pts(0, run.step) < 0:
+            steps.append((run.first + 1, run.pts, wrap_pts(run.pts + run.step)))
+        for number, before, pts in steps:
+            frame = compute_frame(before, origin)
+            if subtract_pts(before, pts) < 0 and begin <= frame < end:
+                return StepBack(number, frame, subtract_pts(pts, before))
+        last = run.last
+    return None
 
 
 class PageTexts:
