@@ -86,6 +86,9 @@ class Comparison(Case):
         self.check("all read", self.compare([items[0]], first, "1 pes"), None)
         self.check("refused", self.compare(items, first, "refused 45 Lost pes 4"), 5)
         self.check("the rest", self.compare(items[2:], second, "1 pes"), None)
+        self.check("refused, and not read on", self.compare(
+            [*items[:1], Item(4, None, 32), Item(5, None, 32)], first, "refused 32 Length pes 4"),
+                   None)
         self.check("the end", self.compare(items[2:], second, "refused 31 Start pes 6",
                                            end=End(6, {31})), None)
         wrong: dict[str, tuple[Any, ...]] = {

@@ -5,7 +5,7 @@ import subprocess
 from typing import Collection, Iterable, Iterator, NamedTuple, Sequence
 
 from ..common.command_line import ProgramInterrupted
-from ..formats.listing import LOST_PACKETS
+from ..formats.listing import ENDS_READING, LOST_PACKETS
 from .packets import Packets, Range
 
 # `packets` ends at the first PES packet that it refuses, and is called again for the next one.
@@ -69,8 +69,8 @@ def list_items(packets: Packets, inside: Range) -> Iterator[Item]:
 
 def compare_lines(items: Iterator[Item], lines: Iterable[str], end: End) -> int | None:
     """Compare `items` with the lines of a call of `packets`. Return the number of the next PES
-    packet if the call ended at a refused one, and `None` at the end. `end` follows the items. Raise
-    `SurveyMismatch` if they differ."""
+    packet if the call ended at a refused one after which `check` reads on, and otherwise `None`.
+    `end` follows the items. Raise `SurveyMismatch` if they differ."""
     count, words = 0, list[str]()
     for line in lines:
         words = line.split()
@@ -88,7 +88,7 @@ def compare_lines(items: Iterator[Item], lines: Iterable[str], end: End) -> int 
         check_item(next(items, None), None)
         return None
     check_item(next(items, None), refused)
-    return refused.number + 1
+    return None if refused.fault in ENDS_READING else refused.number + 1
 
 
 def check_item(printed: Item | None, proved: Item | None) -> None:
