@@ -10,7 +10,7 @@ from unittest import mock
 
 from subtitles.air import judge as judging
 from subtitles.air.check import Outcome
-from subtitles.air.decision import Window, is_given_up
+from subtitles.air.decision import Window, give_up, is_given_up
 from subtitles.air.segments import Segment, find_segments, make_segment_name
 from subtitles.air.state import Monitor
 from subtitles.common.files import open_result
@@ -306,6 +306,16 @@ class JudgedProgrammes(AirCase):
             later = [Segment("", 1, LAST + begin, LAST + end) for begin, end in spans]
             self.check(name, is_given_up(window, later, deleted, clock), expected)
 
+    def test_a_programme_that_is_given_up_is_not_judged(self) -> None:
+        for last, kind, reason in (
+                (outcome(NAME, "not judged", "no cue agrees"), "undecided", "no cue agrees"),
+                (Outcome(None, "no room"), "resource", "no room"),
+                (outcome(NAME, "refused", "refused never sent"), "input",
+                 "a line nearby has no subtitle file: refused never sent")):
+            result = give_up(NAME, last).result or {}
+            self.check(reason, [result[key] for key in (
+                "verdict", "not_judged_kind", "reason")], ["not judged", kind, reason])
+
     def test_a_clock_that_is_three_days_ahead_ends_a_line_only_after_an_hour(self) -> None:
         os.unlink(self.path("one.stl"))
         judge, minute = self.make_judge(FakeChecker({})), 0
@@ -323,7 +333,9 @@ class JudgedProgrammes(AirCase):
         self.put_segments(0, 900)
         self.write_schedule("2026-12-01T08:10:00Z one.stl", "2026-12-01T08:10:50Z two.stl")
         two = self.read("two.stl")
-        for name, data in (("the same subtitles", self.read("one.stl")), ("others", two)):
+        for name, data, early in (("the same subtitles", self.read("one.stl"), "not judged"),
+                                  ("others", two, "not judged"),
+                                  ("others, never sent so far", two, "refused")):
             self.delete_all("out")
             os.unlink(self.path("two.stl"))
             sent, checker = SentProgramme(640, 700), FakeChecker({})
@@ -331,7 +343,7 @@ class JudgedProgrammes(AirCase):
             checker.sent = {NAME: sent}
             checker.check = lambda item, stretch: real(item, stretch) if (  # type: ignore
                 item.begin + item.late >= DAY + sent.begin) else outcome(
-                    item.name, "not judged", "it began later")
+                    item.name, early, "it began later")._replace(is_finished=False)
             judge = self.make_judge(checker)
             for now in range(600, 5000, 50):
                 judge.look(DAY + now)

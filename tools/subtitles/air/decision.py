@@ -6,6 +6,7 @@ from typing import NamedTuple, Sequence
 
 from ..cli.single import now as date
 from ..common.command_line import INPUT
+from ..judging.status import NOT_JUDGED
 from ..results.files import make_unjudged
 from .check import Outcome
 from .segments import Segment, UnbrokenRun
@@ -81,6 +82,17 @@ def is_given_up(window: Window, later: Sequence[Segment], deleted: float, clock:
     is_deleted = deleted > window.begin + window.late
     end = window.last + MAX_WAIT
     return is_deleted or clock > end or count_seconds(later, end - HOUR) >= HOUR
+
+
+def give_up(name: str, outcome: Outcome) -> Outcome:
+    """Return the last outcome of a programme that is given up. A refusal is not certain if another
+    line's missing subtitle file limits the margins."""
+    if outcome.verdict == NOT_JUDGED:
+        return outcome
+    reason, kind = outcome.reason, outcome.error_kind
+    if outcome.result:
+        reason, kind = f"a line nearby has no subtitle file: {reason}", INPUT
+    return Outcome(make_unjudged(name, reason, kind), reason)
 
 
 def count_seconds(segments: Sequence[Segment], begin: float) -> float:

@@ -16,13 +16,12 @@ from ..cli.single import handle_signals, now as date
 from ..cli.state import lock_service, log_bug, write_state
 from ..common.command_line import INPUT, Stop, format_error, print_stdout
 from ..common.files import TEMPORARY_PREFIX, open_result
-from ..judging.status import NOT_JUDGED
 from ..request.commands import CommandPaths
-from ..results.files import ENDING, encode_result, make_unjudged
+from ..results.files import ENDING, encode_result
 from .check import Checker, Outcome
 from .decision import (
     HOUR, MIN_RECORDED_LATER, RECORDER_LAG, Window, compute_retry_delay, count_seconds, decide,
-    describe_gaps, is_given_up)
+    describe_gaps, give_up, is_given_up)
 from .delivery import Delivery, read_delivery
 from .schedule import Programme, Schedule, read_schedule
 from .segments import find_deleted, find_segments, find_unbroken_runs
@@ -167,11 +166,11 @@ class Judge:
     def count_doubtful_seconds(self, outcome: Outcome, window: Window, is_limited: bool
                                ) -> float | None:
         """Return the seconds until the next attempt to judge a programme, or `None` after a system
-        error. Return 0 if the result is certain: neither a wrong clock nor another line's missing
-        subtitle file (`is_limited`) can be the reason why the programme is not judged."""
+        error. Return 0 if the result is certain: neither a wrong clock nor margins that another
+        line's missing subtitle file limits (`is_limited`) can be the reason for it."""
         if outcome.result is None:
             return None
-        if is_limited and outcome.verdict == NOT_JUDGED:
+        if is_limited and not (outcome.is_final or outcome.is_file_refused):
             return OTHER_FILE_SECONDS
         if outcome.is_recorded:
             return 0.0
@@ -189,9 +188,7 @@ class Judge:
             self.publish(programme.name, outcome)
         elif is_given_up(window, find_segments(self.segments, window.last, math.inf),
                          find_deleted(self.segments), self.find_certain_time()):
-            result = outcome.result or make_unjudged(
-                programme.name, outcome.reason, outcome.error_kind)
-            self.publish(programme.name, outcome._replace(result=result))
+            self.publish(programme.name, give_up(programme.name, outcome))
         else:
             self.retry(programme, now, start_time, outcome.reason, seconds)
 
