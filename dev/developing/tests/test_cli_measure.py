@@ -13,8 +13,9 @@ from typing import Any
 
 from developing.pes import make_packet
 from subtitles.cli.measure import (
-    Delays, MAX_EXAMPLES, format_name_lines, measure_delays, measure_recording, propose_keeping,
-    find_sent_options, propose_lateness, propose_option, remove_unusual)
+    Delays, LateCue, MAX_EXAMPLES, find_sent_options, format_name_lines, list_separate_cues,
+    measure_delays, measure_recording, propose_keeping, propose_lateness, propose_option,
+    remove_unusual)
 from subtitles.common.command_line import MAX_WITHIN
 from subtitles.common.times import TICKS
 from subtitles.formats.stl import Subtitle
@@ -157,12 +158,30 @@ class Cues(Case):
             "one of 21": (({0: 20, 5: 1},), {0: 20}),
             "two of 40, each alone": (({0: 38, 4: 1, 5: 1},), {0: 38, 4: 1}),
             "a tail": (({0: 45, 1: 4, 2: 1},), {0: 45, 1: 4})})
-        late = Delays(Counter({0: 89, 5: 1}), Counter({0: 90}), [], [], [(5, "x begins late")])
+        late = Delays(Counter({0: 89, 5: 1}), Counter({0: 90}), [], [],
+                      [LateCue(5, "x begins late")])
         result = [*propose_lateness([late], [])]
         self.check("one of 90", ("".join(item.text for item in result), result[0].lines[1]), (
             "", "later than usual, which check refuses with this --within: x begins late"))
         late = late._replace(begins=Counter({0: 19, 5: 1}))
-        self.check("one of 20", next(propose_lateness([late], [])).lines[1:], [])
+        self.check("one of 20", next(propose_lateness([late], [])).lines[1:], [
+            "1 of 20 in-cues is at least 5 frames late, the others at most 0; they may be wrong: x "
+            "begins late"])
+
+    def test_names_the_cues_whose_delays_are_separate(self) -> None:
+        rows: dict[str, tuple[dict[int, int], str]] = {
+            "none": ({}, ""), "all": ({5: 9}, ""), "next to each other": ({0: 5, 1: 2, 2: 1}, ""),
+            "one": ({0: 13, 2: 1}, "1 of 14 in-cues is at least 2 frames late, the others at most "
+                    "0; they may be wrong: 2 late"),
+            "half of them": ({0: 6, 1: 1, 8: 7}, "7 of 14 in-cues are at least 8 frames late, the "
+                             "others at most 1; they may be wrong: 8 late; 8 late; 8 late; 8 late; "
+                             "8 late, and 2 more"),
+            "two groups": ({0: 2, 4: 1, 20: 1}, "2 of 4 in-cues are at least 4 frames late, the "
+                           "others at most 0; they may be wrong: 20 late; 4 late")}
+        for name, (delays, line) in rows.items():
+            late = [LateCue(delay, f"{delay} late") for delay in Counter(delays).elements()]
+            self.check(name, list_separate_cues(Counter(delays), "in-cues", late),
+                       [line] if line else [])
 
     def test_proposes_the_option_of_all_headers(self) -> None:
         both = "english or polish, by the region to which the receiver is set (chosen: "

@@ -113,6 +113,14 @@ def propose_pace(paces: Sequence[Pace]) -> Finding:
         f"{counted(max(pace.interval for pace in paces), 'frame')} apart"])
 
 
+class LateCue(NamedTuple):
+    """A late cue: its delay in frames, its description, and whether it is an in-cue."""
+
+    delay: int
+    text: str
+    is_in_cue: bool = True
+
+
 class Delays(NamedTuple):
     """The delays of cues."""
 
@@ -120,14 +128,14 @@ class Delays(NamedTuple):
     ends: collections.Counter[int]  # number of out-cues with each delay
     early: list[str]  # descriptions of early cues
     unseen: list[str]  # subtitles that were never sent
-    late: Sequence[tuple[int, str]] = ()  # delays and descriptions of late cues
+    late: Sequence[LateCue] = ()
 
 
 def measure_delays(stl: str, subtitles: Sequence[Subtitle], held: Timeline,
                    option: NationalOption) -> Delays:
     """Measure the delays of a file's cues from the decoded text. If a subtitle ends when the next
     begins, do not count its out-cue."""
-    late = list[tuple[int, str]]()
+    late = list[LateCue]()
     delays = Delays(collections.Counter(), collections.Counter(), [], [], late)
     rows = [(item, encode_text_characters(item.text, option)) for item in subtitles]
     for place, (subtitle, letters) in enumerate(rows):
@@ -143,25 +151,25 @@ def measure_delays(stl: str, subtitles: Sequence[Subtitle], held: Timeline,
             delays.unseen.append(name)
             continue
         if is_new and first > held.first:
-            add_delays(delays.begins, delays.early, late, first - subtitle.begin, f"{name} begins")
+            add_delays(delays, late, first - subtitle.begin, f"{name} begins", True)
         if after is None or after.begin > subtitle.end:
             last = find_text_end(held, subtitle, letters, first,
                                  FRAMES_OF_A_DAY if after is None else after.begin)
             if last < held.last:
-                add_delays(delays.ends, delays.early, late, last + 1 - subtitle.end, f"{name} ends")
+                add_delays(delays, late, last + 1 - subtitle.end, f"{name} ends", False)
     return delays
 
 
-def add_delays(counts: collections.Counter[int], early: list[str], late: list[tuple[int, str]],
-               delay: int, name: str) -> None:
-    """Count the delay of a cue in `counts`. If the delay is negative, describe the cue in `early`
-    instead. If it is positive, add it to `late` too."""
+def add_delays(delays: Delays, late: list[LateCue], delay: int, name: str,
+               is_in_cue: bool) -> None:
+    """Count the delay of a cue. If the delay is negative, describe the cue as early instead. If it
+    is positive, add it to `late` too."""
     if delay < 0:
-        early.append(f"{name} {counted(-delay, 'frame')} early")
+        delays.early.append(f"{name} {counted(-delay, 'frame')} early")
         return
-    counts[delay] += 1
+    (delays.begins if is_in_cue else delays.ends)[delay] += 1
     if delay:
-        late.append((delay, f"{name} {counted(delay, 'frame')} late"))
+        late.append(LateCue(delay, f"{name} {counted(delay, 'frame')} late", is_in_cue))
 
 
 def remove_unusual(delays: collections.Counter[int]) -> collections.Counter[int]:
@@ -173,6 +181,21 @@ def remove_unusual(delays: collections.Counter[int]) -> collections.Counter[int]
             break
         del usual[delay]
     return usual
+
+
+def list_separate_cues(delays: collections.Counter[int], name: str,
+                       late: Sequence[LateCue]) -> list[str]:
+    """Return a line that names the cues whose delays are separate from those of the other cues, by
+    two frames or more: they may be wrong, and --within would hide that."""
+    several = sorted(delays)
+    least, usual = next(((after, before) for before, after in zip(several, several[1:])
+                         if after > before + 1), (None, 0))
+    cues = sorted((cue for cue in late if least is not None and cue.delay >= least),
+                  key=lambda cue: -cue.delay)
+    return format_name_lines(
+        f"{len(cues)} of {sum(delays.values())} {name} {'is' if len(cues) == 1 else 'are'} at least "
+        f"{least} frames late, the others at most {usual}; they may be wrong",
+        [cue.text for cue in cues])
 
 
 def find_text_begin(held: Timeline, subtitle: Subtitle, letters: bytes, earlier: int) -> int | None:
@@ -219,8 +242,12 @@ def propose_lateness(several: Sequence[Delays], names_without_clock: Sequence[st
     lines += format_name_lines("text never sent", [
         name for item in several for name in item.unseen])
     longest = max([*begins, *ends, least])
+    late = [cue for item in several for cue in item.late]
     lines += format_name_lines("later than usual, which check refuses with this --within", [
-        words for item in several for delay, words in item.late if delay > longest])
+        cue.text for cue in late if cue.delay > longest])
+    for counts, name, is_in_cue in (begins, "in-cues", True), (ends, "out-cues", False):
+        lines += list_separate_cues(counts, name, [
+            cue for cue in late if cue.is_in_cue == is_in_cue and cue.delay <= longest])
     if longest > MAX_WITHIN:
         lines.append(f"within can be at most {MAX_WITHIN} frames")
     if not longest or longest > MAX_WITHIN or not (least or begins and ends):
