@@ -33,7 +33,8 @@ This package states no licence. Ask whoever gave it to you what you may do with 
 """
 # Python compiles the tools after installation; the bytecode is removed with the package.
 FOLDER = f"/usr/lib/{NAME}/tools/subtitles"
-PATTERNS = [f"'{unit.replace('@', '@*')}'" for unit in UNITS]
+# The patterns also match the units without `@` that sites copied from the manual of version 3.0.0.
+PATTERNS = [f"'{unit.replace('@', '*')}'" for unit in UNITS]
 # An upgrade does not restart the recorder, since a programme on air would have a gap.
 RESTARTED = " ".join(PATTERNS[1:])
 SCRIPTS = {

@@ -83,21 +83,29 @@ class BootedSystem:
 
     def is_running(self) -> bool:
         """Return whether systemd has started its target."""
-        return os.path.exists(os.path.join(self.folder, "pid")) and \
+        return bool(self.child) and \
             self.call("systemctl", "is-system-running") in ("running", "degraded")
 
-    def call(self, *command: str) -> str:
-        """Run a command in the booted system. Return what it prints on standard output."""
+    @property
+    def child(self) -> str:
+        """Return the process ID of systemd outside of its namespaces, or an empty string."""
         try:
             with open(os.path.join(self.folder, "pid"), encoding="ascii") as file:
                 parent = file.read().strip()
             with open(f"/proc/{parent}/task/{parent}/children", encoding="ascii") as file:
-                child = file.read().strip()
+                return file.read().strip()
         except OSError:
             return ""
+
+    def path(self, path: str) -> str:
+        """Return the path by which this test reads and writes a file of the booted system."""
+        return f"/proc/{self.child}/root{path}"
+
+    def call(self, *command: str) -> str:
+        """Run a command in the booted system. Return what it prints on standard output."""
         process = subprocess.run(
-            ["nsenter", "-t", child, "-m", "-p", "-u", "-i", "-n", "-C", "-r", "env", "-i", "-C",
-             "/", "PATH=/usr/local/bin:/usr/sbin:/usr/bin:/sbin:/bin", *command],
+            ["nsenter", "-t", self.child, "-m", "-p", "-u", "-i", "-n", "-C", "-r", "env", "-i",
+             "-C", "/", "PATH=/usr/local/bin:/usr/sbin:/usr/bin:/sbin:/bin", *command],
             stdin=subprocess.DEVNULL, stdout=subprocess.PIPE, stderr=self.log, timeout=SECONDS,
             check=False)
         return process.stdout.decode(errors="replace").strip()

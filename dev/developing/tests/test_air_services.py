@@ -2,9 +2,12 @@
 from __future__ import annotations
 
 import configparser
+import glob
 import os
+import pathlib
 import re
 import shlex
+import shutil
 from typing import Callable
 
 from subtitles.common.program import TOP
@@ -17,6 +20,7 @@ RECORD_UNIT, JUDGE_UNIT = "subttx-air-record@.service", "subttx-air-judge@.servi
 WATCH_UNIT = "subttx-watch@.service"
 STATE = "/var/lib/"  # the folder of StateDirectory=
 FOLDER_IN = "/srv/in"  # the watched folder
+COPIED_UNIT = "subttx-air-judge.service"  # a unit that the manual of version 3.0.0 had
 # For each unit, the argument that precedes the folder to which its command writes.
 UNITS = {RECORD_UNIT: "record", JUDGE_UNIT: "-o", WATCH_UNIT: "-o"}
 
@@ -97,28 +101,28 @@ class RunningUnits(Case):
         super().setUp()
         self.system = BootedSystem(self.folder)
         self.addCleanup(self.system.stop)
-        self.system.call(get_tool_path("install"), "--systemd", "-p", self.bench.program,
-                         "/usr/local")
-        self.system.call("systemd-sysusers")
-        for name, words in (("one", ""), ("wrong", " --no-such-option")):
-            text = self.conf.replace("NAME", name)
-            for option in ("RECORD", "JUDGE", "WATCH"):
-                text = re.sub(f"^{option}=.*", rf"\g<0>{words}", text, flags=re.M)
-            self.put(f"/etc/subttx/{name}.conf", text)
-            self.put(f"/etc/subttx/{name}.schedule", "")
-        self.system.call("mkdir", FOLDER_IN)
-
-    @property
-    def conf(self) -> str:
-        """Return the example of a channel's settings, with a receiver that never ends."""
         with open(os.path.join(MANUAL, "subttx-channel.conf"), encoding="utf-8") as file:
             text = re.sub("^RECEIVER=.*", f"RECEIVER=tail -c +1 -f {EXAMPLES}/recording.ts",
                           file.read(), flags=re.M)
-        return re.sub("^IN=.*", f"IN={FOLDER_IN}", text, flags=re.M)
+        text = re.sub("^IN=.*", f"IN={FOLDER_IN}", text, flags=re.M)
+        os.mkdir(self.system.path("/etc/subttx"))
+        os.mkdir(self.system.path(FOLDER_IN))
+        self.put("/etc/subttx/one.conf", text.replace("NAME", "one"))
+        self.put("/etc/subttx/wrong.conf", re.sub(
+            "^(RECORD|JUDGE|WATCH)=.*", r"\g<0> --no-such-option", text, flags=re.M))
+        self.put("/etc/subttx/one.schedule", "")
 
     def put(self, path: str, text: str) -> None:
         """Write a file in the booted system."""
-        self.system.call("sh", "-c", 'mkdir -p "${1%/*}" && printf %s "$2" >"$1"', "sh", path, text)
+        with open(self.system.path(path), "w", encoding="utf-8") as file:
+            file.write(text)
+
+    def install(self) -> None:
+        """Install the tools and units without a package, as the manual says."""
+        self.system.call(get_tool_path("install"), "--systemd", "-p", self.bench.program,
+                         "/usr/local")
+        self.system.call("systemd-sysusers")
+        self.system.call("systemctl", "daemon-reload")
 
     def show(self, unit: str, *names: str) -> list[str]:
         """Return properties of a unit."""
@@ -132,33 +136,38 @@ class RunningUnits(Case):
 
     def put_pair(self) -> None:
         """Put a pair into the watched folder."""
-        for ending, source in (("stl", "story.stl"), ("ts", "recording.ts"), ("done", None)):
-            self.system.call("cp", f"{EXAMPLES}/{source}" if source else os.devnull,
-                             f"{FOLDER_IN}/film.{ending}")
+        for ending, source in (("stl", "story.stl"), ("ts", "recording.ts")):
+            shutil.copy(os.path.join(EXAMPLES, source),
+                        self.system.path(f"{FOLDER_IN}/film.{ending}"))
+        self.put(f"{FOLDER_IN}/film.done", "")
 
-    def read_file(self, name: str) -> str:
-        return self.system.call("sh", "-c", f"cat {STATE}subttx/one/{name}")
+    def read_files(self, pattern: str) -> bytes:
+        """Return the contents of the files in the folder of the channel `one`."""
+        return b"".join(pathlib.Path(path).read_bytes() for path in glob.glob(
+            self.system.path(f"{STATE}subttx/one/{pattern}")))
 
     def test_each_unit_does_its_work_and_stops_without_failure(self) -> None:
         """`systemd-analyze verify` accepts a unit whose command is empty."""
-        units = {name: name.replace("@", "@one") for name in UNITS}
+        self.install()
         work: dict[str, Callable[[], object]] = {
-            RECORD_UNIT: lambda: "G" in self.read_file("segments/*.ts"),
-            JUDGE_UNIT: lambda: re.search('"segments": [1-9]',
-                                          self.read_file("results/state.json")),
-            WATCH_UNIT: lambda: '"verdict": "relative"' in self.read_file("results/film.json")}
+            RECORD_UNIT: lambda: self.read_files("segments/*.ts"),
+            JUDGE_UNIT: lambda: re.search(rb'"segments": [1-9]',
+                                          self.read_files("results/state.json")),
+            WATCH_UNIT: lambda: b'"verdict": "relative"' in self.read_files("results/film.json")}
         for name, is_done in work.items():
             if name == WATCH_UNIT:
                 self.put_pair()
-            self.system.call("systemctl", "start", units[name])
-            wait_until(lambda: is_done() or self.has_failed(units[name], 3))
+            unit = name.replace("@", "@one")
+            self.system.call("systemctl", "start", unit)
+            wait_until(lambda: is_done() or self.has_failed(unit, 3))
             self.must(f"{name}: its work", is_done(), self.show(
-                units[name], "ActiveState", "SubState", "Result", "ExecMainStatus"))
-            self.system.call("systemctl", "stop", units[name])
-            self.check(f"{name}: stopped", self.show(units[name], "ActiveState", "Result"),
+                unit, "ActiveState", "SubState", "Result", "ExecMainStatus"))
+            self.system.call("systemctl", "stop", unit)
+            self.check(f"{name}: stopped", self.show(unit, "ActiveState", "Result"),
                        ["inactive", "success"])
 
     def test_wrong_options_end_each_unit(self) -> None:
+        self.install()
         for name in UNITS:
             unit = name.replace("@", "@wrong")
             self.system.call("systemctl", "start", unit)
@@ -167,14 +176,46 @@ class RunningUnits(Case):
                 unit, "ActiveState", "ExecMainStatus", "NRestarts"), ["failed", "64", "0"])
 
     def test_the_watch_unit_waits_for_its_folder(self) -> None:
+        self.install()
         unit = WATCH_UNIT.replace("@", "@one")
+        os.mkdir(self.system.path(f"/etc/systemd/system/{unit}.d"))
         self.put(f"/etc/systemd/system/{unit}.d/test.conf", "[Service]\nRestartSec=100ms\n")
         self.system.call("systemctl", "daemon-reload")
-        self.system.call("rmdir", FOLDER_IN)
+        os.rmdir(self.system.path(FOLDER_IN))
         self.system.call("systemctl", "start", unit)
         wait_until(lambda: self.has_failed(unit, 10))
-        self.system.call("mkdir", FOLDER_IN)
+        os.mkdir(self.system.path(FOLDER_IN))
         self.put_pair()
-        wait_until(lambda: self.read_file("results/film.json") or self.has_failed(unit, 99))
+        wait_until(lambda: self.read_files("results/film.json") or self.has_failed(unit, 99))
         self.check("state, result", self.show(unit, "ActiveState", "Result"),
                    ["active", "success"])
+
+    def test_an_upgrade_restarts_no_recorder_and_a_purge_keeps_results(self) -> None:
+        if not shutil.which("dpkg-deb"):
+            self.skipTest("dev/dist --deb, since there is no dpkg-deb")
+        shutil.copy(self.path(self.tool("dist", "--deb", "made").out.decode().strip()),
+                    self.system.path("/srv/subttx.deb"))
+        install = "dpkg", "--no-triggers", "--force-depends", "-i", "/srv/subttx.deb"
+        self.system.call(*install)
+        self.put(f"/etc/systemd/system/{COPIED_UNIT}", "[Service]\nExecStart=sleep infinity\n")
+        self.system.call("systemctl", "daemon-reload")
+        units = [*(name.replace("@", "@one") for name in UNITS), COPIED_UNIT]
+        self.system.call("systemctl", "enable", "--now", *units)
+        wait_until(lambda: self.read_files("segments/*.ts"))
+        before = {unit: self.show(unit, "InvocationID") for unit in units}
+        self.system.call(*install)
+        self.check("restarted by an upgrade", [unit for unit in units if self.show(
+            unit, "InvocationID") != before[unit]], units[1:])
+        files = [path for path in self.system.call("dpkg", "-L", "subttx").splitlines()
+                 if not os.path.isdir(self.system.path(path))]
+        conf, folder = "/etc/subttx/one.conf", f"{STATE}subttx/one"
+        for option, kept in (("-r", [True, True]), ("-P", [False, True])):
+            self.system.call("dpkg", "--no-triggers", option, "subttx")
+            self.check(f"dpkg {option}: settings, segments", [
+                os.path.exists(self.system.path(conf)), bool(self.read_files("segments/*.ts"))],
+                kept)
+            self.check(f"dpkg {option}: running", [unit for unit in units if self.show(
+                unit, "ActiveState") != ["inactive"]], [])
+        left = [path for path in files if os.path.lexists(self.system.path(path))]
+        links = glob.glob(self.system.path("/etc/systemd/system/*.wants/*@one.service"))
+        self.check("files of the package, links", (len(files) > 99, left, links), (True, [], []))
