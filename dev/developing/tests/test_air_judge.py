@@ -250,22 +250,27 @@ class JudgedProgrammes(AirCase):
         self.check("then", self.verdicts(), {NAME: "relative"})
 
     def test_a_refused_file_may_be_corrected_until_the_margin_has_passed(self) -> None:
-        self.put_segments(0, 900)
-        refused = outcome(NAME, "refused", "refused 11 Format block 0")
-        assert refused.result
-        refused.result["inputs"]["recording"] = None
-        checker = FakeChecker({NAME: SentProgramme(600, 660)})
-        real, is_corrected = checker.check, False
-        checker.check = lambda *args: real(*args) if is_corrected else refused  # type: ignore
-        self.run_judge(checker, END + MARGIN_SECONDS + 10)
-        self.check("no result yet", self.verdicts(), {})
-        is_corrected = True
-        self.run_judge(checker, 800, self.now)
-        self.check("corrected", self.verdicts(), {NAME: "relative"})
-        self.delete_all("out")
-        is_corrected = False
-        self.run_judge(checker, 1500)
-        self.check("not corrected", (self.verdicts(), self.now - END), ({NAME: "refused"}, 70))
+        self.put_segments(0, 900, [(670, 680)])  # a gap after the programme
+        fault = {"file": "stl", "severity": "error"}
+        for name, changes in (("its recording was not read", {"inputs": {"recording": None}}),
+                              ("its recording was judged", {"faults": [fault]})):
+            refused = outcome(NAME, "refused", "refused 56 OutOfOrder block 2")
+            assert refused.result
+            refused.result.update(changes)
+            checker = FakeChecker({NAME: SentProgramme(600, 660)})
+            real, is_corrected = checker.check, False
+            checker.check = lambda *args: real(*args) if is_corrected else refused  # type: ignore
+            self.run_judge(checker, END + MARGIN_SECONDS + 10)
+            self.check(f"{name}: no result yet", self.verdicts(), {})
+            is_corrected = True
+            self.run_judge(checker, 800, self.now)
+            self.check(f"{name}: corrected", self.verdicts(), {NAME: "relative"})
+            self.delete_all("out")
+            is_corrected = False
+            self.run_judge(checker, 1500)
+            self.check(f"{name}: not corrected", (self.verdicts(), self.now - END),
+                       ({NAME: "refused"}, 70))
+            self.delete_all("out")
 
     def test_gives_up_a_programme_after_an_hour_of_later_feed(self) -> None:
         with mock.patch.object(judging, "MIN_RECORDED_LATER", 3600.0):

@@ -17,7 +17,7 @@ from ..common.command_line import RESOURCE, Stop, run_main, format_error, print_
 from ..common.files import make_temporary_name
 from ..common.times import FRAMES_A_SECOND, TICKS, pts_of, subtract_pts
 from ..judging.part import Part
-from ..judging.status import ACCEPTED, NOT_JUDGED, REFUSED, RELATIVE, WAIVED
+from ..judging.status import ACCEPTED, ERROR, NOT_JUDGED, REFUSED, RELATIVE, WAIVED
 from ..judging.verdict import Verdict
 from ..request.commands import CommandPaths
 from ..request.request import Unclear
@@ -61,9 +61,15 @@ class Outcome(NamedTuple):
             self.result["inputs"]["recording"] is None
 
     @property
+    def has_file_fault(self) -> bool:
+        """Return whether correcting the subtitle file may change a refusal."""
+        return self.is_file_refused or self.verdict == REFUSED and self.result is not None and any(
+            fault["file"] == "stl" and fault["severity"] == ERROR
+            for fault in self.result.get("faults", ()))
+
+    @property
     def is_final(self) -> bool:
-        """Return whether neither later segments nor a corrected subtitle file can change the
-        result."""
+        """Return whether later segments can't change the result."""
         return self.verdict in CORRECT_VERDICTS or (
             self.verdict not in (None, NOT_JUDGED) and self.is_finished
             and not self.is_file_refused)

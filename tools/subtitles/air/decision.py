@@ -59,10 +59,11 @@ def describe_gaps(window: Window, recorded_runs: Sequence[UnbrokenRun],
 def decide(name: str, outcomes: Sequence[Outcome], gaps: Sequence[str], has_passed: bool,
            failure: str = "") -> Outcome | None:
     """Return the outcome of a programme from the outcomes of all recorded parts that may contain
-    it. Return `None` if later segments may still change it. `has_passed` is true after the end of
-    the window. `failure` is the last system error."""
+    it. Return `None` if later segments or a corrected subtitle file may still change it.
+    `has_passed` is true after the end of the window. `failure` is the last system error."""
     failed = next((outcome for outcome in outcomes if outcome.result is None), None)
-    final_outcome = failed or next((outcome for outcome in outcomes if outcome.is_final), None)
+    final_outcome = failed or next((outcome for outcome in outcomes if outcome.is_final and (
+        has_passed or not outcome.has_file_fault)), None)
     if final_outcome or not has_passed:
         return final_outcome
     if outcomes and (not gaps or outcomes[0].is_file_refused):

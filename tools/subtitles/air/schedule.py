@@ -83,20 +83,19 @@ def read_schedule(path: str, options: argparse.Namespace, now: float,
 
 def parse_schedule(text: str, folder: str, options: argparse.Namespace) -> Schedule:
     """Parse the text of a schedule. File names in it are relative to `folder`."""
-    programmes, faults = dict[str, Programme](), list[str]()
-    lines = dict[str, int]()
+    programmes, faults = dict[str, tuple[int, Programme]](), list[str]()
     for line in split_lines(text):
         try:
             programme = parse_line(line, folder, options)
         except (Stop, OSError, ValueError) as reason:
             faults.append(f"line {line.number}: {format_error(reason)}")
             continue
-        if programme.name in programmes:
+        number, _ = programmes.setdefault(programme.name, (line.number, programme))
+        if number != line.number:
             faults.append(f"line {line.number} is not judged: its result would be named "
-                          f"{programme.name}, as that of line {lines[programme.name]}")
-        programmes.setdefault(programme.name, programme)
-        lines.setdefault(programme.name, line.number)
-    return Schedule(sorted(programmes.values(), key=lambda item: item.begin), faults, text)
+                          f"{programme.name}, as that of line {number}")
+    return Schedule(sorted((programme for _, programme in programmes.values()),
+                           key=lambda programme: programme.begin), faults, text)
 
 
 def parse_line(line: Line, folder: str, options: argparse.Namespace) -> Programme:
