@@ -6,7 +6,7 @@
 
 The programme has a subtitle every 4 seconds, which is shown for 60 frames. The first line of a
 table names its columns. `CHANGES` has the words of `sent`, separated by commas, and `ANSWERS` the
-columns that are compared. A table may have any other column, which a test reads itself.
+columns that are compared.
 """
 from __future__ import annotations
 
@@ -53,6 +53,12 @@ def leave_out_repeats(sent: SentPes, words: Match[str]) -> SentPes:
     return [item for item in sent if not begin < item[0] < begin + EACH * TICKS // 2]
 
 
+def send_another_text(sent: SentPes, words: Match[str]) -> SentPes:
+    """Send the page of another subtitle in the frames in which a subtitle is shown."""
+    begin, other = first_tick(words[1]), dict(sent)[first_tick(words[2])]
+    return [(pts, other if begin <= pts < begin + LASTS * TICKS else some) for pts, some in sent]
+
+
 def add_blank_page(sent: SentPes, words: Match[str]) -> SentPes:
     return [(sent[0][0] - int(words[1]) * TICKS, sent[-1][1]), *sent]
 
@@ -61,12 +67,14 @@ CHANGES: dict[str, Callable[[SentPes, Match[str]], SentPes]] = {
     r"as scheduled": lambda sent, _: sent,
     r"(\d+)(?:-(\d+))? (late|early) by (\d+)": delay,
     r"(\d+) not sent": leave_out,
+    r"(\d+) with the text of (\d+)": send_another_text,
     r"(\d+) not repeated": leave_out_repeats,
     r"from the second packet on": lambda sent, _: sent[1:],
     r"a blank page (\d+) frames before": add_blank_page}
 # Changes made last: breaks, which move all later PTS, and gap markers in place of lost packets.
 BREAK = re.compile(r"break ([+-]\d+) before (\d+)")
 MARKER = re.compile(r"marker before (\d+)")
+
 
 def describe_part(judged: JudgedPair, index: int) -> str:
     """Return the shift of a part's clock in frames, and its PES packets."""
@@ -76,9 +84,10 @@ def describe_part(judged: JudgedPair, index: int) -> str:
 
 ANSWERS: dict[str, Callable[[JudgedPair], str]] = {
     "verdict": lambda judged: judged.word,
+    "line": lambda judged: judged.result["line"],
     "last line": lambda judged: judged.said[-1],
     "sentence": lambda judged: judged.verdict.sentence,
-    "causes": lambda judged: "; ".join(re.sub(r'subtitle (\d+) at [\d:]+, ".*?": ', r"\1 ", line)
+    "causes": lambda judged: "; ".join(re.sub(r'subtitle (\d+).* at [\d:]+, ".*?": ', r"\1 ", line)
                                        for line in judged.lines("cause: ")),
     "ranges": lambda judged: " ".join(f"{begin}-{end}"
                                       for begin, end in judged.parts("from", "to")),
@@ -88,9 +97,18 @@ ANSWERS: dict[str, Callable[[JudgedPair], str]] = {
     "part 3": lambda judged: describe_part(judged, 2),
     "losses": lambda judged: "; ".join(f"{loss['gap_marker']} {loss['from']}"
                                        for loss in judged.result["losses"]),
+    "losses judged": lambda judged: " ".join(f"{loss['judged']}"
+                                             for loss in judged.result["losses"]),
+    "fault numbers": lambda judged: " ".join(
+        f"{number}" for number in sorted({fault["number"] for fault in judged.result["faults"]})),
+    "pace": lambda judged: " ".join(f"{pace}" for pace, in judged.parts("pace")),
     "complete after": lambda judged: " ".join(
         "-" if row["complete_after"] is None else str(row["complete_after"])
         for row in judged.result["subtitles"]),
+    "source": lambda judged: " ".join(clock["source"] for clock, in judged.parts("clock")),
+    "delay": lambda judged: " ".join(f"{clock['delay_frames']}"
+                                     for clock, in judged.parts("clock")),
+    "pes": lambda judged: " ".join(pes for pes, in judged.parts("pes")),
     "of all": lambda judged: " ".join(f"{judged.result['complete_after'][name]}" for name in (
         "minimum", "median", "maximum", "never_complete"))}
 
@@ -133,6 +151,7 @@ class StoryCase(ProgrammeCase):
             judged = self.tell(story["sent"], *words, *args)
             self.check_answers(" ".join([story["sent"], *words, *args]), judged, story)
 
-    def check_answers(self, name: str, judged: JudgedPair, story: Story) -> None:
-        for column in story.keys() & ANSWERS.keys():
+    def check_answers(self, name: str, judged: JudgedPair, story: Story, *others: str) -> None:
+        """Compare all columns of `ANSWERS`. `others` are the columns that the test reads itself."""
+        for column in story.keys() - {"sent", "options", *others}:
             self.check(f"{name}: {column}", ANSWERS[column](judged), story[column])

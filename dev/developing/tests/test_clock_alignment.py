@@ -116,16 +116,25 @@ def does_first_part_agree(origin: OriginEstimate) -> bool:
     return any(part.matches == part.total for part in origin.parts[:1])
 
 
-class EstimatedClocks(unittest.TestCase):
-    def test_uses_the_earliest_common_delay(self) -> None:
-        rows: list[tuple[dict[int, int], dict[int, int], int]] = [
-            ({}, {}, 0), ({0: 1}, {}, 0), ({0: 1, 2: 1}, {}, 0), ({3: 9}, {}, 3),
-            ({0: 5, 2: 10}, {}, 0), ({0: 4, 2: 10}, {}, 2), ({0: 2, 2: 4}, {}, 2),
-            ({0: 3, 2: 6}, {}, 0), ({0: 1, 2: 2}, {}, 2), ({0: 2, 2: 2}, {}, 0),
-            ({1: 20}, {0: 20}, 0), ({1: 20}, {0: 2, 1: 18}, 1), ({1: 90}, {0: 9}, 1),
-            ({1: 90}, {0: 10}, 0), ({0: 1, 1: 19}, {1: 20}, 1)]
-        for begins, ends, expected in rows:
-            self.assertEqual(find_usual_delay(begins, ends), expected, (begins, ends))
+class EstimatedClocks(Case):
+    def test_uses_the_shortest_usual_delay(self) -> None:
+        # The arguments are the numbers of in-cues and of out-cues with each delay in frames.
+        self.check_rows(find_usual_delay, {
+            "no cue": (({}, {}), 0),
+            "a cue on time": (({0: 1}, {}), 0),
+            "two delays, each of one cue": (({0: 1, 2: 1}, {}), 0),
+            "all cues are late": (({3: 9}, {}), 3),
+            "half as often as the most common delay": (({0: 5, 2: 10}, {}), 0),
+            "less than half as often": (({0: 4, 2: 10}, {}), 2),
+            "half as often, but only twice": (({0: 2, 2: 4}, {}), 2),
+            "half as often, three times": (({0: 3, 2: 6}, {}), 0),
+            "half as often, but only once": (({0: 1, 2: 2}, {}), 2),
+            "twice, and no delay is more common": (({0: 2, 2: 2}, {}), 0),
+            "out-cues are earlier than in-cues": (({1: 20}, {0: 20}), 0),
+            "few out-cues are earlier": (({1: 20}, {0: 2, 1: 18}), 1),
+            "less than a tenth of the cues are out-cues": (({1: 90}, {0: 9}), 1),
+            "a tenth of the cues are out-cues": (({1: 90}, {0: 10}), 0),
+            "one in-cue is earlier than all others": (({0: 1, 1: 19}, {1: 20}), 1)})
 
     def estimate_clock_delay(self, delays: Sequence[int], within: int,
                              shares: Lateness | None = None
@@ -143,27 +152,38 @@ class EstimatedClocks(unittest.TestCase):
         return fit.start - best.start, early
 
     def test_counts_cues_before_the_usual_clock(self) -> None:
-        for delays, within, expected in (
-                ([0] * 9, 2, (0, None)), ([2] * 9, 2, (0, None)), ([0, 1, 2] * 4, 2, (0, None)),
-                ([0, *[2] * 8], 2, (2, EarlyCues(1, 9, 2))),
-            ([0, *[1] * 19], 1, (1, EarlyCues(1, 20, 1))),
-                ([0, *[1] * 20], 1, (1, EarlyCues(1, 21, 1))),
-                ([0, 1, *[2] * 50], 2, (2, EarlyCues(2, 52, 2)))):
-            self.assertEqual(self.estimate_clock_delay(delays, within), expected, delays)
-        self.assertEqual([EarlyCues(count, of, 1).is_common_delay for count, of in (
-            (1, RARE_SHARE), (1, RARE_SHARE + 1), (2, 2 * RARE_SHARE), (2, 2 * RARE_SHARE + 1))],
-                         [True, False] * 2)
+        # The arguments are the delay of each in-cue and --within, both in frames.
+        self.check_rows(self.estimate_clock_delay, {
+            "all cues are on time": (([0] * 9, 2), (0, None)),
+            "all cues have the same delay": (([2] * 9, 2), (0, None)),
+            "three delays are common": (([0, 1, 2] * 4, 2), (0, None)),
+            "one of nine cues is early": (([0, *[2] * 8], 2), (2, EarlyCues(1, 9, 2))),
+            "one of 20 cues is early": (([0, *[1] * 19], 1), (1, EarlyCues(1, 20, 1))),
+            "one of 21 cues is early": (([0, *[1] * 20], 1), (1, EarlyCues(1, 21, 1))),
+            "two of 52 cues are early": (([0, 1, *[2] * 50], 2), (2, EarlyCues(2, 52, 2)))})
+
+    def test_many_early_cues_may_mean_that_the_others_are_late(self) -> None:
+        self.check_rows(lambda count, total: EarlyCues(count, total, 1).is_common_delay, {
+            "one of 20": ((1, RARE_SHARE), True), "one of 21": ((1, RARE_SHARE + 1), False),
+            "two of 40": ((2, 2 * RARE_SHARE), True),
+            "two of 41": ((2, 2 * RARE_SHARE + 1), False)})
 
     def test_finds_the_likeliest_clock_for_known_delays(self) -> None:
-        for delays, text, expected in (
-                ([0] * 9, "0:1/0:1", 0), ([0] * 9, "1:1/0:1", -1), ([0] * 9, "2:1/0:1", -2),
-                ([0] * 9, "0:1,2:9/0:1", -2), ([0] * 9, "0:1,1:1,2:1/0:1", 0),
-                ([0, 1, 2] * 4, "0:1,1:1,2:1/0:1", 0), ([0, *[2] * 8], "0:1/0:1", 2),
-                ([0, *[2] * 8], "0:1,2:8/0:1", 0), ([0, *[2] * 8], "1:1,2:8/0:1", 0),
-                ([0, *[1] * 19], "0:95,1:5/0:1", 1), ([0, *[1] * 19], "0:5,1:95/0:1", 0),
-                ([0, 0, 1, 2], "0:1,1:2,2:1/0:1", -0)):
-            by, early = self.estimate_clock_delay(delays, 2, parse_lateness(text))
-            self.assertEqual((by, early), (expected, None), (delays, text))
+        # The arguments are the delay of each in-cue in frames, and the value of --late.
+        self.check_rows(lambda delays, late: self.estimate_clock_delay(
+            delays, 2, parse_lateness(late)), {
+            "all on time": (([0] * 9, "0:1/0:1"), (0, None)),
+            "in-cues are a frame late": (([0] * 9, "1:1/0:1"), (-1, None)),
+            "in-cues are two frames late": (([0] * 9, "2:1/0:1"), (-2, None)),
+            "in-cues are mostly two frames late": (([0] * 9, "0:1,2:9/0:1"), (-2, None)),
+            "three delays are equally likely": (([0] * 9, "0:1,1:1,2:1/0:1"), (0, None)),
+            "three delays, as received": (([0, 1, 2] * 4, "0:1,1:1,2:1/0:1"), (0, None)),
+            "one is early": (([0, *[2] * 8], "0:1/0:1"), (2, None)),
+            "one is on time, as it may be": (([0, *[2] * 8], "0:1,2:8/0:1"), (0, None)),
+            "one is earlier than any delay": (([0, *[2] * 8], "1:1,2:8/0:1"), (0, None)),
+            "most are late, which is rare": (([0, *[1] * 19], "0:95,1:5/0:1"), (1, None)),
+            "most are late, which is usual": (([0, *[1] * 19], "0:5,1:95/0:1"), (0, None)),
+            "few cues": (([0, 0, 1, 2], "0:1,1:2,2:1/0:1"), (0, None))})
         self.assertLess(UNSEEN_SHARE, 1 / 400)
 
     def test_accepts_correct_inserters_or_reports_rare_cues_as_early(self) -> None:
@@ -201,7 +221,7 @@ class EstimatedClocks(unittest.TestCase):
             self.assertFalse(does_first_part_agree(item), (name, item.lines))
 
 
-class Drifts(unittest.TestCase):
+class Drifts(Case):
     def drift(self, delays: Sequence[int], texts: Sequence[bytes] = ()) -> Drift | None:
         """Return the drift found in texts that are sent every 100 frames with these delays."""
         texts = texts or [b"%d" % at for at in range(len(delays))]
@@ -210,19 +230,27 @@ class Drifts(unittest.TestCase):
 
     def test_finds_only_a_steady_drift(self) -> None:
         steady = [at // 3 for at in range(12)]
-        for delays, expected in (
-                (steady, Drift(0, 1100, 3)), ([-by for by in steady], Drift(0, 1100, -3)),
-                ([0, 0, 0, 0, 1, 1, 1, 1, 2, 2, 2, 2], Drift(0, 1100, 2)),
-                ([*range(0, 48, 4)], Drift(0, 1100, 44)), *(
-                    ([*steady[:5], off, *steady[6:]], Drift(0, 1100, 3)) for off in (30, -30)),
-                ([*steady[:5], 30, 40, *steady[7:]], None), ([0] * 12, None), ([7] * 12, None),
-                ([0] * 6 + [1] * 6, None), ([0] * 6 + [2] * 6, None), ([0] * 6 + [3] * 6, None),
-                ([0] * 9 + [3] * 3, None), ([0, 1, 2] * 4, None), ([0, 2] * 6, None),
-                ([0, 0, 2, 2, 0, 0, 2, 2, 0, 0, 2, 2], None),
-                ([2 * at for at in range(MIN_TEXTS)], Drift(0, 500, 10)),
-                ([2 * at for at in range(MIN_TEXTS - 1)], None), ([], None),
-                ([0] * 4 + [130] * 4 + [260] * 4, None)):
-            self.assertEqual(self.drift(delays), expected, delays)
+        self.check_rows(self.drift, {
+            "a frame later after three texts": ((steady,), Drift(0, 1100, 3)),
+            "a frame earlier after three texts": (([-by for by in steady],), Drift(0, 1100, -3)),
+            "a frame later after four texts": (([at // 4 for at in range(12)],),
+                                               Drift(0, 1100, 2)),
+            "four frames later after each text": (([*range(0, 48, 4)],), Drift(0, 1100, 44)),
+            "one text is far too late": (([*steady[:5], 30, *steady[6:]],), Drift(0, 1100, 3)),
+            "one text is far too early": (([*steady[:5], -30, *steady[6:]],), Drift(0, 1100, 3)),
+            "two texts are far too late": (([*steady[:5], 30, 40, *steady[7:]],), None),
+            "no delay": (([0] * 12,), None), "one delay": (([7] * 12,), None),
+            "the second half is a frame late": (([0] * 6 + [1] * 6,), None),
+            "the second half is two frames late": (([0] * 6 + [2] * 6,), None),
+            "the second half is three frames late": (([0] * 6 + [3] * 6,), None),
+            "the last quarter is late": (([0] * 9 + [3] * 3,), None),
+            "three delays in turn": (([0, 1, 2] * 4,), None),
+            "two delays in turn": (([0, 2] * 6,), None),
+            "two texts late, then two on time": (([0, 0, 2, 2] * 3,), None),
+            "just enough texts": (([2 * at for at in range(MIN_TEXTS)],), Drift(0, 500, 10)),
+            "too few texts": (([2 * at for at in range(MIN_TEXTS - 1)],), None),
+            "no text": (([],), None),
+            "two jumps of five seconds": (([0] * 4 + [130] * 4 + [260] * 4,), None)})
 
     def test_measures_a_drift_by_texts_that_are_sent_once(self) -> None:
         steady = [at // 2 for at in range(12)]
@@ -243,28 +271,36 @@ class Drifts(unittest.TestCase):
         self.assertLess(count, 4)  # a drift is reported in at most 3 of 1800 programmes
 
 
-class RepeatedProgrammes(unittest.TestCase):
+class RepeatedProgrammes(Case):
     def test_recognises_evenly_spaced_cues(self) -> None:
-        rows: list[tuple[list[int], bool]] = [
-            ([0, 10, 20, 30], True), ([0, 1, 10, 11, 20, 21], True), ([0, 3, 9, 27, 81], False),
-            ([at * at for at in range(40)], False), ([5], False), ([], True)]
-        for frames, expected in rows:
-            self.assertEqual(have_equal_steps(frames), expected, frames)
+        self.check_rows(have_equal_steps, {
+            "equal steps": (([0, 10, 20, 30],), True),
+            "pairs at equal steps": (([0, 1, 10, 11, 20, 21],), True),
+            "each step is longer": (([0, 3, 9, 27, 81],), False),
+            "many steps, each longer": (([at * at for at in range(40)],), False),
+            "one frame": (([5],), False), "no frame": (([],), True)})
 
     def test_half_of_the_cues_make_a_repeat(self) -> None:
         base = find_time_bases([], make_sent_packets([(0, b"a")]), 0)[0]
         base = base.copy_between([ExpectedCue(at, b"%d" % at if at % 2 == 0 else b"", at % 2 == 0)
                                   for at in range(40)], -1, 1)
-        first = {at: (0, at) for at in range(40)}
-        for some, known, expected in (
-                (range(20), first, True), (range(19), first, False), (range(0, 40, 2), first, True),
-                (range(1, 40, 2), first, False), (range(0, 20, 4), first, False),
-                ((0, 4, 8, 16, 20), first, True), ((0, 4, 8, 16, 18), first, False),
-                (range(0, 36, 5), first, False), ((0, 4, 8, 16, 20), {0: (0, 0), 4: (0, 4)}, False),
-                ((0, 4, 8, 16, 20), {0: (0, 0), 4: (0, 4), 20: (0, 20)}, True), ((), first, False),
-                (range(0, 24, 4), {at: (0, at) for at in (0, 4, 20)}, True)):
-            self.assertEqual(is_repeated_airing([base], known, {at: (0, 100 + at) for at in some}),
-                             expected, some)
+        quarter = (0, 4, 8, 16, 20)  # a quarter of the texts, over half of the programme
+        # The arguments are the cues that match in the first airing, and those that match again.
+        # Even cues have a text; odd cues erase it.
+        self.check_rows(lambda first, again: is_repeated_airing(
+            [base], {at: (0, at) for at in first}, {at: (0, 100 + at) for at in again}), {
+            "half of the cues": ((range(40), range(20)), True),
+            "one cue less than half": ((range(40), range(19)), False),
+            "all texts": ((range(40), range(0, 40, 2)), True),
+            "no text": ((range(40), range(1, 40, 2)), False),
+            "a quarter of the texts, all in the first half": ((range(40), range(0, 20, 4)), False),
+            "a quarter of the texts, over half": ((range(40), quarter), True),
+            "a quarter of the texts, over less than half": ((range(40), (0, 4, 8, 16, 18)), False),
+            "a fifth of the texts": ((range(40), range(0, 36, 5)), False),
+            "two of the five are in the first airing": (((0, 4), quarter), False),
+            "three of the five are in the first airing": (((0, 4, 20), quarter), True),
+            "no cue": ((range(40), ()), False),
+            "half of six texts are in the first airing": (((0, 4, 20), range(0, 24, 4)), True)})
 
 
 class JudgedPairs(Case):
@@ -353,18 +389,27 @@ class PtsAndFrames(unittest.TestCase):
 class LossesInParts(unittest.TestCase):
     # Frames before and after a loss, ticks that are added to their PTS, and whether the loss
     # affects a part that lasts from frame 100 to frame 200.
-    PLACES = (
-        (90, 99, 0, False), (90, 100, 0, False), (90, 101, 0, True), (99, 150, 0, True),
-        (120, 130, 0, True), (199, 250, 0, True), (200, 210, 0, False), (201, 210, 0, False),
-        (50, 300, 0, True), (None, 100, 0, False), (None, 101, 0, True), (199, None, 0, True),
-        (200, None, 0, False), (None, None, 0, True), (90, 100, 1, True), (200, 210, -1, True))
+    PLACES: dict[str, tuple[int | None, int | None, int, bool]] = {
+        "before it": (90, 99, 0, False), "up to its first frame": (90, 100, 0, False),
+        "up to its second frame": (90, 101, 0, True), "at its beginning": (99, 150, 0, True),
+        "within it": (120, 130, 0, True), "at its end": (199, 250, 0, True),
+        "from its last frame on": (200, 210, 0, False), "after it": (201, 210, 0, False),
+        "all of it": (50, 300, 0, True),
+        "from no known frame up to its first": (None, 100, 0, False),
+        "from no known frame up to its second": (None, 101, 0, True),
+        "from its last frame but one on": (199, None, 0, True),
+        "from its last frame up to no known frame": (200, None, 0, False),
+        "between no known frames": (None, None, 0, True),
+        "a tick into its first frame": (90, 100, 1, True),
+        "a tick before its last frame": (200, 210, -1, True)}
 
     def test_finds_the_losses_that_affect_a_part(self) -> None:
-        for shift, (before, after, more, wanted) in itertools.product(SHIFTS, self.PLACES):
-            pts = [None if item is None else shift_pts(TICKS * item + more, shift)
-                   for item in (before, after)]
-            place = LossPlace(pts[0], pts[1], lost=1)
-            with self.subTest(shift=shift, before=before, after=after):
+        for shift, name in itertools.product(SHIFTS, self.PLACES):
+            *frames, more, wanted = self.PLACES[name]
+            before, after = (None if frame is None else shift_pts(TICKS * frame + more, shift)
+                             for frame in frames)
+            with self.subTest(name, shift=shift):
+                place = LossPlace(before, after, lost=1)
                 self.assertEqual(belongs_to_part(place, make_part(100, 200, shift)), wanted)
 
     def test_finds_losses_in_a_part_of_many_hours(self) -> None:

@@ -4,13 +4,12 @@ from __future__ import annotations
 from developing.pes import (
     DATA, GAP_MARKER, UNIT, decode_pts, encode_pts, make_pes_packet, reverse_bits)
 from subtitles.common.times import CLOCK, TICKS, format_frame
-from .bench import get_example_path, read_example_file
-from .judged import FEW, ProgrammeCase, judge_files
+from .bench import Case, get_example_path, read_example_file
+from .judged import FEW, JudgedPair, ProgrammeCase, judge_files
 from .results import check_schema
-from .stories import StoryCase
+from .stories import StoryCase, read_table
 from .transmissions import (
-    ORIGIN, join_pes_packets, delay_subtitle, packets, write_programme, make_random_stl,
-    write_subtitle_file,
+    ORIGIN, join_pes_packets, packets, write_programme, make_random_stl, write_subtitle_file,
     subtitle_times)
 
 STORY, HELLO = get_example_path("story.stl"), get_example_path("hello.stl")
@@ -38,6 +37,10 @@ class UnreadablePackets(ProgrammeCase):
         super().setUp()
         self.frames = [(decode_pts(item) - ORIGIN) // TICKS for item in self.pes]
 
+    def judge_with_gaps(self, some: list[bytes], *args: str) -> JudgedPair:
+        return judge_files(self, self.stl, self.write("one.pes", b"".join(some)), *EVERY_OPTION,
+                           "--origin", str(ORIGIN), *args)
+
     def test_judges_subtitles_after_unreadable_pes_packets(self) -> None:
         runs = [(number, 5 * at + 1, 5 * at + 2) for at, number in enumerate([*BITS, 61])]
         runs += [(33, 48, 48), (34, 49, 49), (45, 55, 56), (45, 60, 60)]
@@ -45,71 +48,73 @@ class UnreadablePackets(ProgrammeCase):
         for number, first, last in runs:
             for at in range(first, last + 1):
                 some[at] = GAP_MARKER if number == 45 else damage_packet(some[at], number)
-        judged_pair = judge_files(self, self.stl, self.write("one.pes", b"".join(some)),
-                                  *EVERY_OPTION, "--origin",
-                                  str(ORIGIN))
+        judged = self.judge_with_gaps(some)
         listed = [f"{word} {number} {NAMES[number]} pes {at}" for number, first, last in runs
                   for word, at in (("refused", first), *[("ended", last)] * (last > first))]
-        self.must("the list", [line for line in judged_pair.listed if " pes " in line] == listed,
-                  judged_pair.said)
-        self.must("the result", [(item["number"], item["pes"], item["last_pes"])
-                                 for item in judged_pair.result["faults"] if item["pes"] is not None
-                                 and item["number"] in NAMES] ==
-                  [(number, first, last if last > first else None)
-                   for number, first, last in runs], judged_pair.result["faults"])
-        self.must("the verdict", judged_pair.said[-1] == "refused 33 Flags pes 1", judged_pair.said)
-        check_schema(self, judged_pair.result)
+        self.check("list", [line for line in judged.listed if " pes " in line], listed)
+        self.check("faults", [(fault["number"], fault["pes"], fault["last_pes"])
+                              for fault in judged.result["faults"]
+                              if fault["pes"] is not None and fault["number"] in NAMES],
+                   [(number, first, last if last > first else None)
+                    for number, first, last in runs])
+        self.check("last line", judged.said[-1], "refused 33 Flags pes 1")
+        check_schema(self, judged.result)
 
-    def test_frames_around_two_gap_markers_are_clean(self) -> None:
+    def test_all_frames_but_those_around_gap_markers_are_clean(self) -> None:
         some = [*self.pes[:22], GAP_MARKER, *self.pes[24:61], GAP_MARKER, *self.pes[62:]]
-        judged_pair = judge_files(self, self.stl, self.write("one.pes", b"".join(some)),
-                                  *EVERY_OPTION, "--origin",
-                                  str(ORIGIN))
-        stretches = [(0, 21, 1), (24, 60, 1), (62, len(self.pes) - 1, 0)]
-        self.must("trusted", [(item["part"], item["from"], item["to"])
-                              for item in judged_pair.result["trusted_frames"]] ==
-                  [(1, format_frame(self.frames[first]), format_frame(self.frames[last] - less))
-                   for first, last, less in stretches], judged_pair.result["trusted_frames"])
-        self.must("lost",
-                  [(item["number"], item["pes"]) for item in judged_pair.result["faults"]] ==
-                  [(45, 22), (45, 60)] and [(item["from"], item["to"]) for item in
-                                            judged_pair.result["losses"]] ==
-                  [(format_frame(self.frames[before]), format_frame(self.frames[after]))
-                   for before, after in ((21, 24), (60, 62))], judged_pair.result["losses"])
-        reported = [line for line in judged_pair.told if "between" in line or "record" in line]
-        self.must("told",
-                  len(reported) == 3 and reported[2] == "record that part again: the missing "
-                                                        "frames were not checked", reported)
-        severity = self.write("severity", b"45 warning\n")
-        others = self.write("others", b"others warning\n")
-        rows: list[tuple[list[str], str]] = [
-            (["--allow-lost"], "waived"), (["--severity", severity], "waived"),
-            (["--severity", others], "refused"), ([], "refused")]
-        for words, word in rows:
-            judged_pair = judge_files(self, self.stl, self.path("one.pes"), *EVERY_OPTION, *words)
-            self.must(f"{words}", judged_pair.word == word, judged_pair.said)
+        judged = self.judge_with_gaps(some)
+        clean = [(0, 21, 1), (24, 60, 1), (62, len(self.pes) - 1, 0)]
+        self.check("clean frames", [(item["part"], item["from"], item["to"])
+                                    for item in judged.result["trusted_frames"]],
+                   [(1, format_frame(self.frames[first]), format_frame(self.frames[last] - less))
+                    for first, last, less in clean])
+        self.check("faults", [(item["number"], item["pes"]) for item in judged.result["faults"]],
+                   [(45, 22), (45, 60)])
+        self.check("losses", [(item["from"], item["to"]) for item in judged.result["losses"]],
+                   [(format_frame(self.frames[before]), format_frame(self.frames[after]))
+                    for before, after in ((21, 24), (60, 62))])
+        advice = [line for line in judged.told if "between" in line or "record" in line]
+        self.check("lines", (len(advice), advice[2]), (
+            3, "record that part again: the missing frames were not checked"))
+
+    def test_waives_gap_markers_only_if_they_are_allowed(self) -> None:
+        self.write("severity", b"45 warning\n")
+        self.write("others", b"others warning\n")
+        some = [*self.pes[:22], GAP_MARKER, *self.pes[24:61], GAP_MARKER, *self.pes[62:]]
+        for option, word in (("--allow-lost", "waived"), ("--severity severity", "waived"),
+                             ("--severity others", "refused"), ("", "refused")):
+            words = [self.path(word) if word[0] != "-" else word for word in option.split()]
+            self.check(option, self.judge_with_gaps(some, *words).word, word)
 
     def test_is_not_judged_if_nothing_could_be_read(self) -> None:
         unread = b"".join(damage_packet(item, 37)
                           for item in packets(read_example_file("hello.pes")))
-        pes = self.write("unread.pes", unread)
-        every = self.write("warnings", b"others warning\n")
-        item = self.write("one", b"52 warning\n")
-        for words, severity, word in (
-                ([ACCENT, get_example_path("recording.ts")], every, "not judged"),
-                ([HELLO, pes], every, "not judged"), ([HELLO, pes], item, "refused"),
-                ([ACCENT], every, "waived"), ([ACCENT], item, "refused"),
-                ([ACCENT, get_example_path("recording.ts")], item, "refused")):
-            judged_pair = judge_files(self, *words, "--severity", severity)
-            is_unread = word == "not judged"
-            self.must(f"{words} {severity}", judged_pair.word == word and judged_pair.told[-1:] ==
-                      [UNREAD] * is_unread or not is_unread, judged_pair.said)
-            self.must(f"{words} {severity}: result",
-                      (judged_pair.result["line"] is None) == is_unread
-                      and judged_pair.result["faults"] and judged_pair.result["reason"] ==
-                      (UNREAD if is_unread else None), judged_pair.result)
+        files = {"accent.stl": [ACCENT], "hello.stl unread.pes": [
+            HELLO, self.write("unread.pes", unread)],
+            "accent.stl recording.ts": [ACCENT, get_example_path("recording.ts")]}
+        self.write("others", b"others warning\n")
+        self.write("one", b"52 warning\n")
+        for row in read_table(UNREAD_FILES):
+            judged = judge_files(self, *files[row["files"]], "--severity",
+                                 self.path(row["severity"]))
+            is_unread, name = row["verdict"] == "not judged", f"{row['files']} {row['severity']}"
+            self.check(f"{name}: verdict", judged.word, row["verdict"])
+            self.check(f"{name}: reason", judged.result["reason"], UNREAD if is_unread else None)
+            self.check(f"{name}: printed", judged.told[-1:] == [UNREAD], is_unread)
+            self.check(f"{name}: has a line", judged.result["line"] is None, is_unread)
+            self.must(f"{name}: faults", judged.result["faults"])
 
 
+# Pairs and subtitle files, the faults that --severity makes warnings, and the verdict.
+UNREAD_FILES = """
+files                   | severity | verdict
+accent.stl recording.ts | others   | not judged
+hello.stl unread.pes    | others   | not judged
+hello.stl unread.pes    | one      | refused
+accent.stl              | others   | waived
+accent.stl              | one      | refused
+accent.stl recording.ts | one      | refused
+"""
 # What was sent, with options of qc, and the sentence about it.
 SENTENCES = {
     "2-20 late by 7": "Refused: 19 of 20 subtitles appeared 7 frames late (the first at "
@@ -147,148 +152,190 @@ class ProgrammeSentences(StoryCase):
             self.check(f"{story}: output", judged.said[-2][:len(sentence)], sentence)
 
 
-class Sentences(ProgrammeCase):
+# The options for a programme that is sent twice, the verdict, and the frames from the clock of the
+# first airing to that of the judged airing.
+AIRINGS = """
+options      | verdict    | frames
+             | not judged |
+--origin 0   | not judged |
+--pes first  | accepted   | 0
+--pes second | accepted   | 6000
+--pes none   | not judged |
+"""
+# All PES packets are sent later or earlier; the clock was given.
+DELAYS = """
+sent | delay | line
++0   | 0     |
++2   | 2     | all subtitles are 2 frames late
+-1   | -1    | all subtitles are 1 frame early
+"""
+
+
+class Sentences(StoryCase):
     due, first = subtitle_times(20), 50
+    words = ("--origin", f"{ORIGIN}")
 
     def test_names_a_subtitle_by_its_place_and_number(self) -> None:
-        judged_pair = self.judge(delay_subtitle(3, 7)(self.sent))
+        result = self.judge(self.change("3 late by 7")).result
         place = {"position": 3, "number": 52, "begin": "00:00:12:00", "end": "00:00:14:10"}
-        causes, faults = judged_pair.result["causes"], judged_pair.result["faults"]
-        check_schema(self, judged_pair.result)
-        self.must("result", [item["subtitle"] for item in (*causes, *faults)] == [place, place] and
-                  [item["position"] for item in judged_pair.result["subtitles"]] == [*range(1, 21)],
-                  causes)
-        self.must("cause", faults[0]["cause"] == {name: value for name, value in causes[0].items()
-                                                  if name != "part"}
-                  and (causes[0]["name"], causes[0]["frames"], causes[0]["expected_text"]) ==
-                  ("late", 7, "Number 52"), causes)
+        cause, fault = result["causes"][0], result["faults"][0]
+        check_schema(self, result)
+        self.check("subtitles", [item["subtitle"]
+                                 for item in (*result["causes"], *result["faults"])], [place] * 2)
+        self.check("positions", [row["position"] for row in result["subtitles"]],
+                   [*range(1, 21)])
+        self.check("cause", (cause["name"], cause["frames"], cause["expected_text"]),
+                   ("late", 7, "Number 52"))
+        self.check("cause of the fault", fault["cause"],
+                   {name: value for name, value in cause.items() if name != "part"})
 
-    def test_reports_another_subtitles_text(self) -> None:
-        rows: list[tuple[int, list[str]]] = [(5, []), (1, []), (5, ["--from", "00:00:08:00"])]
-        for number, words in rows:
-            other = next(packets for pts, packets in self.sent if pts == 100 * number * TICKS)
-            judged_pair = self.judge([(pts, other if 300 * TICKS <= pts < 360 * TICKS else packets)
-                                      for pts, packets in self.sent], *words)
-            causes, text = judged_pair.result["causes"], f"Number {number + 49}"
-            self.must(f"{number} {words}", [
-                (cause["name"], cause["expected_text"], cause["decoded_text"],
-                 cause["other_number"], cause["other_position"], cause["line"])
-                for cause in causes] == [
-                ("another subtitle's text", "Number 52", text, number + 49, number,
-                 f"another subtitle's text at its time; received \"{text}\" of subtitle {number} "
-                 f"(SN {number + 49})")] and
-                judged_pair.result["cause_counts"]["another subtitle's text"] == 1 and
-                "1 subtitle with faults: 1 another subtitle's text" in judged_pair.said,
-                      causes)
+    def test_names_the_subtitle_whose_text_was_sent(self) -> None:
+        for number, words in ((5, []), (1, []), (5, ["--from", "00:00:08:00"])):
+            judged = self.judge(self.change(f"3 with the text of {number}"), *words)
+            text, name = f"Number {number + 49}", f"{number} {words}"
+            cause, = judged.result["causes"]
+            expected = {
+                "name": "another subtitle's text", "expected_text": "Number 52",
+                "decoded_text": text, "other_number": number + 49, "other_position": number,
+                "line": f"another subtitle's text at its time; received \"{text}\" of subtitle "
+                f"{number} (SN {number + 49})"}
+            self.check(name, {member: cause[member] for member in expected}, expected)
+            self.check(f"{name}: count", judged.result["cause_counts"]["another subtitle's text"],
+                       1)
+            self.must(f"{name}: line", "1 subtitle with faults: 1 another subtitle's text"
+                      in judged.said, judged.said)
 
-    def test_reports_where_reading_stops(self) -> None:
-        early = [(pts - 3000 * TICKS, packets) for pts, packets in self.sent[-1:]]
-        doubt = list(self.sent)
-        broken_at = next(at for at, (pts, _) in enumerate(doubt) if pts == 300 * TICKS)
-        pes = [make_pes_packet(pts % CLOCK, packets) for pts, packets in doubt]
+    def test_names_no_cause_if_pes_packets_cannot_be_read(self) -> None:
+        broken_at = next(at for at, (pts, _) in enumerate(self.sent)
+                         if pts == ORIGIN + 300 * TICKS)
+        pes = list(self.pes)
         pes[broken_at] = damage_packet(pes[broken_at], 37)
-        judged_pair = judge_files(self, self.stl, self.write("one.pes", b"".join(pes)),
-                                  "--origin", "0")
-        self.must("can't be read",
-                  [item["name"] for item in judged_pair.result["causes"]] == ["unknown"]
-                  and "some of the PES packets at that time cannot "
-                      "be read" in "".join(judged_pair.said), judged_pair.said)
-        back = [((1 << 33) - at * TICKS, early[0][1]) for at in (200, 150, 100, 50)]
-        judged_pair = self.judge([*back, *delay_subtitle(3, 4)(self.sent)])
-        self.must("of another clock", judged_pair.lines("cause: ") == [
-            'subtitle 3 (SN 52) at 00:00:12:00, "Number 52": late by 4 frames'] and
-            judged_pair.parts("pes") == [(f"4-{len(self.sent) + 3}",)], judged_pair.said)
+        judged = judge_files(self, self.stl, self.write("one.pes", b"".join(pes)), *self.words)
+        self.check("causes", [cause["name"] for cause in judged.result["causes"]], ["unknown"])
+        self.must("line", "some of the PES packets at that time cannot be read"
+                  in "".join(judged.said), judged.said)
+
+    def test_judges_only_pes_packets_of_the_programme_s_clock(self) -> None:
+        page = self.sent[-1][1]
+        others = [(ORIGIN + (1 << 32) - at * TICKS, page) for at in (200, 150, 100, 50)]
+        judged = self.judge([*others, *self.change("3 late by 4")])
+        self.check_answers("four of another clock", judged, {
+            "causes": "3 late by 4 frames", "pes": f"4-{len(self.sent) + 3}"})
 
     def test_a_given_clock_replaces_an_unclear_estimate(self) -> None:
-        others = self.write("two.stl", make_random_stl(7)[0])
-        self.schedule(others, "two.pes")
+        self.schedule(self.write("two.stl", make_random_stl(7)[0]), "two.pes")
         three = write_programme(self, subtitle_times(3), name="three.stl")
         for clock, word in (("", "not judged"), (f"--origin {679_065 * TICKS}", "refused")):
-            result = judge_files(self, three, self.path("two.pes"), *clock.split())
-            self.must(clock, result.word == word, result.said)
-        twice = [*self.sent, *((pts + 6000 * TICKS, packets) for pts, packets in self.sent)]
-        path, last = self.write("one.pes", join_pes_packets(twice)), len(self.sent) - 1
-        for words, word, origin, pes in (
-                ("", "not judged", None, None), ("--origin 0", "not judged", None, None),
-                (f"--pes 0-{last}", "accepted", 0, f"0-{last}"),
-                (f"--pes {last + 1}-99999", "accepted", 6000 * TICKS,
-                 f"{last + 1}-{2 * last + 1}"),
-                ("--pes 99990-99999", "not judged", None, None)):
-            result = judge_files(self, self.stl, path, *words.split())
-            self.must(f"{words}", result.word == word and result.parts("origin", "pes") ==
-                      [(origin, pes)] * (origin is not None), result.said)
-            typed = [line for line in result.told if line.startswith(("try: ", "or: "))]
-            self.must(f"{words}: as before", words[:5] == "--pes" or
-                      all(words in line for line in typed), result.said)
-            self.must(f"{words}: to type", words[:5] == "--pes" or [
-                line.split()[-2:] for line in typed] == [["--pes", "I-J"]], result.said)
+            judged = judge_files(self, three, self.path("two.pes"), *clock.split())
+            self.check(clock, judged.word, word)
+
+    def test_judges_a_programme_that_is_sent_twice_only_if_one_airing_is_named(self) -> None:
+        count = len(self.sent)
+        path = self.write("one.pes", join_pes_packets([
+            *self.sent, *((pts + 6000 * TICKS, packets) for pts, packets in self.sent)]))
+        airings = {"first": f"0-{count - 1}", "second": f"{count}-{2 * count - 1}",
+                   "none": "99990-99999"}
+        for row in read_table(AIRINGS):
+            words = [airings.get(word, word) for word in row["options"].split()]
+            words = [f"{ORIGIN}" if word == "0" else word for word in words]
+            judged, name = judge_files(self, self.stl, path, *words), row["options"]
+            self.check_answers(name, judged, {"verdict": row["verdict"]})
+            self.check(f"{name}: parts", judged.parts("origin", "pes"), [
+                (ORIGIN + int(frames) * TICKS, words[-1]) for frames in row["frames"].split()])
+            if "--pes" not in words:
+                advice = [line.split() for line in judged.told
+                          if line.startswith(("try: ", "or: "))]
+                self.check(f"{name}: advice", [line[-2:] for line in advice], [["--pes", "I-J"]])
+                self.check(f"{name}: options of the call", {*words} <= {*advice[0]}, True)
 
     def test_reports_the_delay_of_all_subtitles(self) -> None:
-        for by, words in ((0, None), (2, "all subtitles are 2 frames late"),
-                          (-1, "all subtitles are 1 frame early")):
-            blank = [(300 * TICKS, self.sent[-1][1])]
-            sent = [(pts + by * TICKS, packets) for pts, packets in [*blank, *self.sent]]
-            judged_pair = self.judge(sent)
-            self.must(f"{by}", [item for item in judged_pair.told if "all subtitles" in item] ==
-                      [words] * bool(words) and judged_pair.result["parts"][0]["clock"] == {
-                          "origin": 0, "source": "given", "delay_frames": by}, judged_pair.said)
-            self.must(f"{by}: noted", judged_pair.notes[:-1] == [words] * bool(words)
-                      and judged_pair.notes[-1].endswith(FEW),
-                      judged_pair.notes)
+        for row in read_table(DELAYS):
+            sent = [(pts + int(row["sent"]) * TICKS, packets) for pts, packets in [
+                (ORIGIN + 300 * TICKS, self.sent[-1][1]), *self.sent]]
+            judged, lines = self.judge(sent), [row["line"]] * bool(row["line"])
+            self.check_answers(row["sent"], judged, {"delay": row["delay"], "source": "given"})
+            self.check(f"{row['sent']}: clock", judged.parts("clock")[0][0]["origin"], ORIGIN)
+            self.check(f"{row['sent']}: lines", [line for line in judged.told
+                                                 if "all subtitles" in line], lines)
+            self.check(f"{row['sent']}: notes", judged.notes[:-1], lines)
+            self.must(f"{row['sent']}: last note", judged.notes[-1].endswith(FEW), judged.notes)
 
-    def test_gives_hints_for_the_first_faults(self) -> None:
-        whole = "use --option swedish, italian, french, spanish or czech, which have all " \
-            "the characters in the file"
-        judged_pair = judge_files(self, ACCENT)
-        self.must("list", "1 faults" in judged_pair.said, judged_pair.said)
-        self.must("letter", judged_pair.result["hints"] == [f"50: {whole}"]
-                  and judged_pair.said[-3::2] == [
-            f"50: {whole}", "refused 50 Character block 1 at 6"] and
-            [item["remedy"] for item in judged_pair.result["faults"]] == [whole] and any(
-                '"Café" (block 1), the national option lacks' in item
-                for item in judged_pair.lines("Refused: ")),
-                  judged_pair.said)
-        judged_pair = judge_files(self, write_programme(self, subtitle_times(1), text=b"\xa35"),
-                                  "--option", "german")
-        self.must("by the option", judged_pair.result["hints"][0].startswith(
-            "50: use --option english or ") and [
-                (item["text_offset"], item["byte"])
-                for item in judged_pair.result["faults"]] == [(0, "A3")],
-                  judged_pair.result)
+
+class Hints(Case):
+    def check_hint(self, judged: JudgedPair, number: int, words: str, line: str) -> None:
+        """Check the only hint of a pair, and that it is printed before the last line."""
+        self.check("hints", judged.result["hints"], [f"{number}: {words}"])
+        self.check("printed", judged.said[-3::2], [f"{number}: {words}", line])
+
+    def test_names_the_options_that_have_a_character(self) -> None:
+        words = "use --option swedish, italian, french, spanish or czech, which have all the " \
+            "characters in the file"
+        judged = judge_files(self, ACCENT)
+        self.check_hint(judged, 50, words, "refused 50 Character block 1 at 6")
+        self.check("count", [line for line in judged.said if line.endswith(" faults")],
+                   ["1 faults"])
+        self.check("remedy", [fault["remedy"] for fault in judged.result["faults"]], [words])
+        self.must("sentence", any('"Café" (block 1), the national option lacks' in line
+                                  for line in judged.lines("Refused: ")), judged.said)
+
+    def test_names_the_byte_that_the_option_lacks(self) -> None:
+        stl = write_programme(self, subtitle_times(1), text=b"\xa35")
+        result = judge_files(self, stl, "--option", "german").result
+        self.check("hint", result["hints"][0][:28], "50: use --option english or ")
+        self.check("byte", [(fault["text_offset"], fault["byte"]) for fault in result["faults"]],
+                   [(0, "A3")])
+
+    def test_names_the_national_option_of_a_header(self) -> None:
         data = bytearray(read_example_file("hello.pes"))
         at = DATA + 4 + 2 + 7  # offset of C11 to C14 in the first header of the file
         data[at:at + 1] = reverse_bits(b"\xd0")  # Hamming 8/4 code of 8, which selects German
-        judged_pair = judge_files(self, HELLO, self.write("one.pes", data))
+        judged = judge_files(self, HELLO, self.write("one.pes", data))
         words = "the header is German, but --option is english"
-        self.must("header", judged_pair.result["hints"] == [f"67: {words}"]
-                  and judged_pair.said[-3::2] == [
-            f"67: {words}", "refused 67 Control frame 10:00:00:00 packet 0"] and
-            judged_pair.result["faults"][0]["meaning"] == words, judged_pair.said)
+        self.check_hint(judged, 67, words, "refused 67 Control frame 10:00:00:00 packet 0")
+        self.check("meaning", judged.result["faults"][0]["meaning"], words)
 
-    def test_judges_by_each_option(self) -> None:
-        stl = write_subtitle_file(self,
-                                  [(90_000, 90_050, b"Gr\xc8u\xfbe"), (90_100, 90_150, b"Ja")],
-                                  "two.stl", language=b"08")
-        self.schedule(stl, "two.pes", "--page", "1A9", "--option", "german", "--origin", "4242")
-        two, no_end = self.path("two.pes"), get_example_path("no-end.pes")
-        five = get_example_path("five-faults.pes")
-        faults = b"".join(b"%d warning\n" % number for number in (67, 68, 69, 72, 73))
-        rows: list[tuple[list[str], bytes, str, str]] = [*((*row, "") for row in (
-            ([stl, two, "--page", "1a9", "--option", "german"], b"", "accepted"),
-            ([stl, two, "--page", "1a9", "--option", "auto"], b"", "accepted"),
-            ([stl, two, "--page", "1a9"], b"", "refused"), ([stl, two], b"", "refused"),
-            ([stl, two, "--option", "german"], b"", "not judged"),
-            ([HELLO, no_end], b"", "refused"), ([HELLO, no_end, "--complete"], b"", "refused"),
-            ([HELLO, no_end, "--no-complete"], b"", "accepted"))),
-            *(([STORY, five, "--every", "25"], text, word, last) for text, word, last in (
-                (faults, "waived", "relative, waived: refused 67 "),
-                (faults + b"73 error\n", "refused", "refused 73 "),
-                (b"67 warning\n", "refused", "refused 73 "),
-                (b"others warning\n# no more\n", "waived", "relative, waived: refused 67 "),
-                (b"others warning\n72 error\n", "refused", "refused 72 ")))]
-        for words, text, word, last in rows:
-            more = ["--severity", self.write("severity", text)] if text else []
-            result = judge_files(self, *words, *more)
-            self.must(f"{words} {text!r}", result.word == word, result.said)
-            self.must(f"{words} {text!r}: last line", result.said[-1].startswith(last),
-                      result.said[-1])
+
+# The options --page, --option and --complete, and the verdict of the pair.
+OPTIONS = """
+pair             | options                     | verdict
+german           | --page 1a9 --option german  | accepted
+german           | --page 1a9 --option auto    | accepted
+german           | --page 1a9                  | refused
+german           |                             | refused
+german           | --option german             | not judged
+without an end   |                             | refused
+without an end   | --complete                  | refused
+without an end   | --no-complete               | accepted
+"""
+FIVE_WARNINGS = "67 warning, 68 warning, 69 warning, 72 warning, 73 warning"
+# The lines of the severity file, the verdict of a pair with these five faults, and how the last
+# line begins.
+SEVERITIES = f"""
+severity                     | verdict | last line
+{FIVE_WARNINGS}              | waived  | relative, waived: refused 67
+{FIVE_WARNINGS}, 73 error    | refused | refused 73
+67 warning                   | refused | refused 73
+others warning, # no more    | waived  | relative, waived: refused 67
+others warning, 72 error     | refused | refused 72
+"""
+
+
+class Options(Case):
+    def test_judges_by_the_given_page_option_and_end(self) -> None:
+        german = write_subtitle_file(self, [(90_000, 90_050, b"Gr\xc8u\xfbe"),
+                                            (90_100, 90_150, b"Ja")], "two.stl", language=b"08")
+        pairs = {"without an end": [HELLO, get_example_path("no-end.pes")], "german": [
+            german, self.schedule(german, "two.pes", "--page", "1A9", "--option", "german",
+                                  "--origin", "4242")]}
+        for row in read_table(OPTIONS):
+            judged = judge_files(self, *pairs[row["pair"]], *row["options"].split())
+            self.check(f"{row['pair']} {row['options']}", judged.word, row["verdict"])
+
+    def test_judges_by_the_given_severities(self) -> None:
+        pair = [STORY, get_example_path("five-faults.pes"), "--every", "25"]
+        for row in read_table(SEVERITIES):
+            text = row["severity"].replace(", ", "\n") + "\n"
+            judged = judge_files(self, *pair, "--severity", self.write("severity", text.encode()))
+            self.check(f"{row['severity']}: verdict", judged.word, row["verdict"])
+            last = judged.said[-1][:len(row["last line"]) + 1]
+            self.check(f"{row['severity']}: last line", last, f"{row['last line']} ")
