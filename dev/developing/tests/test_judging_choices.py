@@ -42,17 +42,16 @@ CUT = "pes", "2-6", 5, 7, 1, "range: 5 of 7 PES packets, from 20:15:00:00 to 20:
 PID = "pid", "0x101", 7, 7, None, RECORDING_PID
 PACE = "pace", None, None, None, 1, "not checked: losses on this PID alone, since " \
     "there are too few PES packets to measure their interval"
+LANGUAGE = "option", "english", None, None, None, "option: english, since the language of the " \
+    "file (LC) is 09"
 # Arguments, and the expected choices: option, value, matches, total, part, printed line.
-ROWS: list[tuple[Sequence[str], list[tuple[Any, ...]]]] = [
-    (TS, [PID, ORIGIN_CHOICE_TS, CUT, PACE]),
-    ((*TS, "--pid", "0x101"), [ORIGIN_CHOICE_TS, CUT, PACE]),
-    ((*TS, "--origin", "5000000000"), [PID, CUT, PACE]),
-    ((*TS, "--pid", "0x101", "--origin", "5000000000"), [CUT, PACE]),
-    ((TS[0],), []),
-    ((TS[0], "--option", "auto"), [
-        ("option", "english", None, None, None,
-         "option: english, since the language of the file (LC) is 09")]),
-]
+ROWS: dict[str, tuple[Sequence[str], list[tuple[Any, ...]]]] = {
+    "a stream": (TS, [PID, ORIGIN_CHOICE_TS, CUT, PACE]),
+    "a given PID": ((*TS, "--pid", "0x101"), [ORIGIN_CHOICE_TS, CUT, PACE]),
+    "a given clock": ((*TS, "--origin", "5000000000"), [PID, CUT, PACE]),
+    "both are given": ((*TS, "--pid", "0x101", "--origin", "5000000000"), [CUT, PACE]),
+    "a subtitle file": ((TS[0],), []),
+    "the language of a file": ((TS[0], "--option", "auto"), [LANGUAGE])}
 LANGUAGES = {b"08": ("german", "the language of the file (LC) is 08"),
              b"0F": ("french", "the language of the file (LC) is 0F"),
              b"  ": ("english", "the language of the file (LC) is   "),
@@ -67,54 +66,53 @@ def list_choices_of(judged_pair: JudgedPair) -> list[tuple[Any, ...]]:
 
 
 class Choices(Case):
-    def check_choices(self, name: str, judged_pair: JudgedPair,
-                      expected: list[tuple[Any, ...]]) -> None:
-        wrong = [*list_choice_errors(judged_pair.result, judged_pair.said)]
-        self.must(name, list_choices_of(judged_pair) == expected and not wrong,
-                  (list_choices_of(judged_pair), wrong, judged_pair.said))
+    def judge(self, name: str, *words: str) -> list[tuple[Any, ...]]:
+        """Judge a pair, and return the choices. Check that they are printed and complete."""
+        judged = judge_files(self, *words)
+        self.check(f"{name}: wrong choices", [*list_choice_errors(judged.result, judged.said)], [])
+        return list_choices_of(judged)
 
     def test_lists_each_choice_with_its_evidence(self) -> None:
-        for words, expected in ROWS:
-            self.check_choices(f"{words}", judge_files(self, *words), expected)
+        for name, (words, expected) in ROWS.items():
+            self.check(name, self.judge(name, *words), expected)
 
     def test_chooses_a_clock_and_a_range_for_each_part(self) -> None:
         stl = write_programme(self, subtitle_times(24))
         path = self.write("one.pes", join_pes_packets(add_pauses(schedule_pages(self, stl), 130)))
-        second = f"{ORIGIN + 130 * TICKS}"
-        for words, clocks in (((), [(f"{ORIGIN}", 1), (second, 2)]),
-                              (("--origin", f"{ORIGIN}"), [(second, 2)])):
-            judged_pair = judge_files(self, stl, path, "--breaks", "1", "--every", "25", *words)
-            self.must("clocks",
-                      [(item[1], item[4]) for item in list_choices_of(judged_pair)
-                       if item[0] == "origin"]
-                      == clocks
-                      and [item[4] for item in list_choices_of(judged_pair)
-                           if item[0] == "pes"] == [1, 2]
-                      and not [*list_choice_errors(judged_pair.result, judged_pair.said)],
-                      judged_pair.said)
+        first, second = f"{ORIGIN}", f"{ORIGIN + 130 * TICKS}"
+        for name, words, clocks in (("no clock", (), [(first, 1), (second, 2)]),
+                                    ("the clock of part 1", ("--origin", first), [(second, 2)])):
+            choices = self.judge(name, stl, path, "--breaks", "1", "--every", "25", *words)
+            self.check(f"{name}: clocks", [(value, part) for option, value, _, _, part, _ in choices
+                                           if option == "origin"], clocks)
+            self.check(f"{name}: ranges", [part for option, *_, part, _ in choices
+                                           if option == "pes"], [1, 2])
 
-    def test_notes_the_evidence_for_or_against_a_pace(self) -> None:
+    def test_chooses_the_pace_of_regular_pes_packets(self) -> None:
         stl = write_programme(self, subtitle_times(60))
-        sent = schedule_pages(self, stl)
-        every = [(TICKS * frame, dict(sent).get(TICKS * frame, [])) for frame in range(100, 6100)]
-        path = self.write("one.pes", join_pes_packets(every))
-        judged_pair = judge_files(self, stl, path, "--origin", "0")
-        pace = [item for item in list_choices_of(judged_pair) if item[0] == "pace"]
-        self.must("asked", pace == [
-            ("pace", "1", pace[0][3], pace[0][3], 1, "pace: PES packets are at most 1 frame "
-             "apart: --pace 1")] and pace[0][3] > 5_000, judged_pair.said)
-        multiplex = make_multiplex([make_pes_packet(pts + TICKS * 250, packets)
-                                    for pts, packets in every if packets or pts // TICKS % 60 < 25],
-                                   Shape(100))
+        sent = dict(schedule_pages(self, stl))
+        path = self.write("one.pes", join_pes_packets([
+            (TICKS * frame, sent.get(TICKS * frame, [])) for frame in range(100, 6100)]))
+        pace, = [choice for choice in self.judge("regular", stl, path, "--origin", "0")
+                 if choice[0] == "pace"]
+        self.check("pace", (pace[1], pace[4:]), (
+            "1", (1, "pace: PES packets are at most 1 frame apart: --pace 1")))
+        self.check("evidence", (pace[2] == pace[3], pace[3] > 5_000), (True, True))
+
+    def test_chooses_no_pace_if_pes_packets_pause(self) -> None:
+        stl = write_programme(self, subtitle_times(60))
+        sent = dict(schedule_pages(self, stl))
+        multiplex = make_multiplex([
+            make_pes_packet(TICKS * (frame + 250), sent.get(TICKS * frame, []))
+            for frame in range(100, 6100) if TICKS * frame in sent or frame % 60 < 25], Shape(100))
         path = self.write("one.ts", join_packets(multiplex))
-        for words in ((), ("--pace", "none")):
-            judged_pair = judge_files(self, stl, path, "--origin", f"{TICKS * 250}", *words)
-            pace = [item for item in list_choices_of(judged_pair) if item[0] == "pace"]
-            self.must(f"{words}",
-                      [item[1:5] for item in pace] == [(None, None, None, 1)] * (not words)
-                      and all("not checked: " in item[5] for item in pace)
-                      and not [*list_choice_errors(judged_pair.result, judged_pair.said)],
-                      judged_pair.said)
+        for words, expected in (((), [(None, None, None, 1)]), (("--pace", "none"), [])):
+            name = f"{words}"
+            choices = self.judge(name, stl, path, "--origin", f"{TICKS * 250}", *words)
+            paces = [choice for choice in choices if choice[0] == "pace"]
+            self.check(f"{name}: pace", [choice[1:5] for choice in paces], expected)
+            self.check(f"{name}: line", ["not checked: " in choice[5] for choice in paces],
+                       [True] * len(expected))
 
     def test_chooses_the_option_of_the_language_code(self) -> None:
         with open(TS[0], "rb") as file:
@@ -172,14 +170,21 @@ class Magazines(Case):
                     *get_teletext_packets(get_data_field(item)),
                     *get_teletext_packets(get_data_field(two))])
                                                        for item, two in both))
-                judged_pair = judge_files(self, stl, path, "--page", page, *WORDS)
-                self.must(f"{page} {name}", judged_pair.word == (
-                    "accepted" if name == "right" else "refused") and
-                    judged_pair.result["request"]["page"] == page and
-                    (f"--page {page}" in judged_pair.lines("+ ")[-1]) == (page != "888"),
-                          judged_pair.said)
-            judged_pair = judge_files(self, stl, self.path("first.pes"), "--page", page, *WORDS)
-            self.must(f"{page}: not sent", judged_pair.word == "not judged", judged_pair.said)
+                judged = judge_files(self, stl, path, "--page", page, *WORDS)
+                self.check(f"{page} {name}: verdict", judged.word,
+                           "accepted" if name == "right" else "refused")
+                self.check(f"{page} {name}: page", judged.result["request"]["page"], page)
+                self.check(f"{page} {name}: command", f"--page {page}" in judged.lines("+ ")[-1],
+                           page != "888")
+            judged = judge_files(self, stl, self.path("first.pes"), "--page", page, *WORDS)
+            self.check(f"{page}: not sent", judged.word, "not judged")
+
+
+ALL_ACCEPTED = "accepted 961 frames 49 transmissions; not checked: no_video, losses"
+# The first of the PES packets that have another start code or length, and the last line. The page
+# is sent in the PES packets up to 48.
+TELETEXT_ENDS = {1: "refused 74 Late frame 00:00:04:00", 20: "refused 74 Late frame 00:00:19:10",
+                 48: "refused 74 Late frame 00:00:42:00", 49: ALL_ACCEPTED, 52: ALL_ACCEPTED}
 
 
 class ForeignPackets(ProgrammeCase):
@@ -202,33 +207,48 @@ class ForeignPackets(ProgrammeCase):
         return make_planned_stream(self.pes, [(0, OLD)], list_carried_packets)
 
     def test_reports_where_the_teletext_ends(self) -> None:
-        accepted = "accepted 961 frames 49 transmissions; not checked: no_video, losses"
-        for number, word in ((31, "Start"), (32, "Length")):
-            for first, line in ((1, "refused 74 Late frame 00:00:04:00"),
-                                (20, "refused 74 Late frame 00:00:19:10"),
-                                (48, "refused 74 Late frame 00:00:42:00"),
-                                (49, accepted),
-                                (52, accepted)):
-                data, end = self.make_stream(first, number), min(first, 49) - 1
-                for recording, words in ((self.write("one.ts", data), ()),
-                                         (self.path("one.ts"), ("--pid", "0x101")),
-                                         (write_pipe(self, data), ())):
-                    judged_pair = judge_files(self, self.stl, recording, *WORDS, *words)
-                    why = f"from PES packet {first} on: refused {number} {word} pes {first}"
-                    self.must(f"{number} {first} {words}", judged_pair.verdict.line == line and
-                              (why in judged_pair.verdict.sentence) == (first < 49) and
-                              judged_pair.parts("pes") == [(f"0-{end}",)] and not any(
-                                  item["kind"] == "cut" for item in judged_pair.result["warnings"]),
-                              judged_pair.said)
-        judged_pair = self.judge_stream(self.make_stream(0, 31))
-        self.must("nothing", judged_pair.word == "not judged" and
-                  "no PES packets of private_stream_1" in judged_pair.told[0], judged_pair.told)
+        for (number, word), (first, line) in itertools.product(
+                ((31, "Start"), (32, "Length")), TELETEXT_ENDS.items()):
+            data, last = self.make_stream(first, number), min(first, 49) - 1
+            reason = f"from PES packet {first} on: refused {number} {word} pes {first}"
+            for recording, words in ((self.write("one.ts", data), ()),
+                                     (self.path("one.ts"), ("--pid", "0x101")),
+                                     (write_pipe(self, data), ())):
+                judged = judge_files(self, self.stl, recording, *WORDS, *words)
+                name = f"{number} from {first} {words}"
+                self.check(f"{name}: line", judged.verdict.line, line)
+                self.check(f"{name}: reason", reason in judged.verdict.sentence, first < 49)
+                self.check(f"{name}: PES packets", judged.parts("pes"), [(f"0-{last}",)])
+                self.check(f"{name}: warnings", [warning for warning in judged.result["warnings"]
+                                                 if warning["kind"] == "cut"], [])
+
+    def test_judges_no_stream_without_teletext(self) -> None:
+        judged = self.judge_stream(self.make_stream(0, 31))
+        self.check("verdict", judged.word, "not judged")
+        self.must("reason", "no PES packets of private_stream_1" in judged.told[0], judged.told)
 
 
 # first TCI, interval between TCIs, and duration, in frames
 FIRST_TCI, DISTANCE, DURATION = 900_000, 100, 60
 LINES = ("Good evening.", "Here", "is the news of today", "Thank you, Anne.", "Yes", "No no no")
 CLOCK_WORDS = ["--start", format_frame(FIRST_TCI - 50)]
+
+
+EARLY_CUES = "# early, which no option accepts: "
+# The delays of in-cues and of out-cues in frames, by subtitle; the printed counts of both; and the
+# proposed options.
+MEASURED_DELAYS: dict[str, tuple[dict[int, int], dict[int, int], tuple[str, str], list[str]]] = {
+    "none": ({}, {}, ("0:11", "0:12"), []),
+    "begins": ({1: 3, 2: 1}, {}, ("0:9, 1:1, 3:1", "0:12"), [
+        "--within 3", "--late 0:9,1:1,3:1/0:12"]),
+    "ends": ({}, {at: 2 for at in range(12)}, ("0:11", "2:12"), ["--within 2", "--late 0:11/2:12"]),
+    "early": ({4: -3}, {5: -1}, ("0:10", "0:11"), [])}
+# The layouts that all subtitles show, and why one is not proposed.
+PROPOSED_LAYOUTS = {
+    "before=0B0B08": "all would flash",
+    "before=0B": "receivers show a line only after two start boxes",
+    "row=-10": "no site moves all by more than 2 rows",
+    "row=-1": "", "before=0B0B06": "", "double,row=-1": "", "": ""}
 
 
 def make_number_text(number: int, end: str = "") -> bytes:
@@ -254,11 +274,10 @@ class Profiles(Case):
 
     def test_proposes_the_longest_pace_if_all_are_regular(self) -> None:
         paces = [Pace(REGULAR, 1, 3), Pace(REGULAR, 2, 5), Pace(REGULAR, 1, 4)]
-        rows: list[tuple[list[Pace], str]] = [
-            (paces, "--pace 4"), (paces[:1], "--pace 2"), ([], ""),
-            ([*paces, Pace(PAUSED, 9, 9)], "")]
-        for some, words in rows:
-            self.must(f"{some}", propose_pace(some).text == words, propose_pace(some))
+        self.check_rows(lambda some: propose_pace(some).text, {
+            "three recordings": ((paces,), "--pace 4"), "one recording": ((paces[:1],), "--pace 2"),
+            "no recording": (([],), ""),
+            "one of four has pauses": (([*paces, Pace(PAUSED, 9, 9)],), "")})
 
     def test_proposes_the_longest_distance_of_repeats(self) -> None:
         several = [Repeats(9, 30, 5, 25), Repeats(8, 50, 7, 26), Repeats(3, 40, 9, None)]
@@ -285,67 +304,66 @@ class Profiles(Case):
         again = judge_files(self, stl, pes, "--origin", "0", "--profile", self.path("profile"))
         self.must("accepted", again.word == "accepted", again.said)
 
-    def test_measures_delays_of_begins_and_ends_by_a_given_clock(self) -> None:
-        stl = self.write_stl("one.stl")
-        sent = schedule_pages(self, stl)
-        rows: list[tuple[str, dict[int, int], dict[int, int], tuple[str, str, list[str]]]] = [
-                ("none", {}, {}, ("0:11", "0:12", [])),
-                ("begins", {1: 3, 2: 1}, {}, ("0:9, 1:1, 3:1", "0:12", [
-                    "--within 3", "--late 0:9,1:1,3:1/0:12"])),
-                ("ends", {}, {at: 2 for at in range(12)}, ("0:11", "2:12", [
-                    "--within 2", "--late 0:11/2:12"])),
-                ("early", {4: -3}, {5: -1}, ("0:10", "0:11", []))]
-        for name, begins, ends, expected in rows:
-            moved = []
-            for pts, packets in sent:
-                number, rest = divmod(pts // TICKS - FIRST_TCI, DISTANCE)
-                by = begins.get(number, 0) if rest == 0 else ends.get(number, 0) \
-                    if rest == DURATION else 0
-                moved.append((pts + by * TICKS, packets))
-            pes = self.write(f"{name}.pes",
-                             join_pes_packets(sorted(moved, key=lambda item: item[0])))
-            lines = self.profile(stl, pes, "--origin", "0")
-            counts = "# within, late (frames late:number of cues): in-cues " \
-                f"{expected[0]}; out-cues {expected[1]}"
-            self.must(name, counts in lines, lines)
-            bound = [line for line in lines if line.startswith(("--within", "--late"))]
-            self.must(f"{name}: proposed", bound == expected[2], bound)
-            early = [line for line in lines if line.startswith("# early, which no option "
-                                                               "accepts: ")]
-            self.must(f"{name}: early", bool(early) == (name == "early") and all(
-                "subtitle 5 (SN 4) at 10:00:16:00 begins 3 frames early; " in line and
-                "subtitle 6 (SN 5) at 10:00:20:00 ends 1 frame early" in line for line in early),
-                      lines)
-        lines = self.profile(stl, self.path("begins.pes"), "--within", "3")
-        self.must("no clock", not any(line.startswith(("--within", "--late")) for line in lines) and
-                  any("no clock was given" in line for line in lines), lines)
+    def write_delayed(self, name: str, begins: dict[int, int], ends: dict[int, int]
+                      ) -> tuple[str, str]:
+        """Write a programme whose in-cues and out-cues have delays in frames, by subtitle."""
+        stl, moved = self.write_stl("one.stl"), []
+        for pts, packets in schedule_pages(self, stl):
+            number, rest = divmod(pts // TICKS - FIRST_TCI, DISTANCE)
+            by = begins.get(number, 0) if rest == 0 else ends.get(number, 0) \
+                if rest == DURATION else 0
+            moved.append((pts + by * TICKS, packets))
+        return stl, self.write(f"{name}.pes",
+                               join_pes_packets(sorted(moved, key=lambda item: item[0])))
 
-    def test_proposes_a_layout_that_ten_subtitles_show(self) -> None:
+    def test_measures_delays_of_begins_and_ends_by_a_given_clock(self) -> None:
+        for name, (begins, ends, counts, proposed) in MEASURED_DELAYS.items():
+            lines = self.profile(*self.write_delayed(name, begins, ends), "--origin", "0")
+            self.must(f"{name}: counts", f"# within, late (frames late:number of cues): in-cues "
+                      f"{counts[0]}; out-cues {counts[1]}" in lines, lines)
+            self.check(f"{name}: proposed", [line for line in lines
+                                             if line.startswith(("--within", "--late"))], proposed)
+            self.check(f"{name}: early", any(line.startswith(EARLY_CUES) for line in lines),
+                       name == "early")
+
+    def test_names_early_cues_which_no_option_accepts(self) -> None:
+        lines = self.profile(*self.write_delayed("early", {4: -3}, {5: -1}), "--origin", "0")
+        early, = [line for line in lines if line.startswith(EARLY_CUES)]
+        for words in ("subtitle 5 (SN 4) at 10:00:16:00 begins 3 frames early; ",
+                      "subtitle 6 (SN 5) at 10:00:20:00 ends 1 frame early"):
+            self.must(words, words in early, early)
+
+    def test_proposes_no_delay_without_a_clock(self) -> None:
+        lines = self.profile(*self.write_delayed("begins", {1: 3, 2: 1}, {}), "--within", "3")
+        self.check("proposed", [line for line in lines if line.startswith(("--within", "--late"))],
+                   [])
+        self.must("reason", any("no clock was given" in line for line in lines), lines)
+
+    def test_proposes_a_layout_unless_it_is_implausible(self) -> None:
         stl = self.write_stl("one.stl")
-        for text, why in (
-                ("before=0B0B08", "all would flash"),
-                ("before=0B", "receivers show a line only after two start boxes"),
-                ("row=-10", "no site moves all by more than 2 rows"), ("row=-1", ""),
-                ("before=0B0B06", ""), ("double,row=-1", ""), ("", "")):
+        for layout, reason in PROPOSED_LAYOUTS.items():
             pes = self.write("one.pes", join_pes_packets(schedule_pages(
-                self, stl, *(["--layout", text] if text else []))))
+                self, stl, *(["--layout", layout] if layout else []))))
             lines = self.profile(stl, pes)
-            result = [line for line in lines if line.startswith("--layout")]
-            self.must(text, result == ([f"--layout {text}"] if text and not why else []), lines)
-            self.must(f"{text}: why", not why or any(line.endswith(f"more of 12: {why}") for line in
-                                                   lines), lines)
+            self.check(f"{layout}: proposed", [line for line in lines
+                                               if line.startswith("--layout")],
+                       [f"--layout {layout}"] * bool(layout and not reason))
+            self.must(f"{layout}: reason", any(line.endswith(f"more of 12: {reason}")
+                                               for line in lines) or not reason, lines)
+
+    def test_shows_the_evidence_against_a_layout(self) -> None:
+        stl = self.write_stl("one.stl")
+        against = f"# against it: {stl}, subtitle 1 (SN 0) at 10:00:00:00: sent row "
         for name, end, justify, words, printed in (
                 ("spaces", " ", 2, (), "a space is in the box in 12 of the 12 others"),
                 ("block", "", 1, ("--layout", "left=9"),
                  "lines form a block, aligned left, in ")):
-            pes = self.write("one.pes", join_pes_packets(schedule_pages(
-                self, self.write_stl(f"{name}.stl", end, justify), *words)))
-            lines = self.profile(stl, pes)
-            self.must(name, not any(line.startswith("--layout") for line in lines) and
-                      any(printed in line for line in lines) and
-                      any("The nearest, " in line for line in lines) and
-                      any(line.startswith(f"# against it: {stl}, subtitle 1 (SN 0) at 10:00:00:00: "
-                                          "sent row ") for line in lines), lines)
+            sent = schedule_pages(self, self.write_stl(f"{name}.stl", end, justify), *words)
+            lines = self.profile(stl, self.write("one.pes", join_pes_packets(sent)))
+            self.check(f"{name}: proposed", [line for line in lines
+                                             if line.startswith("--layout")], [])
+            for part in (printed, "The nearest, ", against):
+                self.must(f"{name}: {part}", any(part in line for line in lines), lines)
 
     def test_names_a_subtitle_with_another_layout(self) -> None:
         stl = self.write_stl("one.stl")

@@ -1,9 +1,8 @@
 """Test verdicts on pairs with unreadable packets or losses, and the sentences about them."""
 from __future__ import annotations
 
-from developing.pes import (
-    DATA, GAP_MARKER, UNIT, decode_pts, encode_pts, make_pes_packet, reverse_bits)
-from subtitles.common.times import CLOCK, TICKS, format_frame
+from developing.pes import DATA, GAP_MARKER, UNIT, decode_pts, encode_pts, reverse_bits
+from subtitles.common.times import TICKS, format_frame
 from .bench import Case, get_example_path, read_example_file
 from .judged import FEW, JudgedPair, ProgrammeCase, judge_files
 from .results import check_schema
@@ -215,11 +214,10 @@ class Sentences(StoryCase):
         self.must("line", "some of the PES packets at that time cannot be read"
                   in "".join(judged.said), judged.said)
 
-    def test_judges_only_pes_packets_of_the_programme_s_clock(self) -> None:
-        page = self.sent[-1][1]
-        others = [(ORIGIN + (1 << 32) - at * TICKS, page) for at in (200, 150, 100, 50)]
-        judged = self.judge([*others, *self.change("3 late by 4")])
-        self.check_answers("four of another clock", judged, {
+    def test_judges_no_pages_before_the_beginning_of_the_clock(self) -> None:
+        pages = [(ORIGIN - at * TICKS, self.sent[-1][1]) for at in (200, 150, 100, 50)]
+        judged = self.judge([*pages, *self.change("3 late by 4")])
+        self.check_answers("four pages", judged, {
             "causes": "3 late by 4 frames", "pes": f"4-{len(self.sent) + 3}"})
 
     def test_a_given_clock_replaces_an_unclear_estimate(self) -> None:
