@@ -52,32 +52,35 @@ def change_all_packets(sent: SentPes, at: int, off: int, on: int) -> SentPes:
     return [(pts, [change_header(item, at, off, on) for item in packets]) for pts, packets in sent]
 
 
+# PES_header_data_length and the verdict. A header that is longer than a TS packet is read.
+PES_HEADERS = {0: "not judged", 5: "not judged", 14: "not judged", 0x23: "not judged",
+               0x25: "not judged", 36 + 184: "refused"}
+
+
 class Reasons(ProgrammeCase):
     def test_reports_headers_that_never_erase(self) -> None:
-        judged_pair = self.judge(change_all_packets(self.sent, 3, 8, 0), *WORDS)
+        judged = self.judge(change_all_packets(self.sent, 3, 8, 0), *WORDS)
         words = "C4 (erase page) is clear in 49 of 49 headers"
-        sentence = 'Refused: at 00:00:04:00, subtitle 1, "Number 1", may appear over old text on ' \
-            f"some receivers: {words}; 49 faults in all. "
-        self.must("said", judged_pair.word == "refused" and
-                  judged_pair.verdict.sentence.startswith(sentence) and
-                  judged_pair.result["hints"] == [f"67: {words}"] and
-                  not any(COMPLETED_LATER in line for line in judged_pair.said), judged_pair.said)
+        self.check("verdict", judged.word, "refused")
+        self.check("sentence", judged.verdict.sentence.partition(" in all. ")[0],
+                   'Refused: at 00:00:04:00, subtitle 1, "Number 1", may appear over old text on '
+                   f"some receivers: {words}; 49 faults")
+        self.check("hints", judged.result["hints"], [f"67: {words}"])
+        self.check("other reasons", [line for line in judged.said if COMPLETED_LATER in line], [])
 
     def test_reports_why_a_decoded_page_is_refused(self) -> None:
         text = make_numbered_row(20, b"Text")
         even = text[:10] + bytes([text[10] ^ 0x80]) + text[11:]
-        for name, sent, words in (
-                ("two of a frame", [(0, [HEADER, text, CLOSING]), (0, [HEADER, CLOSING])],
-                 COMPLETED_LATER),
-                ("even parity", [(0, [HEADER, even, CLOSING])], EVEN_PARITY),
-                ("whole", [(0, [HEADER, text, CLOSING])], "")):
-            decoded = decode_packets(self, join_pes_packets(sent), within=1)
-            result = CauseFinder(ExpectedPages([], []), decoded).describe_hidden_fault(0)
-            self.must(name, result == words, result)
-        back = [(7200, [HEADER, text, CLOSING]), (3600, [HEADER, text, CLOSING])]
-        decoded = decode_packets(self, join_pes_packets(back))
-        result = CauseFinder(ExpectedPages([], []), decoded).describe_hidden_fault(5)
-        self.must("behind one that goes back", result == NOT_READABLE, result)
+        page = [HEADER, text, CLOSING]
+        rows: dict[str, tuple[SentPes, int, int, str]] = {  # PES packets, --within, frame, reason
+            "erased in its frame": ([(0, page), (0, [HEADER, CLOSING])], 1, 0, COMPLETED_LATER),
+            "a byte with even parity": ([(0, [HEADER, even, CLOSING])], 1, 0, EVEN_PARITY),
+            "a complete page": ([(0, page)], 1, 0, ""),
+            "after PTS that go back": ([(7200, page), (3600, page)], 0, 5, NOT_READABLE)}
+        for name, (sent, within, frame, reason) in rows.items():
+            decoded = decode_packets(self, join_pes_packets(sent), within=within)
+            finder = CauseFinder(ExpectedPages([], []), decoded)
+            self.check(name, finder.describe_hidden_fault(frame), reason)
 
     def test_reports_a_scrambled_pid(self) -> None:
         data = bytearray(make_stream_with_video(b"".join(self.pes)))
@@ -86,48 +89,65 @@ class Reasons(ProgrammeCase):
                 data[at + 3] |= 0x80
         words = f"PID 0x101 is scrambled, in all its {len(self.pes)} TS packets"
         for recording in (self.write("one.ts", data), write_pipe(self, bytes(data))):
-            result = judge_files(self, self.stl, recording)
-            self.must(recording, result.word == "not judged" and result.verdict.sentence ==
-                      f"Not judged: {recording} has no header of page 888; {words}." and
-                      not any("try: " in line for line in result.told), result.told)
+            judged = judge_files(self, self.stl, recording)
+            self.check(f"{recording}: verdict", judged.word, "not judged")
+            self.check(f"{recording}: sentence", judged.verdict.sentence,
+                       f"Not judged: {recording} has no header of page 888; {words}.")
+            self.check(f"{recording}: advice", [line for line in judged.told if "try: " in line],
+                       [])
+
+    def change_header_length(self, length: int) -> list[bytes]:
+        """Return the PES packets with this PES_header_data_length."""
+        return [item[:4] + (len(item) - 6 + length - 36).to_bytes(2, "big") + item[6:8]
+                + bytes([length]) + item[9:14].ljust(length, b"\xff")[:length] + item[45:]
+                for item in self.pes]
 
     def test_reports_the_length_of_pes_headers(self) -> None:
-        for length in (0, 5, 14, 0x23, 0x25, 36 + 184):
-            of_length = [item[:4] + (len(item) - 6 + length - 36).to_bytes(2, "big") + item[6:8]
-                         + bytes([length]) + item[9:14].ljust(length, b"\xff")[:length] + item[45:]
-                         for item in self.pes]
-            data = make_planned_stream(self.pes, [(0, OLD)], lambda at: [(OLD, of_length[at])])
-            words = f"the PES header of PID 0x101 has {9 + length} bytes (PES_header_data_length " \
-                f"{length:02X}), but EN 300 472 requires 45 (24)"
-            result = self.judge_stream(data)
-            self.must(f"{length}", words in result.verdict.sentence and
-                      result.word == ("refused" if length > 99 else "not judged"), result.said)
-            self.must(f"{length}: asked for", words in self.judge_stream(
-                data, "--pid", "0x101").verdict.sentence)
-            words = words.replace(" of PID 0x101", "")
-            for item in (of_length[0], b"\0\0\1\xbe" + of_length[0][4:]):
-                self.assertEqual(check_pes_header(item, 0), words, item)
-        result = judge_files(self, self.stl, self.write("one.pes", b"".join(of_length)), "--origin",
-                             "0")
-        self.must("PES packets", words in result.verdict.sentence, result.said)
-        for data in (b"", b"refused 60", self.pes[0], self.pes[0][:8]):
-            self.assertEqual(check_pes_header(data, 0), "", data)
+        for length, word in PES_HEADERS.items():
+            changed = self.change_header_length(length)
+            data = make_planned_stream(self.pes, [(0, OLD)], lambda at: [(OLD, changed[at])])
+            words = f"has {9 + length} bytes (PES_header_data_length {length:02X}), but " \
+                "EN 300 472 requires 45 (24)"
+            judged = self.judge_stream(data)
+            self.check(f"{length}: verdict", judged.word, word)
+            for name, sentence in ((f"{length}: sentence", judged.verdict.sentence), (
+                    f"{length}: a given PID", self.judge_stream(data, "--pid", "0x101")
+                    .verdict.sentence)):
+                self.must(name, f"the PES header of PID 0x101 {words}" in sentence, sentence)
+            for item in (changed[0], b"\0\0\1\xbe" + changed[0][4:]):
+                self.check(f"{length}: a header", check_pes_header(item, 0),
+                           f"the PES header {words}")
+
+    def test_reports_the_length_of_pes_headers_in_a_file(self) -> None:
+        for length in (5, 14, 0x23, 0x25, 36 + 184):
+            path = self.write("one.pes", b"".join(self.change_header_length(length)))
+            judged = judge_files(self, self.stl, path, "--origin", "0")
+            self.check(f"{length}: verdict", judged.word, "refused")
+            self.must(f"{length}: sentence", f"the PES header has {9 + length} bytes "
+                      f"(PES_header_data_length {length:02X}), but EN 300 472 requires 45 (24)"
+                      in judged.verdict.sentence, judged.verdict.sentence)
+
+    def test_reports_no_length_without_a_wrong_header(self) -> None:
+        for name, data in (("nothing", b""), ("a line", b"refused 60"), ("right", self.pes[0]),
+                           ("cut", self.pes[0][:8])):
+            self.check(name, check_pes_header(data, 0), "")
         path = self.write("none", b"\x47\x41\x01\x30\xff".ljust(188, b"\0") * 9)
-        self.assertEqual(read_pes_header(self.bench.program, path, TELETEXT_PID, 188), b"")
+        self.check("no PES header", read_pes_header(self.bench.program, path, TELETEXT_PID, 188),
+                   b"")
 
     def test_reports_rows_of_a_closed_page(self) -> None:
         for name, between in (("FF", CLOSING), ("800", OTHER_PAGE)):
             sent = [(pts, [packets[0], between, *packets[1:]]) for pts, packets in self.sent]
             path = self.write("one.pes", join_pes_packets(sent))
-            for words, word in (((), "not judged"), (("--origin", "0"), "refused")):
-                result = judge_files(self, self.stl, path, *WORDS, *words)
-                self.must(f"{name} {words}", result.word == word and
-                          "rows came while page 888 was not "
-                          "open" in result.verdict.sentence, result.said)
-            reason = judge_files(self, self.stl, path, *WORDS).verdict.sentence
-            self.must(f"{name}: first", reason.startswith(
-                "Not judged: the clock cannot be estimated: rows came while page 888 was not open, "
-                "in "), reason)
+            reason = "rows came while page 888 was not open"
+            for words, word, begin in (
+                    ((), "not judged", f"Not judged: the clock cannot be estimated: {reason}, in "),
+                    (("--origin", "0"), "refused", "Refused: ")):
+                judged = judge_files(self, self.stl, path, *WORDS, *words)
+                sentence = judged.verdict.sentence
+                self.check(f"{name} {words}: verdict", judged.word, word)
+                self.check(f"{name} {words}: sentence", sentence[:len(begin)], begin)
+                self.must(f"{name} {words}: reason", reason in sentence, sentence)
 
     def test_reports_alternating_sub_pages(self) -> None:
         alternate = [item for pts, packets in change_all_packets(self.sent, 2, 15, 1) for item in (
@@ -140,29 +160,33 @@ class Reasons(ProgrammeCase):
         blank = [(pts, [HEADER, CLOSING]) for pts, _ in self.sent]
         for name, sent, is_told in (("alternate", alternate, True), ("once", once, False),
                                     ("one", blank, False)):
-            judged_pair = self.judge(sent, *WORDS)
-            self.must(name, (words in judged_pair.verdict.sentence) == is_told and
-                      any(words in item["line"]
-                          for item in judged_pair.result["causes"]) == is_told,
-                      judged_pair.said)
-        self.assertEqual(read_subcode(bytes([8, 8, 1, 8 + 2, 3, 8 + 2, 1, 0])), "2321")
+            judged = self.judge(sent, *WORDS)
+            self.check(f"{name}: sentence", words in judged.verdict.sentence, is_told)
+            self.check(f"{name}: causes", any(words in cause["line"]
+                                              for cause in judged.result["causes"]), is_told)
+        self.check("digits", read_subcode(bytes([8, 8, 1, 8 + 2, 3, 8 + 2, 1, 0])), "2321")
 
     def test_finds_sub_pages_that_alternate(self) -> None:
         def sent(*codes: str) -> Packets:
             return Packets(0, [PacketRun(at, int(word[0]), 0, 0, "h", "+".join(
                 f"88{item}80810" for item in word[1:])) for at, word in enumerate(codes)])
 
-        for codes, expected in ((("91",), []), (("11",) * 9, []), (("11", "12", "11", "12"), []),
-                                (("11", "92", "92"), []), (("11", "92", "11", "92"), []),
-                                (("11", "12") * 3, ["0001", "0002"]), (("212",), []),
-                                (("312",), ["0001", "0002"]), (("11", "12", "13") * 3,
-                                                               ["0001", "0002", "0003"]),
-                                (("11", "12", "13", "14", "15", "16"), [])):
-            self.assertEqual(find_alternating_subcodes(sent(*codes)), expected, codes)
+        # Each text has the number of PES packets in a run, and the sub-codes of their headers.
+        self.check_rows(lambda *codes: find_alternating_subcodes(sent(*codes)), {
+            "one run": (("91",), []), "one sub-code": (("11",) * 9, []),
+            "one, two, one, two": (("11", "12", "11", "12"), []),
+            "one, then two": (("11", "92", "92"), []),
+            "one, then two for long, again": (("11", "92", "11", "92"), []),
+            "three times each": (("11", "12") * 3, ["0001", "0002"]),
+            "both in two PES packets": (("212",), []),
+            "both in three PES packets": (("312",), ["0001", "0002"]),
+            "three sub-codes": (("11", "12", "13") * 3, ["0001", "0002", "0003"]),
+            "six sub-codes, each once": (("11", "12", "13", "14", "15", "16"), [])})
         once = sent(*("11", "12") * 3, *("11",) * 6)
-        for inside, count in (((0, 5), 2), ((0, 11), 2), ((2, 11), 0), ((6, 11), 0)):
-            self.assertEqual(len(find_alternating_subcodes(once, inside)), count, inside)
-        self.assertEqual([*explain_mismatch(sent("11", "12"), PAGE)], [])
+        self.check_rows(lambda *inside: len(find_alternating_subcodes(once, inside)), {
+            "while they alternate": ((0, 5), 2), "all": ((0, 11), 2),
+            "after the first two": ((2, 11), 0), "after they alternate": ((6, 11), 0)})
+        self.check("no mismatch", [*explain_mismatch(sent("11", "12"), PAGE)], [])
 
     def test_estimates_losses_by_the_pcr(self) -> None:
         stl = write_programme(self, [(2000 + 25 * at, 2020 + 25 * at) for at in range(40)],
@@ -175,28 +199,31 @@ class Reasons(ProgrammeCase):
                 (50, 2, "2.00 s of TS packets are missing according to the PCR (2 TS packets "
                  "according to the counter)")):
             path = self.write("one.ts", join_packets(delete_between(multiplex, 200, count)))
-            judged_pair = judge_files(self, stl, path, "--origin", "0")
-            self.must(f"{count}", [item["lost_ts_packets"] for item in
-                                   judged_pair.result["losses"]] == [lost] and any(
-                                       line.endswith(f": {words}") for line in judged_pair.told),
-                      judged_pair.said)
+            judged = judge_files(self, stl, path, "--origin", "0")
+            self.check(f"{count}: lost", [loss["lost_ts_packets"]
+                                          for loss in judged.result["losses"]], [lost])
+            self.must(f"{count}: line", any(line.endswith(f": {words}") for line in judged.told),
+                      judged.told)
+
+    def test_merges_a_gap_marker_with_the_pcr_step_of_the_same_loss(self) -> None:
         far = 200_000
         item = Packets(1, [PacketRun(0, 4, 0, 10, "h", ""), PacketRun(4, 1, None, 0, "m", ""),
                            PacketRun(5, 4, far, 10, "h", "")], gap_markers=[GapMarker(4, 30, 3, 0)])
-        rows: list[tuple[list[PCRStep], LossPlace]] = [
-            ([], LossPlace(30, far, 3, gap_marker=4)),
-            ([PCRStep(30, far, 99_000, 9, 9000, 9, "broken")], LossPlace(30, far, 3, 0, 90_000, 4)),
-            ([PCRStep(30, far, 299_000, 9, 9000, 9, "broken")],
-             LossPlace(30, far, 3, gap_marker=4)),
-            ([PCRStep(30, far, 99_000, 9, 9000, 9, "whole")], LossPlace(30, far, 3, gap_marker=4)),
-            ([PCRStep(far + 10, far + 30, 99_000, 9, 9000, 9, "whole")],
-             LossPlace(30, far, 3, gap_marker=4))]
-        for clocked, expected in rows:
-            item.pcr_steps = clocked
-            self.assertEqual(find_loss_places(item), [expected], clocked)
-        self.assertEqual(describe_loss(LossPlace(1, 2, 3, 4, 9000)),
-                         "0.10 s of TS packets are missing according to the PCR (3 TS packets "
-                         "according to the counter), 4 TS packets were scrambled")
+        alone = LossPlace(30, far, 3, gap_marker=4)
+        rows: dict[str, tuple[list[PCRStep], LossPlace]] = {
+            "no step": ([], alone),
+            "a step of a second": ([PCRStep(30, far, 99_000, 9, 9000, 9, "broken")],
+                                   LossPlace(30, far, 3, 0, 90_000, 4)),
+            "a step longer than the loss": ([PCRStep(30, far, 299_000, 9, 9000, 9, "broken")],
+                                            alone),
+            "no counter is broken": ([PCRStep(30, far, 99_000, 9, 9000, 9, "whole")], alone),
+            "after the loss": ([PCRStep(far + 10, far + 30, 99_000, 9, 9000, 9, "whole")], alone)}
+        for name, (steps, expected) in rows.items():
+            item.pcr_steps = steps
+            self.check(name, find_loss_places(item), [expected])
+        self.check("text", describe_loss(LossPlace(1, 2, 3, 4, 9000)),
+                   "0.10 s of TS packets are missing according to the PCR (3 TS packets "
+                   "according to the counter), 4 TS packets were scrambled")
 
 
 NUMBERS = bytes([8, 8, 0, 8, 0, 8, 1, 0])  # values in HEADER: page, subcode, control bits
@@ -223,92 +250,101 @@ class Headers(Case):
         item, other = "88000810", "88100810"
         received = INITIAL_STATE._replace(is_received=True, is_open=True, header=NUMBERS)
         first, second = KEEPING_NUMBERS, change_subcode(KEEPING_NUMBERS, 1)
-        for does, control, state, expected in (
-                ("-", "", INITIAL_STATE, []), ("h", item, INITIAL_STATE, [(first, None, False)]),
-                ("hec", "88080810", received, [(NUMBERS, NUMBERS, True)]),
-                ("cho", item, received, [(first, NUMBERS, False)]),
-                ("hh", f"{item}+{other}", INITIAL_STATE, [(first, None, False),
-                                                          (second, first, True)]),
-                ("hchc", f"{other}+{item}", received,
-                 [(second, NUMBERS, True), (first, second, False)])):
-            run = PacketRun(0, 1, 0, 0, does, control)
-            result = [tuple(header) for header in find_page_headers(run, state)]
-            self.must(f"{does} {control}", result == expected, result)
+        # The flags of a PES packet and the values of its headers, and the state before it.
+        self.check_rows(lambda flags, values, state: [
+            tuple(header) for header in find_page_headers(PacketRun(0, 1, 0, 0, flags, values),
+                                                          state)], {
+            "no header": (("-", "", INITIAL_STATE), []),
+            "the first header": (("h", item, INITIAL_STATE), [(first, None, False)]),
+            "the page is open": (("hec", "88080810", received), [(NUMBERS, NUMBERS, True)]),
+            "the page was closed before": (("cho", item, received), [(first, NUMBERS, False)]),
+            "two headers": (("hh", f"{item}+{other}", INITIAL_STATE),
+                            [(first, None, False), (second, first, True)]),
+            "two headers, closed between": (("hchc", f"{other}+{item}", received),
+                                            [(second, NUMBERS, True), (first, second, False)])})
 
     def test_explains_why_a_header_must_erase(self) -> None:
         other = change_subcode(KEEPING_NUMBERS, 1)
         subcode = f"{CLEAR}, though the sub-code changes from 0001 to 0000"
         is_open = f"{CLEAR}, and the page was still open: no header had terminated it"
-        for header, words, expected in (
-                (PageHeader(NUMBERS, other, True), "", ""),
-                (PageHeader(KEEPING_NUMBERS), "", REPEAT_WITHOUT_ERASE),
-                (PageHeader(KEEPING_NUMBERS, KEEPING_NUMBERS), "", REPEAT_WITHOUT_ERASE),
-                (PageHeader(KEEPING_NUMBERS), "--keeping", ""),
-                (PageHeader(NUMBERS, other, True), "--keeping", ""),
-                (PageHeader(KEEPING_NUMBERS, NUMBERS), "--keeping", ""),
-                (PageHeader(KEEPING_NUMBERS, other), "--keeping", subcode),
-                (PageHeader(KEEPING_NUMBERS, other, True), "--keeping", subcode),
-                (PageHeader(KEEPING_NUMBERS, KEEPING_NUMBERS, True), "--keeping", is_open),
-                (PageHeader(KEEPING_NUMBERS, KEEPING_NUMBERS, True), "--keeping --no-complete", ""),
-                (PageHeader(KEEPING_NUMBERS, None, True), "--keeping", is_open)):
-            result = describe_missing_erase(header,
-                                            make_example_request("one.stl", "one.pes",
-                                                                 *words.split()))
-            self.must(f"{header} {words}", result == expected, result)
+        keep = KEEPING_NUMBERS
+        self.check_rows(lambda header, *words: describe_missing_erase(
+            header, make_example_request("one.stl", "one.pes", *words)), {
+            "it erases": ((PageHeader(NUMBERS, other, True),), ""),
+            "the first header": ((PageHeader(keep),), REPEAT_WITHOUT_ERASE),
+            "a repeat": ((PageHeader(keep, keep),), REPEAT_WITHOUT_ERASE),
+            "the first header may keep": ((PageHeader(keep), "--keeping"), ""),
+            "it erases, but may keep": ((PageHeader(NUMBERS, other, True), "--keeping"), ""),
+            "a repeat may keep": ((PageHeader(keep, NUMBERS), "--keeping"), ""),
+            "another sub-code": ((PageHeader(keep, other), "--keeping"), subcode),
+            "another sub-code, open": ((PageHeader(keep, other, True), "--keeping"), subcode),
+            "an open page": ((PageHeader(keep, keep, True), "--keeping"), is_open),
+            "an open page may be": ((PageHeader(keep, keep, True), "--keeping", "--no-complete"),
+                                    ""),
+            "an open page before the first": ((PageHeader(keep, None, True), "--keeping"),
+                                              is_open)})
 
     def test_describes_the_first_wrong_header_of_several(self) -> None:
         good, keeps, german, plain = map(PageHeader, (
             NUMBERS, KEEPING_NUMBERS, bytes([*NUMBERS[:7], 8]), bytes([*NUMBERS[:5], 0, 1, 0])))
         other, clear = "the header is German, but --option is english", "C6 (subtitle) is clear"
-        for headers, words, effect, printed in (
-                ([good, keeps, plain], "", "may appear over old text", REPEAT_WITHOUT_ERASE),
-                ([good, keeps, plain], "--keeping", "hides the picture", clear),
-                ([german, keeps], "", "is shown with wrong characters", other),
-                ([german, plain], "--option german", "hides the picture",
-                 f"{clear}; the header is English, but --option is german"),
-                ([german, keeps, good], "--option german --keeping",
-                 "is shown with wrong characters",
-                 "the header is English, but --option is german"), ([good], "", None, "")):
+        rows: dict[str, tuple[list[PageHeader], str, str | None, str]] = {
+            "one keeps": ([good, keeps, plain], "", "may appear over old text",
+                          REPEAT_WITHOUT_ERASE),
+            "one may keep, one is no subtitle": ([good, keeps, plain], "--keeping",
+                                                 "hides the picture", clear),
+            "one is German": ([german, keeps], "", "is shown with wrong characters", other),
+            "one is no subtitle, and English": (
+                [german, plain], "--option german", "hides the picture",
+                f"{clear}; the header is English, but --option is german"),
+            "two are English": ([german, keeps, good], "--option german --keeping",
+                                "is shown with wrong characters",
+                                "the header is English, but --option is german"),
+            "none is wrong": ([good], "", None, "")}
+        for name, (headers, words, effect, reason) in rows.items():
             request = make_example_request("one.stl", "one.pes", *words.split())
-            self.must(f"{headers} {words}", describe_header_faults(headers, request) == printed and
-                      effect in (None, describe_effect(headers, request)),
-                      describe_effect(headers, request))
+            self.check(f"{name}: reason", describe_header_faults(headers, request), reason)
+            if effect is not None:
+                self.check(f"{name}: effect", describe_effect(headers, request), effect)
 
     def test_reports_a_wrong_c4_bit_first(self) -> None:
-        self.must("may be", describe_control_bits(KEEPING_NUMBERS, "english") == [])
-        result = describe_control_bits(numbers(p5=0), "english", REPEAT_WITHOUT_ERASE)
-        self.must("both", result == [REPEAT_WITHOUT_ERASE, "C6 (subtitle) is clear"], result)
-        for option in OPTIONS:
-            result = describe_control_bits(KEEPING_NUMBERS[:7] + bytes([option.bits << 1]),
-                                           option.word)
-            self.must(option.word, result == [], result)
+        self.check_rows(describe_control_bits, {
+            "allowed": ((KEEPING_NUMBERS, "english"), []),
+            "C4 and C6": ((numbers(p5=0), "english", REPEAT_WITHOUT_ERASE),
+                          [REPEAT_WITHOUT_ERASE, "C6 (subtitle) is clear"]),
+            **{option.word: ((KEEPING_NUMBERS[:7] + bytes([option.bits << 1]), option.word), [])
+               for option in OPTIONS}})
 
 
 class HeaderCounts(Case):
     def test_counts_headers_that_keep_the_page(self) -> None:
-        rows: list[tuple[dict[bytes, int], str, tuple[int, int] | None]] = [
-                ({}, "english", None), ({NUMBERS: 7}, "english", None),
-                ({KEEPING_NUMBERS: 1}, "english", (1, 1)),
-                ({NUMBERS: 7, KEEPING_NUMBERS: 3}, "english", (10, 3)),
-                ({NUMBERS: 7, KEEPING_NUMBERS: 3, change_subcode(KEEPING_NUMBERS, 1): 2}, "english",
-                 (12, 5)),
-                ({NUMBERS: 7, KEEPING_NUMBERS: 3}, "german", None),
-                ({KEEPING_NUMBERS: 3, numbers(p5=0): 1}, "english", None),
-                ({KEEPING_NUMBERS: 3, numbers(p3=8, p6=0): 1}, "english", None)]
-        for headers, option, expected in rows:
-            result = count_keeping_headers(headers, option)
-            self.must(f"{headers} {option}", (result and result[:2]) == expected, result)
+        def count(headers: dict[bytes, int], option: str) -> tuple[int, ...] | None:
+            counted = count_keeping_headers(headers, option)
+            return counted and counted[:2]
+
+        keep, english = KEEPING_NUMBERS, "english"
+        self.check_rows(count, {
+            "no header": (({}, english), None), "all erase": (({NUMBERS: 7}, english), None),
+            "the only one keeps": (({keep: 1}, english), (1, 1)),
+            "three of ten keep": (({NUMBERS: 7, keep: 3}, english), (10, 3)),
+            "two sub-codes": (({NUMBERS: 7, keep: 3, change_subcode(keep, 1): 2}, english),
+                              (12, 5)),
+            "another option": (({NUMBERS: 7, keep: 3}, "german"), None),
+            "one is no subtitle": (({keep: 3, numbers(p5=0): 1}, english), None),
+            "one inhibits the display": (({keep: 3, numbers(p3=8, p6=0): 1}, english), None)})
 
     def test_names_missing_rows(self) -> None:
-        cases: list[tuple[list[int], int | None, int, str]] = [
-                ([], 22, 0, ""), ([22], 22, 0, "row 22"), ([22], None, 0, "row 22"),
-                ([20, 22], 20, 0, "rows 20 and 22"), ([1, 2, 24], 1, 0, "rows 1, 2 and 24"),
-                ([20, 22], 22, 1, "row 22"), ([20, 22], None, 1, "a row"),
-                ([20, 22], 20, 5, "row 20"), ([18, 20, 22], 20, 1, "row 20 and 1 more"),
-                ([18, 20, 22], 20, -1, "rows 18, 20 and 22")]
-        for rows, reported, came, expected in cases:
-            result = describe_omitted_rows(rows, reported, came)
-            self.must(f"{rows} {reported} {came}", result == expected, result)
+        # The arguments are the missing rows, the row of the fault, and how many rows came.
+        self.check_rows(describe_omitted_rows, {
+            "none": (([], 22, 0), ""), "one": (([22], 22, 0), "row 22"),
+            "one, of no known fault": (([22], None, 0), "row 22"),
+            "two": (([20, 22], 20, 0), "rows 20 and 22"),
+            "three": (([1, 2, 24], 1, 0), "rows 1, 2 and 24"),
+            "two, one came": (([20, 22], 22, 1), "row 22"),
+            "two, one came, of no known fault": (([20, 22], None, 1), "a row"),
+            "two, more came": (([20, 22], 20, 5), "row 20"),
+            "three, one came": (([18, 20, 22], 20, 1), "row 20 and 1 more"),
+            "three, fewer than none came": (([18, 20, 22], 20, -1), "rows 18, 20 and 22")})
 
 
 def make_packets_at(frames: Sequence[tuple[int, list[bytes]]]) -> bytes:
