@@ -78,6 +78,8 @@ TRIALS = {
     "a gap as soon as it ends, wrong": AirCaseRow(
         (0, 900), ((660, 680),), SentProgramme(600, 660, False), "not judged", 70, "not recorded: "
         "2026-12-01T08:11:00Z to 2026-12-01T08:11:20Z; of the rest: refused 74"),
+    "a gap long before a late one": AirCaseRow((0, 900), ((610, 620),), SentProgramme(640, 700),
+                                               "relative", 40),
     "a gap in a late one": AirCaseRow((0, 900), ((680, 690),), SentProgramme(640, 700),
                                       "not judged", 70),
     "the feed ends in it": AirCaseRow((0, 640), (), SentProgramme(600, 660), "not judged", 70),
