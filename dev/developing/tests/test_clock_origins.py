@@ -51,28 +51,31 @@ class Origins(Case):
 
     def test_selects_subtitles_by_time_and_number(self) -> None:
         stl = self.stl([(0, 50, b"a"), (60, 60, b"b"), (100, 150, b"c"), (200, 300, b"d")])
-        rows: list[tuple[FrameRange, Sequence[int], list[int]]] = [
-            (ALL_DAY, (), [0, 100, 200]), (FrameRange(0, 100), (), [0]),
-            (ALL_DAY, (1,), [100, 200]),
-            (FrameRange(100, 201), (), [100, 200]), (FrameRange(1, 200), (), [100]),
-            (ALL_DAY, (3, 4), [0])]
-        for between, missing, expected in rows:
-            result = [item.begin
-                      for item in read_subtitles_between(stl, "english", between, missing)]
-            self.must(f"{between} {missing}", result == expected, result)
+        self.check_rows(lambda between, skipped: [
+            item.begin for item in read_subtitles_between(stl, "english", between, skipped)], {
+            "all that last": ((ALL_DAY, ()), [0, 100, 200]),
+            "up to a TCI": ((FrameRange(0, 100), ()), [0]),
+            "without the first": ((ALL_DAY, (1,)), [100, 200]),
+            "up to after a TCI": ((FrameRange(100, 201), ()), [100, 200]),
+            "from after a TCI on": ((FrameRange(1, 200), ()), [100]),
+            "without the last two": ((ALL_DAY, (3, 4)), [0])})
+
+    def test_distinguishes_subtitles_by_text_row_and_justification(self) -> None:
         looks = [item[2:] for row, justify, text in (
             (20, 2, b"a"), (22, 2, b"a"), (20, 1, b"a"), (20, 2, b"b"), (20, 2, b"a"))
-            for item in read_subtitles_between(write_subtitle_file(self, [
-                                                                   (0, 9, make_box_line(text))],
-                                                                   "look.stl", 0, row, justify),
-                                               "english", ALL_DAY, ())]
-        self.must("looks", len({*looks}) == 4 and looks[0] == looks[4] and [
-            letters for _, letters in looks] == [b"a", b"a", b"a", b"b", b"a"], looks)
+            for item in read_subtitles_between(write_subtitle_file(
+                self, [(0, 9, make_box_line(text))], "look.stl", 0, row, justify),
+                "english", ALL_DAY, ())]
+        self.check("different looks", len({*looks}), 4)
+        self.check("equal looks", looks[0], looks[4])
+        self.check("letters", [letters for _, letters in looks], [b"a", b"a", b"a", b"b", b"a"])
+
+    def test_reads_characters_by_the_national_option(self) -> None:
         stl = self.stl([(0, 9, b"\xc8a")])
-        self.must("options",
-                  [read_subtitles_between(stl, option, ALL_DAY, ())[0].letters for option in (
-            "german", "swedish")] == [b"{"] * 2 and read_subtitles_between(
-                stl, "english", ALL_DAY, ())[0].letters != b"{")
+        letters = {option: read_subtitles_between(stl, option, ALL_DAY, ())[0].letters
+                   for option in ("german", "swedish", "english")}
+        self.check("with an a umlaut", (letters["german"], letters["swedish"]), (b"{", b"{"))
+        self.must("without one", letters["english"] != b"{", letters)
 
     def test_reports_that_no_cue_agrees(self) -> None:
         pes = [*self.transmission(5000), make_pes_packet(CLOCK // 2, [])]
@@ -136,16 +139,18 @@ class Origins(Case):
 
     def test_reports_an_ambiguous_origin_of_few_cues(self) -> None:
         item = self.stl([(100, 150, b"Own")])
-        rows: list[tuple[list[bytes], int | None]] = [
-            ([b"Other"], 0), ([b"Other", b"Another"], None), ([b"Own", b"Other"], 0),
-            ([b"Other", b"Own"], 200 * TICKS), ([b"Own", b"Own"], None)]
-        for texts, expected in rows:
+        rows: dict[str, tuple[list[bytes], list[int]]] = {
+            "another text": ([b"Other"], [0]), "two other texts": ([b"Other", b"Another"], []),
+            "the text, then another": ([b"Own", b"Other"], [0]),
+            "another, then the text": ([b"Other", b"Own"], [200 * TICKS]),
+            "the text twice": ([b"Own", b"Own"], [])}
+        for name, (texts, origins) in rows.items():
             pes = schedule_pes(self, self.stl([(200 * at + 100, 200 * at + 150, text)
                                                for at, text in enumerate(texts)], "sent.stl"))
             result = self.find(item, pes)
-            is_told = any("ambiguous" in line for line in result.lines)
-            self.must(f"{texts}", ([part.origin for part in result.parts], is_told) == (
-                [expected][:expected is not None], expected is None), result)
+            self.check(f"{name}: origin", [part.origin for part in result.parts], origins)
+            self.check(f"{name}: ambiguous", any("ambiguous" in line for line in result.lines),
+                       not origins)
         pes = schedule_pes(self, self.stl([(100, 150, b"Other"), (300, 350, b"Own")], "sent.stl"))
         for some, printed in ((pes[2:3], [f"--origin {200 * TICKS}"]), (pes[1:2], [])):
             result = self.find(item, some)
@@ -304,7 +309,7 @@ class Origins(Case):
                       lines)
 
 
-class Tracks(unittest.TestCase):
+class Tracks(Case):
     cues = find_expected_cues([Due(100 * at, 100 * at + 50, at, b"%d" % at) for at in range(1, 7)])
 
     def base(self, changes: dict[int, bytes], within: int = 0) -> TimeBase:
@@ -338,12 +343,16 @@ class Tracks(unittest.TestCase):
 
     def test_a_track_may_follow_only_an_earlier_one(self) -> None:
         base = self.base({})
-        for item, before, frames, expected in (
-                ((0, 0), (0, 0), 1, True), ((0, 0), (0, 0), 0, False), ((0, 5), (0, 0), 5, False),
-                ((0, 5), (0, 0), 6, True), ((0, 0), (0, 5), 1, True), ((1, 9), (0, 0), 1, True),
-                ((0, 0), (1, 9), 99, False)):
-            result = Track(*item, base).may_follow(Track(*before, base), frames)
-            self.assertEqual(result, expected, (item, before, frames))
+        # Time base and start frame of a track and of the one before it, and the frames between.
+        self.check_rows(lambda track, before, frames: Track(*track, base).may_follow(
+            Track(*before, base), frames), {
+            "the same start": (((0, 0), (0, 0), 1), True),
+            "no frame between": (((0, 0), (0, 0), 0), False),
+            "back by as many frames": (((0, 5), (0, 0), 5), False),
+            "back by fewer frames": (((0, 5), (0, 0), 6), True),
+            "a later part of the recording": (((0, 0), (0, 5), 1), True),
+            "a later time base": (((1, 9), (0, 0), 1), True),
+            "an earlier time base": (((0, 0), (1, 9), 99), False)})
 
     def test_needs_five_cues_in_a_row_for_a_track(self) -> None:
         due = {cue.frame: cue.letters for cue in self.cues}
