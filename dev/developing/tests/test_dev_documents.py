@@ -11,15 +11,24 @@ import sys
 import unittest
 from typing import Iterator
 
-from subtitles.air.main import make_judge_parser, make_record_parser
+from subtitles.air.decision import HOUR, MAX_WAIT
+from subtitles.air.judge import HOOK_SECONDS
+from subtitles.air.main import make_judge_parser, make_record_parser, make_status_parser
+from subtitles.air.recorder import MAX_DELETED_SEGMENTS
+from subtitles.air.segments import MAX_SEGMENT_SECONDS
 from subtitles.air.state import PAGE_SILENCE, SILENCE, Monitor
 from subtitles.cli.main import make_parser
-from subtitles.common.command_line import Stop
+from subtitles.cli.state import MIN_FREE_BYTES
+from subtitles.clock.stretches import MIN_BREAK_FRAMES
+from subtitles.common.command_line import BUG_STATUS, MAX_WITHIN, Stop, USAGE_STATUS
 from subtitles.common.program import TOP, read
-from subtitles.common.times import FRAMES_OF_A_DAY, TICKS
+from subtitles.common.times import FRAMES_A_SECOND, FRAMES_OF_A_DAY, TICKS
 from subtitles.formats.listing import LOST_PACKETS
+from subtitles.formats.stl import MAX_STL
 from subtitles.judging.status import NOT_JUDGED, STATUSES, Severity
+from subtitles.recording.recording import MAX_PIPED_BYTES
 from subtitles.results.schema import FORMAT
+from subtitles.stream.proved import MAX_CALLS
 from .. import pages
 from ..definitions import Library
 from ..looks import find_browser
@@ -318,14 +327,38 @@ COMMENT = re.compile(r"//[^\n]*|/\*.*?\*/", re.DOTALL)
 
 
 # Values of the tools that documents state: the document, its words, and the value at {}.
-RECORDER, JUDGE = make_record_parser(), make_judge_parser()
+RECORDER, JUDGE, STATUS = make_record_parser(), make_judge_parser(), make_status_parser()
+NUMBER_WORDS = {2: "two", 5: "five"}
+BREAK_SECONDS = NUMBER_WORDS[MIN_BREAK_FRAMES // FRAMES_A_SECOND]
 STATED: list[tuple[str, str, object]] = [
     ("MANUAL.md", "{:,} ticks (one day)", FRAMES_OF_A_DAY * TICKS),
     ("manual/results.md", "The format number is {}.", FORMAT),
     ("manual/many-pairs.md", "exit status {} is a `failure`", " or ".join(
         f"{status}" for status in sorted({*STATUSES.values()} - {0, STATUSES[NOT_JUDGED]}))),
     ("manual/qc.md", "means all remaining faults except {}:", LOST_PACKETS),
+    ("manual/qc.md", "have status {} for wrong arguments", USAGE_STATUS),
+    ("manual/qc.md", "for wrong arguments and {} for a bug", BUG_STATUS),
+    ("manual/qc.md", "for the next one, at most {} times", MAX_CALLS),
+    ("manual/qc.md", "at least {} seconds, and five consecutive cues", BREAK_SECONDS),
+    ("MANUAL.md", "at least [{} seconds]", BREAK_SECONDS),
+    ("manual/qc.md", "N, from 0 to {}, is the delay in frames", MAX_WITHIN),
+    ("manual/reference.md", "or {:.0f} GB from a pipe", MAX_PIPED_BYTES / 1e9),
+    ("manual/reference.md", "at most {:,} TTI blocks", (MAX_STL - 1024) // 128),
+    ("manual/reference.md", "at most {:,} PES packets", FRAMES_OF_A_DAY),
     ("manual/air.md", "segment files of {} seconds", RECORDER.get_default("length")),
+    ("manual/air.md", "older than {} hours (`--keep`)", RECORDER.get_default("keep")),
+    ("manual/air.md", "less than {} MB of the disk is free (`--free`)",
+     RECORDER.get_default("free")),
+    ("manual/air.md", "deletes at most {} segments for each new one",
+     NUMBER_WORDS[MAX_DELETED_SEGMENTS]),
+    ("manual/air.md", "or {:.0f} minutes after it", MAX_SEGMENT_SECONDS / 60),
+    ("manual/air.md", "has not changed for {} seconds (`--settled`)",
+     JUDGE.get_default("settled")),
+    ("manual/air.md", "more than {:.0f} hours after the programme", (MAX_WAIT - HOUR) / HOUR),
+    ("manual/air.md", "for an hour that {:.0f} hours have passed", MAX_WAIT / HOUR),
+    ("manual/air.md", "less than {:.0f} MB is free", MIN_FREE_BYTES / 1e6),
+    ("manual/air.md", "`--max-age` {} seconds", STATUS.get_default("max_age")),
+    ("manual/air.md", "for at most {} seconds. If `judge` is killed", HOOK_SECONDS),
     ("manual/air.md", "up to {} seconds (`--margin`)", JUDGE.get_default("margin")),
     ("manual/air.md", "more than {} seconds (`--pause`)", JUDGE.get_default("pause")),
     ("manual/air.md", "`OUT/state.json` every {} seconds", JUDGE.get_default("every_seconds")),
