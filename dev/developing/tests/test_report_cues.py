@@ -1,11 +1,12 @@
 """Test the cue list, timeline, refused subtitles and verdict box of a report."""
 from __future__ import annotations
 
+import csv
 from types import SimpleNamespace
 from typing import Any
 
 from developing.stl import make_gsi_block
-from subtitles.common.times import Span, format_frame
+from subtitles.common.times import Span, TICKS, format_frame
 from subtitles.formats.stl import NamedSubtitle, Subtitle, SubtitleFile
 from subtitles.judging.causes import Cause, LATE, NEVER, NOT_RECEIVED, UNKNOWN_CAUSE, WRONG_TEXT
 from subtitles.judging.cues import Cue, CueJudge, CueVerdict, add_decoded_page
@@ -18,7 +19,9 @@ from subtitles.report.page import SHAPES, keep_options_together
 from subtitles.stream.packets import Packets, PES
 from subtitles.stream.receiver import BLANK_PAGE, Rows, Timeline
 from .bench import Case
+from .judged import ProgrammeCase, judge_files
 from .parts import make_answer, make_part, markup_text, parse_single_fault
+from .transmissions import delay_subtitle, join_pes_packets
 from .test_judging_status import make_severity
 
 
@@ -68,6 +71,52 @@ class ActualCues(Case):
                   for place, item in enumerate(subtitles)]
         self.must("times",
                   [(item.begin, item.end) for item in result] == [(100, 200), (200, 300)], result)
+
+
+class ActualTimes(ProgrammeCase):
+    def test_subtitles_outside_the_recording_have_no_actual_times(self) -> None:
+        for first, end in ((0, 20), (0, 21), (20, None), (21, None), (12, 25)):
+            sent, name = self.sent[first:end], f"PES packets {first} to {end}"
+            begin, last = (sent[at][0] // TICKS for at in (0, -1))
+            rows = self.judge(sent).result["subtitles"]
+            self.check(f"{name}: times", [(row["actual_in"], row["actual_out"]) for row in rows], [
+                (format_frame(tci) if begin <= tci <= last else None,
+                 format_frame(tco) if begin < tco <= last else None) for tci, tco in self.due])
+            self.check(f"{name}: right", [row["position"] for row in rows
+                                          if row["verdict"] == "right"],
+                       [number for number, (tci, tco) in enumerate(self.due, 1)
+                        if begin <= tci and tco <= last + 1])
+
+    def test_gives_the_actual_times_of_a_moved_subtitle(self) -> None:
+        for name, by in (("late", 3), ("early", -3)):
+            rows = self.judge(delay_subtitle(3, by)(self.sent)).result["subtitles"]
+            self.check(name, [(row["actual_in"], row["actual_out"], row["verdict"])
+                              for row in rows], [
+                (format_frame(tci + by * (number == 3)), format_frame(tco),
+                 "wrong" if number == 3 else "right")
+                for number, (tci, tco) in enumerate(self.due, 1)])
+
+    def read_csv(self, *args: str) -> tuple[dict[str, Any], list[dict[str, str]]]:
+        """Judge a pair. Return the JSON result, and the rows of the CSV file."""
+        result = judge_files(self, self.stl, *args, "--csv", self.path("one.csv")).result
+        with open(self.path("one.csv"), encoding="utf-8", newline="") as file:
+            return result, [*csv.DictReader(file)]
+
+    def test_writes_a_csv_row_for_the_pair_and_each_subtitle(self) -> None:
+        late = [(pts + 3 * TICKS * (pts == 300 * TICKS), some) for pts, some in self.sent]
+        result, (pair, *rows) = self.read_csv(
+            self.write("one.pes", join_pes_packets(late)), "--origin", "0")
+        self.check("pair", (pair["position"], pair["verdict"], pair["reason"]),
+                   ("", "refused", result["sentence"]))
+        self.check("subtitles", [{name: row[name] for name in result["subtitles"][0]}
+                                 for row in rows],
+                   [{name: "" if value is None else str(value) for name, value in row.items()}
+                    for row in result["subtitles"]])
+
+    def test_writes_a_csv_row_with_the_reason(self) -> None:
+        result, rows = self.read_csv(self.write("empty.pes", b""))
+        self.check("rows", [(row["verdict"], row["reason"]) for row in rows],
+                   [("not judged", result["reason"])])
 
 
 def make_list(faults: list[str], trusted: list[tuple[int, int]]) -> list[str]:
