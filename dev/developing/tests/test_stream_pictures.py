@@ -221,6 +221,11 @@ class DepartureFaults(Case):
         for source, expected in ((GIVEN, [None, 9, 9, None]), (START, [9, 9, 9, 9, None])):
             departures = find_departures(several, TimedPart(1000, 2000, Clock(0, source)))
             self.check(source, [item.ticks for item in departures], expected)
+        for behind, both in ((1500, [9, -9]), (2500, [])):
+            pair = [Departure(TICKS * 990, TICKS * 989, 9, is_away=True),
+                    Departure(TICKS * behind, TICKS * (behind - 1), -9)]
+            self.check(f"back at {behind}", [item.ticks for item in find_departures(
+                pair, TimedPart(1000, 2000, Clock(0, GIVEN)))], both)
 
     def test_notes_a_missing_usual_step(self) -> None:
         chance = random.Random(1)
@@ -237,27 +242,33 @@ class DepartureFaults(Case):
 
 class Pairs(Case):
     def test_reports_departures_of_recordings(self) -> None:
-        stl = write_programme(self, subtitle_times(20))
+        times = subtitle_times(20)
+        stl = write_programme(self, times)
         pes = schedule_pes(self, stl, "--every", "10")
         begin, end = decode_pts(pes[0]) // TICKS - 25, decode_pts(pes[-1]) // TICKS + 25
-        rows: list[tuple[int, list[str], str, str]] = [
-            (0, [], "accepted", ""), (12, [], "refused", "12 frames early"),
-            (-3, [], "refused", "3 frames late"), (-3, ["--within", "3"], "accepted",
-                                                   "3 frames late")]
-        for frames, words, word, way in rows:
-            programme = Programme({TELETEXT_PID: pes}, TICKS * begin,
-                                  later=[(1500, TICKS * frames)])
+        tci, tco = times[10][0], times[-1][1]
+        # Each row has the frames at which the pictures leave and may come back, and by how much.
+        rows: list[tuple[str, list[int], float, str]] = [
+            ("", [], 0, "accepted"), ("", [begin + 1500], 12, "refused"),
+            ("", [begin + 1500], -3, "refused"), ("--within 3", [begin + 1500], -3, "accepted"),
+            *(("", [tco - ahead], frames, "refused")
+              for ahead, frames in ((12, 10), (20, -0.5), (30, -10))),
+            *(("", [tci - 3, tci + 3], frames, "refused") for frames in (10, -10, 0.5)),
+            ("", [tco + 1], -10, "accepted")]
+        for words, places, frames, word in rows:
+            programme = Programme({TELETEXT_PID: pes}, TICKS * begin, later=[
+                (place - begin, round(TICKS * frames) * (-1) ** at)
+                for at, place in enumerate(places)])
             path = self.write("one.ts", multiplex_programmes([programme], end - begin).data)
-            judged_pair = judge_files(self, stl, path, "--origin", "0", *words)
-            line = f" on, subtitles are {way} for viewers: the video's timestamps jump"
-            self.must(f"{frames} {words}", judged_pair.word == word and (not way or any(
-                line in item for item in judged_pair.said)), judged_pair.said)
-            # within a second
-            several = [format_frame(begin + 1500 + frame) for frame in range(-25, 26)]
-            self.must(f"{frames} {words}: line", word == "accepted"
-                      or judged_pair.result["line"] in [
-                f"refused pictures left frame {time}" for time in several],
-                      judged_pair.result["line"])
+            judged_pair = judge_files(self, stl, path, "--origin", "0", *words.split())
+            name = f"{words} {places} {frames}"
+            self.check(name, judged_pair.word, word)
+            if frames and places[0] < tco:
+                last = f"to {format_frame(places[1] - 1)}" if places[1:] else "on"
+                self.must(f"{name}: text", any(
+                    f"from {format_frame(places[0])} {last}, subtitles are {abs(frames)} frames "
+                    f"{'early' if frames > 0 else 'late'} for viewers: the video's timestamps jump"
+                    in item for item in judged_pair.said), judged_pair.said)
 
 
 class AnnouncedJumps(Case):

@@ -2,7 +2,9 @@
 from __future__ import annotations
 
 from subtitles.common.times import CLOCK, TICKS, subtract_pts
-from subtitles.stream.pictures import VideoLead, locate_departures
+from subtitles.judging.desync import has_own_clock
+from subtitles.stream.pictures import (
+    Departure, VideoLead, locate_departures, separate_clock_jumps)
 from subtitles.stream.steps import (
     ALIKE_TICKS, MAX_REORDER_TICKS, StepRange, UnusualStep, find_unusual_steps, measure_reordering)
 from .bench import Case
@@ -25,7 +27,7 @@ def list_step_ranges(times: list[int]) -> list[StepRange]:
     for at, (before, time) in enumerate(zip(times, [*times[1:], begin]), 2):
         if at <= len(times):
             steps.append((subtract_pts(before, time), at))
-        if at > len(times) or not 0 <= subtract_pts(begin, time) < SECOND:
+        if steps and (at > len(times) or not 0 <= subtract_pts(begin, time) < SECOND):
             least, most = (pick(steps, key=lambda row: row[0]) for pick in (min, max))
             is_new = not ranges or any(abs(new - old) >= ALIKE_TICKS for new, old in (
                 (least[0], ranges[-1].least), (most[0], ranges[-1].most)))
@@ -35,11 +37,13 @@ def list_step_ranges(times: list[int]) -> list[StepRange]:
     return ranges
 
 
-def survey_times(times: list[int]) -> tuple[list[VideoLead], list[UnusualStep], list[StepRange]]:
-    """Return a lead for every 25th picture, 6 frames before regular Teletext, and the steps."""
+def survey_times(times: list[int], jitter: int = 0) \
+        -> tuple[list[VideoLead], list[UnusualStep], list[StepRange]]:
+    """Return a lead for every 25th picture, 6 frames before regular Teletext, and the steps. Every
+    second lead is greater by `jitter` frames."""
     leads = []
     for at in range(1, len(times), 25):
-        pts = (at * TICKS + CLOCK - 93 * TICKS) % CLOCK
+        pts = (at * TICKS + CLOCK - (93 - at // 25 % 2 * jitter) * TICKS) % CLOCK
         leads.append(VideoLead(pts, subtract_pts(times[at - 1], pts), at))
     ranges = list_step_ranges(times)
     return leads, find_unusual_steps(ranges, len(times)), ranges
@@ -57,13 +61,60 @@ class Steps(Case):
                             [(content(203), 36000), (content(223), -36000)]),
             "20 pictures, across a lead": ({215: 36000, 235: -36000},
                                            [(content(215), 36000), (content(235), -36000)]),
+            "half a frame": ({203: 1800, 223: -1800},
+                             [(content(203), 1800), (content(223), -1800)]),
+            "60 pictures": ({203: -36000, 263: 36000},
+                            [(content(203), -36000), (content(263), 36000)]),
+            "two pictures": ({210: 36000, 212: -36000}, [(content(212), None)]),
             "one picture": ({210: 36000, 211: -36000}, [(content(211), None)]),
             "one frame": ({203: 3600, 223: -3600}, [(content(223), None)]),
+            "a step between": ({203: 36000, 213: 7200, 223: -36000},
+                               [(content(226) + 6 * TICKS, 7200)]),
             "after the last lead": ({490: 36000}, [(content(490), None)])}
         for name, (moves, expected) in rows.items():
-            leads, unusual, _ = survey_times(make_times(moves))
-            places = locate_departures(leads, unusual) or []
-            self.check(name, [(place.pts, place.ticks) for place in places], expected)
+            self.check(name, self.locate(*survey_times(make_times(moves))[:2]), expected)
+
+    def locate(self, leads: list[VideoLead], unusual: list[UnusualStep],
+               has_clock: bool = True) -> list[tuple[int, int | None]]:
+        """Return the places of departures and their sizes, if Teletext `has_clock` of its own."""
+        jumps = separate_clock_jumps(leads, unusual, lambda several: has_clock)
+        return [(place.pts, place.ticks) for place in [
+            *jumps.departures, *(locate_departures(jumps.leads, jumps.steps) or [])]]
+
+    def test_needs_few_leads_if_lost_pictures_do_not_explain_a_step(self) -> None:
+        for ticks, sure in ((-10800, -10800), (-1800, -1800), (-5400, -5400), (-3600, None),
+                            (1800, None), (3600, None)):
+            leads, unusual, _ = survey_times(make_times({450: ticks}), jitter=2)
+            for has_clock in (True, False):
+                self.check(f"{ticks} {has_clock}", [size for _, size in self.locate(
+                    leads, unusual, has_clock)], [sure if has_clock else None])
+        leads, unusual, _ = survey_times(make_times(dict.fromkeys(range(210, 240), -1800)))
+        self.check("30 steps of half a frame", separate_clock_jumps(
+            leads, unusual, lambda several: True).departures, [])
+
+    def test_the_teletext_shows_its_own_clock(self) -> None:
+        def departures(*places: int, ticks: int = -10 * TICKS) -> list[Departure]:
+            return [Departure(TICKS * at, 0, ticks if way == 0 else -ticks)
+                    for way, at in enumerate(places)]
+        each = [TICKS * at for at in range(200)]
+        both = [pts - 10 * TICKS * (pts >= TICKS * 100) for pts in each]
+        half = [pts - TICKS // 2 * (pts >= TICKS * 100) for pts in each]
+        single, pair = departures(100), departures(100, 120)
+        by_half = departures(100, ticks=-TICKS // 2)
+        rows: dict[str, tuple[list[Departure], list[int], list[int], bool]] = {
+            "each frame": (single, each, [], True), "each frame, a pair": (pair, each, [], True),
+            "both jump": (single, both, [], False),
+            "each 25th frame": (single, each[::25], [], False),
+            "none": (single, [], [], False),
+            "a change behind": (single, [], [TICKS * 150], True),
+            "a change before": (single, [], [TICKS * 50], False),
+            "a change within": (pair, [], [TICKS * 110], True),
+            "a change behind a pair": (pair, [], [TICKS * 120], False),
+            "half a frame": (by_half, each[::25], [], True),
+            "both by half a frame": (by_half, half, [TICKS * 150], False),
+            "half a frame, none": (by_half, [], [TICKS * 150], False)}
+        for name, (several, sent, changes, expected) in rows.items():
+            self.check(name, has_own_clock(several, sent, changes), expected)
 
     def test_several_steps_may_be_usual(self) -> None:
         for name, steps in {"25, then 50": [3600] * 200 + [1800] * 200,
@@ -75,4 +126,6 @@ class Steps(Case):
         ranges = [StepRange(3600, 2, 3600, 2)]
         pictures: list[int | None] = [7200, 18000, 10800, None]
         self.check("B pictures", measure_reordering(pictures, 0, ranges, 0, 1), 14400)
+        self.check("I P B B P B B", measure_reordering(
+            [TICKS * at for at in (1, 4, 2, 3, 7, 5, 6)], 0, ranges, 0, 1), TICKS)
         self.check("unknown", measure_reordering(pictures, 0, [], 0, 1), MAX_REORDER_TICKS)

@@ -2,23 +2,23 @@
 from __future__ import annotations
 
 import statistics
-from typing import Iterator, NamedTuple, Sequence
+from typing import Callable, Iterator, NamedTuple, Sequence
 
 from ..clock.start import START, TCP, TimedPart
 from ..common.command_line import counted
 from ..common.times import TICKS, format_frame, pts_of, subtract_pts, subtract_pts_within, wrap_pts
 from ..formats.listing import NamedFault, PICTURES_LEFT
 from ..stream.pictures import (
-    Departure, VideoLead, locate_changes_of_video, locate_departures)
-from ..stream.steps import are_in_order, find_unusual_steps, measure_reordering
+    Departure, VideoLead, locate_changes_of_video, locate_departures, separate_clock_jumps)
+from ..stream.steps import ALIKE_TICKS, are_in_order, find_unusual_steps, measure_reordering
 from ..stream.survey import Survey
 from .unchecked import Unchecked, find_unchecked, make_irregular_video, make_unclear_places
 
 
 # Viewers notice if subtitles and pictures drift apart, but the Teletext PTS do not show the drift.
 
-MIN_WITHIN = 2  # minimum number of different Teletext PTS within a short departure
-NEAR_TICKS = 90_000  # Teletext within this time of a short departure must have regular PTS
+MIN_WITHIN = 2  # minimum number of different Teletext PTS after a jump that show their clock
+NEAR_TICKS = 90_000  # Teletext within this time of a jump must have regular PTS
 
 
 class DesyncFindings(NamedTuple):
@@ -32,9 +32,10 @@ class DesyncFindings(NamedTuple):
 
 
 def find_desync(survey: Survey, pid: int, alignment: TimedPart, within: int, number: int,
-                sent: Sequence[int] = ()) -> DesyncFindings:
+                sent: Sequence[int] = (), changes: Sequence[int] = ()) -> DesyncFindings:
     """Find where pictures drift from the subtitles on the Teletext PID `pid`, in part `number`.
-    `sent` has the PTS of the judged PES packets."""
+    `sent` has the PTS of the judged PES packets, and `changes` the PTS at which subtitles changed,
+    if all did at their expected time."""
     kinds = {pid for programme in survey.find_programmes(pid) for pid in programme.kinds}
     by_video = {video: leads for (own, video), leads in survey.leads.items()
                 if own == pid and video in kinds}
@@ -42,7 +43,8 @@ def find_desync(survey: Survey, pid: int, alignment: TimedPart, within: int, num
     faults, notes, unclear = list[NamedFault](), list[str](), list[Departure]()
     unchecked = [*find_unchecked(survey, pid, by_video, alignment, sent, number)] if sent else []
     for video, leads in by_video.items():
-        departure_places = locate_video_departures(survey, video, leads, sent)
+        departure_places = locate_video_departures(
+            survey, video, leads, lambda several: has_own_clock(several, sent, changes))
         inside = find_departures(departure_places or [], alignment)
         departed = [departure for departure in inside if departure.ticks]
         faults += make_desync_faults(departed, alignment, within, number)
@@ -56,16 +58,19 @@ def find_desync(survey: Survey, pid: int, alignment: TimedPart, within: int, num
 
 
 def locate_video_departures(survey: Survey, video: int, leads: Sequence[VideoLead],
-                            sent: Sequence[int]) -> list[Departure] | None:
+                            has_own_clock: Callable[[Sequence[Departure]], bool]) \
+        -> list[Departure] | None:
     """Return the places where the delay between a video PID and Teletext changes or may change.
     Return `None` if most decoding times are irregular."""
     ranges, count = survey.steps.get(video, []), leads[-1].number
     if not are_in_order(ranges, count):
         return None
-    places = locate_departures(leads, find_unusual_steps(ranges, count))
+    jumps = separate_clock_jumps(leads, find_unusual_steps(ranges, count), has_own_clock)
+    places = locate_departures(jumps.leads, jumps.steps)
     margin = find_reordering(survey, video, leads[0])
-    return None if places is None else [item._replace(margin=min(item.margin, margin))
-                                        for item in doubt_short_departures(places, sent)]
+    return None if places is None else sorted(
+        (item._replace(margin=min(item.margin, margin)) for item in [*jumps.departures, *places]),
+        key=lambda departure: subtract_pts(leads[0].pts, departure.pts))
 
 
 def find_reordering(survey: Survey, video: int, lead: VideoLead) -> int:
@@ -76,41 +81,61 @@ def find_reordering(survey: Survey, video: int, lead: VideoLead) -> int:
                               lead.number)
 
 
-def doubt_short_departures(several: Sequence[Departure], sent: Sequence[int]) -> list[Departure]:
-    """Set `ticks` to `None` where pictures leave and come back, unless the Teletext PTS show that
-    only the pictures do: some belong to these pictures, and the PTS never go back, and are closer
-    together than the pictures leave."""
-    result = [*several]
-    short = [at for at, item in enumerate(several) if item.is_short]
-    for away, back in zip(short[::2], short[1::2]):
-        length = subtract_pts(several[away].pts, several[back].pts)
-        places = [at for at, pts in enumerate(sent) if -NEAR_TICKS
-                  < subtract_pts(several[away].pts, pts) < length + NEAR_TICKS]
-        near = sent[places[0]:places[-1] + 1] if places else []
-        steps = [step for step in map(subtract_pts, near, near[1:]) if step]
-        within = {pts for pts in near if 0 <= subtract_pts(several[away].pts, pts) < length}
-        if len(within) < MIN_WITHIN or min(steps) < 0 or \
-                statistics.median(steps) >= abs(several[away].ticks or 0):
-            for at in (away, back):
-                result[at] = several[at]._replace(ticks=None)
-    return result
+def has_own_clock(several: Sequence[Departure], sent: Sequence[int],
+                  changes: Sequence[int]) -> bool:
+    """Return whether the Teletext clock does not jump where pictures leave, and may come back.
+
+    If pictures leave by whole frames, it is sure if a subtitle changes at its expected time after
+    the jump, or if the PTS never go back and are closer together than the jump is long. If they
+    leave by a fraction of a frame, it is sure if no PTS is a fraction of a frame off.
+    """
+    begin, ticks = several[0].pts, several[0].ticks or 0
+    length = subtract_pts(begin, several[1].pts) if len(several) > 1 else None
+    places = [at for at, pts in enumerate(sent) if -NEAR_TICKS
+              < subtract_pts(begin, pts) < (length or 0) + NEAR_TICKS]
+    near = sent[places[0]:places[-1] + 1] if places else []
+    within = {pts for pts in near if 0 <= subtract_pts(begin, pts) < (length or NEAR_TICKS)}
+    if measure_fraction(ticks) >= ALIKE_TICKS:
+        return bool(within) and all(
+            measure_fraction(subtract_pts(near[0], pts)) < ALIKE_TICKS // 2 for pts in near)
+    later = [subtract_pts(begin, pts) for pts in changes]
+    if any(time >= 0 and (length is None or time < length) for time in later):
+        return True
+    steps = [step for step in map(subtract_pts, near, near[1:]) if step]
+    return len(within) >= MIN_WITHIN and min(steps) >= 0 and statistics.median(steps) < abs(ticks)
+
+
+def measure_fraction(ticks: int) -> int:
+    """Return the ticks to the nearest whole number of frames."""
+    return abs(ticks - TICKS * round(ticks / TICKS))
 
 
 def find_departures(several: Sequence[Departure], alignment: TimedPart) -> list[Departure]:
     """Return the drifts within a part and, if the clock comes from the first picture, between this
-    picture and the part. If a drift may be outside the part, its `ticks` are `None`."""
+    picture and the part. Also return a drift before the part if pictures come back within it. If
+    another drift may be outside the part, its `ticks` are `None`."""
+    places, found = [is_within(departure, alignment) for departure in several], list[Departure]()
+    for departure, here, later in zip(several, places, [*places[1:], False]):
+        if departure.is_away and later or here:
+            found.append(departure)
+        elif here is None:
+            found.append(departure._replace(ticks=None))
+    return found
+
+
+def is_within(departure: Departure, alignment: TimedPart) -> bool | None:
+    """Return whether pictures drift within a part, or between the picture that gives the clock and
+    the part. Return `None` if it is unclear."""
     first = pts_of(alignment.begin, alignment.origin)
     length = TICKS * (alignment.end - alignment.begin)
     is_of_picture = alignment.clock.source in (START, TCP)
-    found = []
-    for departure in several:
-        at, begin_ticks = (subtract_pts_within(first, length, pts)
-                           for pts in (departure.pts, departure.earlier_pts))
-        if begin_ticks - departure.ahead < length and (at + departure.margin >= 0 or is_of_picture):
-            is_inside = at + departure.margin < length and (
-                at >= 0 and begin_ticks >= 0 or is_of_picture)
-            found.append(departure if is_inside else departure._replace(ticks=None))
-    return found
+    at, begin_ticks = (subtract_pts_within(first, length, pts)
+                       for pts in (departure.pts, departure.earlier_pts))
+    if begin_ticks - departure.ahead >= length or at + departure.margin < 0 and not is_of_picture:
+        return False
+    is_surely_within = at + departure.margin < length and (
+        at >= 0 and begin_ticks >= 0 or is_of_picture)
+    return is_surely_within or None
 
 
 class Desync(NamedTuple):

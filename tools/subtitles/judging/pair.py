@@ -411,7 +411,7 @@ class PairJudge:
         self.compare_packets(part)
         self.refuse_adjoining_cut(part)
         self.verdict.parts.append(part)
-        self.check_pictures(part)
+        self.check_pictures(part, own)
         part = self.explain(part)
         self.verdict.parts[-1] = part
         self.add_part_warnings(part, subtitles)
@@ -462,12 +462,15 @@ class PairJudge:
                 OUTSIDE, f"whether survey read PES packets {number} to {pes[1]} as the proved "
                 "command packets does, since many before them are refused", part.number))
 
-    def check_pictures(self, part: Part) -> None:
+    def check_pictures(self, part: Part, subtitles: Sequence[Subtitle]) -> None:
         """Add a fault for each interval in which the pictures drift from the subtitles."""
         recording, alignment = part.judged_recording
+        are_on_time = not (part.is_refused or part.request.within or part.request.late)
+        changes = [pts_of(frame, alignment.origin) for item in subtitles
+                   for frame in (item.begin, item.end)] if are_on_time else []
         faults, notes, unchecked, is_made = find_desync(
             recording.survey, recording.packets.pid, alignment, part.request.within, part.number,
-            part.list_pts())
+            part.list_pts(), changes)
         self.verdict.named_faults += faults
         self.verdict.unchecked += unchecked
         self.verdict.made_checks |= {(PICTURES, part.number)} if is_made else set()

@@ -5,10 +5,11 @@ import bisect
 import itertools
 import math
 import statistics
-from typing import Iterable, Mapping, NamedTuple, Sequence
+from typing import Callable, Iterable, Mapping, NamedTuple, Sequence
 
 from ..common.times import TICKS, subtract_pts, wrap_pts
-from .steps import ALIKE_TICKS, MAX_REORDER_TICKS, UnusualStep
+from .steps import (
+    ALIKE_TICKS, MAX_REORDER_TICKS, MIN_PICTURES, UnusualStep, find_clock_steps)
 
 
 # Once a second `survey` prints the lead of Teletext: its PTS minus the decoding time of the last
@@ -17,8 +18,8 @@ from .steps import ALIKE_TICKS, MAX_REORDER_TICKS, UnusualStep
 # drift: viewers see later subtitles early or late. If the lead stays the same, pictures were lost,
 # or both clocks were reset. If the lead changes without a step, the multiplexer changes its delay.
 #
-# Pictures may leave and come back between two leads. Then only the unusual steps of the decoding
-# times show it (see steps.py).
+# A step that lost pictures do not explain is enough, if the Teletext PTS do not jump too (see
+# steps.py). The leads are compared without these steps.
 #
 # Leads vary, because a multiplexer sends Teletext before or after a picture. So the mean leads
 # before and after a step are compared, with their standard error. If there are enough leads, their
@@ -34,8 +35,6 @@ SIGNIFICANT_ERRORS = 2.5  # number of standard errors that a difference of means
 # in another way.
 MIN_TREND_LEADS = 60  # minimum number of leads without a step to look for a steady change
 MIN_TREND_TICKS = TICKS
-MIN_SHORT_PICTURES = 3  # fewer pictures with other times may be damaged times
-MIN_SHORT_TICKS = TICKS * 3 // 2  # a picture lost and another sent twice look like one frame
 MIN_TREND_SHARE = 0.95  # minimum share of the variance that a straight line explains
 
 
@@ -60,10 +59,73 @@ class Departure(NamedTuple):
     ticks: int | None
     change: int = 0
     margin: int = 0
-    is_short: bool = False  # whether the pictures are back before `survey` prints two leads
+    is_away: bool = False  # whether the next departure surely leads back
     # Ticks by which the first picture that may drift belongs before `earlier_pts`, since video is
     # sent earlier or later than Teletext with the same PTS
     ahead: int = 0
+
+
+class ClockJumps(NamedTuple):
+    """The departures where the video's clock surely jumps, the leads as they would be without them,
+    and the other unusual steps."""
+
+    departures: list[Departure]
+    leads: Sequence[VideoLead]
+    steps: Sequence[UnusualStep]
+
+
+def separate_clock_jumps(leads: Sequence[VideoLead], unusual: Sequence[UnusualStep],
+                         has_own_clock: Callable[[Sequence[Departure]], bool]) -> ClockJumps:
+    """Find the unusual steps that only a jump of the video's clock explains. `has_own_clock`
+    returns whether the Teletext PTS show that only the video jumps."""
+    departures, rest = list[Departure](), [*unusual]
+    numbers = [lead.number for lead in leads]
+    for steps in find_clock_steps(unusual, leads[-1].number):
+        at = bisect.bisect_left(numbers, steps[0].number)
+        end = bisect.bisect_left(numbers, steps[-1].number + MIN_PICTURES)
+        if not 0 < at <= end < len(leads) or not are_all_steps_known(
+                leads[at - 1], leads[end], rest, steps[0].usual):
+            continue
+        size = measure_jump(leads, at, steps[0], unusual) if len(steps) == 1 else steps[0].ticks
+        found = [make_departure(leads[at - 1], step, ticks)
+                 for step, ticks in zip(steps, (size, steps[-1].ticks))]
+        found[0] = found[0]._replace(is_away=len(steps) > 1)
+        if not has_own_clock(found):
+            continue
+        departures += found
+        rest = [step for step in rest if step not in steps]
+        leads = [lead._replace(ticks=lead.ticks + sum(
+            departure.ticks or 0 for step, departure in zip(steps, found)
+            if step.number <= lead.number)) for lead in leads]
+    return ClockJumps(departures, leads, rest)
+
+
+def are_all_steps_known(before: VideoLead, after: VideoLead, unusual: Sequence[UnusualStep],
+                        usual: int) -> bool:
+    """Return whether the decoding times advance between two leads as the number of pictures and the
+    unusual steps say. `survey` prints only two steps of a second."""
+    ticks = subtract_pts(wrap_pts(before.pts - before.ticks), wrap_pts(after.pts - after.ticks))
+    known = sum(step.ticks for step in unusual if before.number < step.number <= after.number)
+    return abs(ticks - usual * (after.number - before.number) - known) < ALIKE_TICKS
+
+
+def measure_jump(leads: Sequence[VideoLead], at: int, step: UnusualStep,
+                 unusual: Sequence[UnusualStep]) -> int:
+    """Return the ticks by which pictures drift at a step before the lead with index `at`. They are
+    those of the step, unless the leads surely show that pictures were lost there too."""
+    end = min((other.number for other in unusual if other.number > step.number),
+              default=leads[-1].number + 1)
+    before = [lead.ticks for lead in leads[:at]][-SAMPLE_SIZES[-1]:]
+    after = [lead.ticks for lead in leads[at:] if lead.number < end][:SAMPLE_SIZES[-1]]
+    if not after:
+        return step.ticks
+    mean_change, error = compare_means(before, after, compute_typical_step([before, after]))
+    is_lost = step.ticks + mean_change - error >= step.usual / 2
+    return -round_to_half_frames(mean_change) if is_lost else step.ticks
+
+
+def round_to_half_frames(ticks: float) -> int:
+    return TICKS // 2 * round(ticks * 2 / TICKS)
 
 
 def locate_departures(leads: Sequence[VideoLead], unusual: Sequence[UnusualStep] = ()) \
@@ -116,9 +178,8 @@ def find_departures_between_rows(leads: Sequence[VideoLead], steps: Sequence[int
             departures.append(Departure(leads[end].pts, leads[at - 1].pts, left,
                                         ahead=max(leads[at - 1].ticks, 0)))
         elif left is None or has_return(here):
-            departures += find_short_departure(leads, at, here, between, before) or [
-                make_unclear_departure(leads[at - 1], leads[end], here,
-                                       measure_least_change(before, row, typical_step))]
+            departures.append(make_unclear_departure(
+                leads[at - 1], leads[end], here, measure_least_change(before, row, typical_step)))
         before, between, ticks = row, [], 0
     return departures
 
@@ -136,11 +197,9 @@ def find_departures_in_rows(leads: Sequence[VideoLead], ends: Sequence[int],
         before = [lead.ticks for lead in leads[bounds[row_at]:at]]
         after = [lead.ticks for lead in leads[at:bounds[row_at + 1]]]
         change = measure_least_change(before, after, typical_step) if before and after else 0
-        is_back = change < TICKS // 2
-        if is_back and min(here, key=get_ticks).ticks > 0:
+        if change < TICKS // 2 and min(here, key=get_ticks).ticks > 0:
             continue  # the times of pictures are missing
-        departures += is_back and find_short_departure(leads, at, here) or [
-            make_unclear_departure(leads[at - 1], leads[at], here, change)]
+        departures.append(make_unclear_departure(leads[at - 1], leads[at], here, change))
     return departures
 
 
@@ -173,12 +232,10 @@ def get_ticks(step: UnusualStep) -> int:
     return step.ticks
 
 
-def make_departure(lead: VideoLead, step: UnusualStep, ticks: int | None,
-                   is_short: bool = False) -> Departure:
+def make_departure(lead: VideoLead, step: UnusualStep, ticks: int | None) -> Departure:
     """Return a departure at a step that comes after a lead, or shortly before it."""
     pts = wrap_pts(lead.pts - lead.ticks + (step.number - lead.number) * step.usual)
-    return Departure(pts, wrap_pts(pts - step.usual), ticks, 0, MAX_REORDER_TICKS,
-                     is_short)
+    return Departure(pts, wrap_pts(pts - step.usual), ticks, 0, MAX_REORDER_TICKS)
 
 
 def find_departures_at_edges(leads: Sequence[VideoLead],
@@ -186,23 +243,6 @@ def find_departures_at_edges(leads: Sequence[VideoLead],
     """Return the steps before the first lead and after the last, where no leads can be compared."""
     return [make_departure(leads[at - 1 if at else 0], step, None)
             for at, steps in inside.items() if leads and at in (0, len(leads)) for step in steps]
-
-
-def find_short_departure(leads: Sequence[VideoLead], at: int, steps: Sequence[UnusualStep],
-                         between: Iterable[int] = (), before: Sequence[int] = ()) \
-        -> list[Departure]:
-    """Return the two places where pictures leave and come back, or an empty list if it is unclear
-    what happens there. `at` is the index of the lead after the first step."""
-    if len(steps) != 2:
-        return []
-    away, back = steps
-    if back.number - away.number < MIN_SHORT_PICTURES or abs(away.ticks) < MIN_SHORT_TICKS \
-            or not away.is_sure or abs(away.ticks + back.ticks) >= ALIKE_TICKS:
-        return []
-    if before and any(abs(lead - statistics.fmean(before) + away.ticks) >= TICKS // 2
-                      for lead in between):
-        return []
-    return [make_departure(leads[at - 1], step, step.ticks, True) for step in steps]
 
 
 def find_step_places(steps: Sequence[int]) -> list[int]:
@@ -309,7 +349,7 @@ def measure_departure(before: Sequence[int], after: Sequence[int], step: int,
     change of a lead. Return 0 if the leads stay the same, the step if they change by the step, and
     the change of the leads if pictures were lost too. Return `None` if the drift is unclear.
     """
-    limit, half_frame = min(abs(step) or TICKS, TICKS) / 2, TICKS // 2
+    limit = min(abs(step) or TICKS, TICKS) / 2
     for most in SAMPLE_SIZES:
         old, new = before[-most:], after[:most]
         mean_change, error = compare_means(old, new, typical_step)
@@ -322,5 +362,5 @@ def measure_departure(before: Sequence[int], after: Sequence[int], step: int,
             if abs(step + mean_change) <= min(limit + error, abs(step) / 4):
                 return step
             if 0 <= step + mean_change <= abs(mean_change) / 2:
-                return -half_frame * round(mean_change / half_frame)
+                return -round_to_half_frames(mean_change)
     return None

@@ -1,6 +1,7 @@
 """Find unusual steps between the decoding times of pictures."""
 from __future__ import annotations
 
+import math
 import statistics
 from typing import NamedTuple, Sequence
 
@@ -12,6 +13,9 @@ from ..common.times import TICKS, subtract_pts
 
 ALIKE_TICKS = TICKS // 4  # steps that differ by less are alike
 MIN_PICTURES = 5  # least number of pictures in a row with a step that is usual
+MIN_AWAY_PICTURES = 3  # fewer pictures with other times may be damaged times
+MAX_AWAY_TICKS = 270_000  # the longest time between two steps that are compared as away and back
+ALONE_TICKS = 90_000  # within this time of another unusual step, it is unclear what happened
 MAX_REORDER_TICKS = 8 * TICKS  # the time from decoding a picture to showing it, if unknown
 
 
@@ -37,6 +41,12 @@ class UnusualStep(NamedTuple):
     ticks: int
     usual: int
     is_sure: bool = True
+
+    @property
+    def may_keep_delay(self) -> bool:
+        """Return whether pictures may keep their delay: some may be lost or shown for longer, or
+        one may be sent twice."""
+        return self.ticks > 0 or abs(self.ticks + self.usual) < ALIKE_TICKS
 
 
 def find_unusual_steps(several: Sequence[StepRange], count: int) -> list[UnusualStep]:
@@ -65,6 +75,36 @@ def find_unusual_steps(several: Sequence[StepRange], count: int) -> list[Unusual
     return sorted(found)
 
 
+def find_clock_steps(unusual: Sequence[UnusualStep], count: int) -> list[Sequence[UnusualStep]]:
+    """Return the steps that only a jump of the video's clock explains, in a video with `count`
+    pictures: single steps, and pairs that lead away and back."""
+    found, at = list[Sequence[UnusualStep]](), 0
+    while at < len(unusual):
+        step, length = unusual[at], 1
+        least = ALONE_TICKS // max(step.usual, 1)
+        if is_return(unusual[at:at + 2]):
+            length, least = 2, MIN_PICTURES
+        steps = unusual[at:at + length]
+        before = step.number - unusual[at - 1].number if at else least
+        after = unusual[at + length].number - steps[-1].number if at + length < len(unusual) \
+            else least
+        if step.is_sure and min(before, after) >= least and MIN_PICTURES < step.number \
+                and steps[-1].number + MIN_PICTURES <= count \
+                and not all(item.may_keep_delay for item in steps):
+            found.append(steps)
+        at += length
+    return found
+
+
+def is_return(steps: Sequence[UnusualStep]) -> bool:
+    """Return whether two steps lead away and back."""
+    if len(steps) < 2:
+        return False
+    (away, back), pictures = steps, steps[1].number - steps[0].number
+    return abs(away.ticks + back.ticks) < ALIKE_TICKS and pictures >= MIN_AWAY_PICTURES \
+        and pictures * away.usual <= MAX_AWAY_TICKS
+
+
 def measure_lengths(several: Sequence[StepRange], count: int) -> list[int]:
     """Return the number of pictures from each range of steps to the next, of `count` in all."""
     ends = [*(min(item.least_at, item.most_at) for item in several[1:]), count]
@@ -90,7 +130,8 @@ def find_typical(weighted: Sequence[tuple[int, int]]) -> int:
 
 def measure_reordering(pictures: Sequence[int | None], passed: int, steps: Sequence[StepRange],
                        decoding: int, number: int) -> int:
-    """Return the greatest time from decoding a picture to showing it, in ticks.
+    """Return the greatest time from decoding a picture to showing it or a later picture that is
+    shown before it, in ticks.
 
     `pictures` has the PTS of the first group of pictures, after `passed` others. `decoding` is the
     decoding time of picture `number`. Return `MAX_REORDER_TICKS` if it can't be measured.
@@ -101,5 +142,9 @@ def measure_reordering(pictures: Sequence[int | None], passed: int, steps: Seque
         return MAX_REORDER_TICKS
     delays = [subtract_pts(decoding, pts) - steps[0].least * (at - number)
               for at, pts in enumerate(pictures, passed + 1) if pts is not None]
-    is_known = delays and min(delays) > -ALIKE_TICKS and max(delays) <= MAX_REORDER_TICKS
-    return max(0, *delays) if is_known else MAX_REORDER_TICKS
+    if not delays or min(delays) <= -ALIKE_TICKS or max(delays) > MAX_REORDER_TICKS:
+        return MAX_REORDER_TICKS
+    # The mean is the time from decoding the Nth picture to showing the Nth in the order of display.
+    # By then at least one of the Nth decoded picture and all later ones is shown.
+    return max(0, math.ceil(statistics.fmean(delays)) if len(delays) == len(pictures)
+               else max(delays))
