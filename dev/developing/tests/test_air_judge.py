@@ -286,6 +286,16 @@ class JudgedProgrammes(AirCase):
             self.run_judge(FakeChecker({}), 9000)
         self.check("with an hour", self.verdicts(), {NAME: "not judged"})
 
+    def test_tries_again_at_once_after_the_clock_was_set_back(self) -> None:
+        judge = self.make_judge(FakeChecker({NAME: SentProgramme(600, 660)}))
+        with mock.patch.object(judging, "MIN_RECORDED_LATER", 3600.0):
+            judge.look(DAY + 3900)  # before the programme, with a clock that is ahead
+            self.put_segments(0, 900)
+            for now, is_wrong in ((610, True), (3950, False)):
+                judge.monitor.is_clock_wrong = is_wrong
+                judge.look(DAY + now)
+        self.check("results", self.verdicts(), {NAME: "relative"})
+
     def test_nothing_is_final_while_the_clock_is_wrong(self) -> None:
         self.put_segments(0, 900)
         checker = FakeChecker({NAME: SentProgramme(600, 660)})

@@ -35,12 +35,11 @@ HOOK_SECONDS = 10  # time limit of the command of --on-result
 
 
 class Attempts:
-    """The times of the last and the next attempt to judge a programme, the reason why it was not
-    judged yet, the number of system errors, and the last of them."""
+    """The time of the next attempt to judge a programme, the reason why it was not judged yet, the
+    number of system errors, and the last of them."""
 
     def __init__(self) -> None:
-        self.last = self.next = 0.0
-        self.reason, self.failures, self.failure = "", 0, ""
+        self.next, self.reason, self.failures, self.failure = 0.0, "", 0, ""
 
 
 class Judge:
@@ -63,6 +62,9 @@ class Judge:
         self.checker.report = lambda: self.report(now + time.monotonic() - start_time)
         self.read_schedule(now)
         self.checker.report()
+        if self.polls and now < self.polls[-1][1]:  # the clock was set back
+            for attempts in self.attempts.values():
+                attempts.next = 0.0
         self.polls.append((start_time, now))
         while len(self.polls) > 1 and self.polls[1][0] <= start_time - HOUR:
             del self.polls[0]
@@ -111,10 +113,8 @@ class Judge:
         """Judge a programme if it is over. Return whether an attempt was made."""
         attempts, start_time = self.attempts.setdefault(programme.name,
                                                         Attempts()), time.monotonic()
-        # If the clock was set back, the time of the next attempt may be far ahead.
-        if attempts.last <= now < attempts.next or now < programme.begin + RECORDER_LAG:
+        if now < max(attempts.next, programme.begin + RECORDER_LAG):
             return False
-        attempts.last = attempts.next = now
         try:
             delivery = self.read_delivery(programme, now)
             window = self.window(programme, delivery)
