@@ -456,7 +456,7 @@ class Pages(Case):
         self.must("links", {*re.findall('href="#([^"]*)"', page)} <= {*names},
                   {*re.findall('href="#([^"]*)"', page)} - {*names})
         self.must("once", all(page.count(f'id="{name}"') == 1 for name in (
-            "verdict", "part1", "part2-faults", "part3", "files")), names)
+            "part1", "part2-faults", "part3", "files")), names)
 
     def test_has_a_page_if_not_judged(self) -> None:
         verdict = self.several()

@@ -54,7 +54,7 @@ class Checks(Case):
             "nothing": ((), ""), "unread": ((UNREAD,), f"Not checked: {drift}."),
             "places": ((HOLE, JUMP), f"Not checked: {drift}, at each place."),
             "no video": ((NO_VIDEO, LOSSES), "Not checked: the pictures, since there is no video; "
-                         "losses of every length.")}
+                         "losses that leave no trace.")}
         for name, (kinds, sentence) in rows.items():
             self.check(name, describe_kinds(kinds), sentence)
         for word in (ACCEPTED, REFUSED, RELATIVE, NOT_JUDGED):

@@ -87,13 +87,12 @@ class CompletePage(Case):
                 page.partition("</div></div>")[0], page))
             reported = [verdict.sentence, *verdict.notes]
             reported += [warning.format_warning() for warning in verdict.warnings]
-            reported += ["not judged", "why", "type <this>"] if why else [
-                verdict.worst_line or "",
+            reported += ["why", "type <this>"] if why else [
                 *(f"{item.line}: {item.text}" for item in verdict.named_faults),
                 *[gap.format_line() for gap in verdict.gaps] * bool(kinds)]
             reported += [ESTIMATED_NOTE[1:]] * (is_estimated and len(kinds) == 1 and not why)
             each = [] if why or "b" in kinds else [MISSING_TEXTS[CLOCK_CHECK]] * is_estimated
-            each += [UNCHECKED_GAP] * (len(kinds) > 1 and not why)
+            each += [UNCHECKED_GAP] * (len(kinds) > 1 and not why) + [verdict.line or "not judged"]
             for number, kind in enumerate("" if why else kinds, 1):
                 each += [f"drawn {number}", *(line.partition(" ")[2] for line in self.KINDS[kind]
                                               if line.startswith("refused"))]

@@ -2,6 +2,7 @@
 from __future__ import annotations
 
 import itertools
+import re
 import unittest
 from typing import Any
 
@@ -10,6 +11,7 @@ from subtitles.report.pictures import (
     CellStyle, BLANK_PAGE_ROWS, find_differences, draw_row, draw_outlines, is_boxed, draw_picture,
     find_used_rows, style_row)
 from subtitles.stream.receiver import BLANK_PAGE, HIT, OLD, Rows
+from .bench import Case, get_example_path
 from .parts import markup_text
 
 
@@ -139,3 +141,22 @@ class Drawings(unittest.TestCase):
             header = bytes([*SUBTITLE_HEADER[:7], bits << 1])
             self.assertIn(f">{letter}</text>", markup_text(draw_picture(
                 page(r20=b"\x0b\x0b["), header, (19, 21), (), region)), (bits, region, letter))
+
+
+class WrongTable(Case):
+    def test_lists_each_cause_and_the_reason_of_each_other_number(self) -> None:
+        self.tool("qc", get_example_path("story.stl"), get_example_path("five-faults.pes"),
+                  "--every", "25", "-o", "out", "-p", self.bench.program)
+        page = self.read("out/story.html").decode()
+        rows = re.findall(r'<tr><td>([^<]*)</td><td><a href="#(\w+)">([^<]*)</a></td>', page)
+        self.check("rows", rows, [
+            ("Subtitle 2 at 20:15:03:00 has the wrong text: expected &quot;Thank you, Anne.&quot;, "
+             "received &quot;Thank you, Anna.&quot;", "s2", "1 subtitle"),
+            ("67 Control: C4 (erase page) is clear in 1 of 10 headers", "n67", "1 fault"),
+            ("68 Parity: the character &quot;e&quot; of subtitle 2, &quot;Thank you, Anne.&quot;, "
+             "has even parity", "n68", "1 fault"),
+            ("73 Gap: the page had no header for up to 50 frames", "n73", "1 fault"),
+            ("69 RowChanged: C4 (erase page) is clear in 1 of 10 headers", "n69", "1 fault")])
+        box, _, rest = page.partition("</div></div>")
+        self.check("the last line", ["refused 67 " in text for text in (box, rest)],
+                   [False, True])

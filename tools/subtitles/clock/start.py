@@ -18,7 +18,7 @@ from ..stream.survey import ProgramMap, Survey
 RECORDING, GIVEN, START, TCP = "recording", "given", "start", "tcp"
 SOURCES = {RECORDING: "estimated", GIVEN: "given", START: "by the first picture",
            TCP: "by the first picture, TCP"}
-ESTIMATED_NOTE = "no clock was given, so a delay that all subtitles share was not checked"
+ESTIMATED_NOTE = "no clock was given"
 ESTIMATED_LATER_NOTE = "the clock after a break was estimated, so a delay that all subtitles of " \
     "that part share was not checked"
 

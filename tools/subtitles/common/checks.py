@@ -29,7 +29,7 @@ DRIFT = "whether the video and the subtitles drift apart"
 # The words for each kind in a sentence
 PHRASES = {NO_VIDEO: "the pictures, since there is no video", UNREAD: DRIFT,
            **dict.fromkeys((HOLE, JUMP, IRREGULAR, STEADY), f"{DRIFT}, at each place"),
-           LOSSES: "losses of every length", CLOCK: "a delay that all subtitles share",
+           LOSSES: "losses that leave no trace", CLOCK: "a delay that all subtitles share",
            SEAM: "the frames around midnight"}
 
 ALL = "all"  # value of --require: all of `CHECK_KINDS`

@@ -74,6 +74,11 @@ def describe_duration(frames: int) -> str:
     return " ".join(f"{count} {unit}" for count, unit in parts if count)
 
 
+def format_seconds(seconds: int) -> str:
+    """Return a duration as H:MM:SS."""
+    return f"{seconds // 3600}:{seconds // 60 % 60:02}:{seconds % 60:02}"
+
+
 def wrap_pts(ticks: int) -> int:
     """Return ticks modulo 2^33, like a PTS."""
     return ticks % CLOCK

@@ -7,7 +7,8 @@ from typing import Iterator, NamedTuple, Sequence
 
 from ..common.command_line import counted
 from ..common.shapes import Members
-from ..common.times import Span, format_frame, join_spans, pts_of, subtract_pts, wrap_pts
+from ..common.times import (
+    Span, format_frame, format_seconds, join_spans, pts_of, subtract_pts, wrap_pts)
 from ..formats.listing import BEGIN, FAULTS_WITH_CAUSE, FaultLine, STL_FAULTS
 from ..formats.stl import COMMENT, LAST_BLOCK, NamedSubtitle, Subtitle, SubtitleFile, USER_DATA
 from ..formats.teletext import OPTION_BY_WORD
@@ -268,7 +269,7 @@ def format_recording_offset(part: Part, start: int | None, frame: int) -> str:
     if start is None or part.origin is None:
         return ""
     seconds = subtract_pts(start, pts_of(frame, part.origin)) // 90_000
-    return "" if seconds < 0 else f"{seconds // 3600}:{seconds // 60 % 60:02}:{seconds % 60:02}"
+    return "" if seconds < 0 else format_seconds(seconds)
 
 
 def find_text_spans(timeline: Timeline) -> Iterator[Span]:

@@ -19,13 +19,13 @@ from ..judging.cues import (
 from ..judging.pages import format_page_text
 from ..judging.part import Part
 from ..judging.sentence import (
-    CAUSE_RANKS, describe_shared_cause, describe_single_cause, rank_number)
+    CAUSE_RANKS, Rank, describe_shared_cause, describe_single_cause, rank_number)
 from ..judging.status import VALID
-from ..judging.subtitles import ValidSubtitles
+from ..judging.subtitles import ValidSubtitles, join_words
 from ..stream.receiver import BLANK_PAGE
 from .blocks import make_fault_lines, mark_text, mark_times
 
-COLUMNS = ("No.", "Into recording", "Expected in", "Expected out", "Actual in", "Actual out",
+COLUMNS = ("No.", "Into recording", "Expected in", "Expected out", "Received in", "Received out",
            "Frames late (in / out)", "Text", "Verdict")
 MAX_PRINTED_ROWS = 200  # maximum number of rows to print on paper
 MAX_BARS = 12  # maximum number of delays in the histogram
@@ -55,6 +55,17 @@ class CueRow(NamedTuple):
     @property
     def anchor(self) -> str:
         return f"{self.position}-pause" if self.is_pause else f"{self.position}"
+
+
+class WrongRow(NamedTuple):
+    """A row of the table "What is wrong": its rank, its text, how much is wrong, and the anchor and
+    the frame of the first place."""
+
+    rank: Rank
+    text: str
+    count: Value
+    anchor: str
+    frame: int | None
 
 
 class CueList:
@@ -174,32 +185,35 @@ class CueList:
                    if not (names and number in FAULTS_WITH_CAUSE)]
         return [kind for _, kind in sorted(ranked)]
 
-    def make_cause_table(self) -> Markup:
-        """Return a table with a row for each cause."""
-        if not self.causes:
-            return NO_MARKUP
-        causes_by_name: dict[str, list[Cause]] = {}
-        for cause in self.causes.list_causes():
-            causes_by_name.setdefault(cause.name, []).append(cause)
-        rows = []
-        for name in sorted(causes_by_name, key=
-                           lambda name: (CAUSE_RANKS[name], CAUSE_NAMES.index(name))):
-            causes = causes_by_name[name]
-            words = describe_single_cause(causes[0], self.causes, self.part.request.option) \
-                if len(causes) == 1 else \
-                describe_shared_cause(causes, self.causes.expected.subtitles)
-            first, frame = self.causes.expected.subtitles[causes[0].subtitle_index], causes[0].frame
-            rows.append(markup('<tr><td>{}{}</td><td><a href="#s{}">{}</a></td><td>{}</td></tr>',
-                               words[0].upper(), words[1:],
-                               first.index if frame is None else f"{first.index}-pause",
-                               len(causes),
-                               self.format_offset(first.begin if frame is None else frame)))
+    def make_cause_table(self, fault_rows: Iterable[WrongRow]) -> Markup:
+        """Return a table with a row for each cause, and for each number of other faults."""
+        rows = sorted([*self.list_cause_rows(), *fault_rows], key=lambda row: row.rank)
+        count = len(self.causes.cause_by_index) if self.causes else 0
         return markup(
-            '<table class="groups"><caption>What is wrong{}</caption><thead><tr><th '
-            'scope="col">Cause</th><th scope="col">Subtitles</th><th scope="col">First, into the '
-            "recording</th></tr></thead><tbody>{}</tbody></table>",
-            f" with {counted(count, 'subtitle')}" if (count := len(self.causes.cause_by_index))
-            else "", join_markup(rows))
+            '<table class="groups"><caption>What is wrong{}</caption><thead><tr><th scope="col">'
+            'Reason</th><th scope="col">How much</th><th scope="col">First, into the recording</th>'
+            "</tr></thead><tbody>{}</tbody></table>",
+            f" with {counted(count, 'subtitle')}" if count else "", join_markup(
+                markup('<tr><td>{}{}</td><td><a href="#{}">{}</a></td><td>{}</td></tr>',
+                       row.text[0].upper(), row.text[1:], row.anchor, row.count,
+                       "" if row.frame is None else self.format_offset(row.frame))
+                for row in rows)) if rows else NO_MARKUP
+
+    def list_cause_rows(self) -> Iterator[WrongRow]:
+        """Yield a row for each cause of wrong subtitles."""
+        causes_by_name: dict[str, list[Cause]] = {}
+        for cause in self.causes.list_causes() if self.causes else ():
+            causes_by_name.setdefault(cause.name, []).append(cause)
+        for name in sorted(causes_by_name, key=CAUSE_NAMES.index):
+            assert self.causes
+            causes, subtitles = causes_by_name[name], self.causes.expected.subtitles
+            text = describe_single_cause(causes[0], self.causes, self.part.request.option) \
+                if len(causes) == 1 else describe_shared_cause(causes, subtitles)
+            first, frame = subtitles[causes[0].subtitle_index], causes[0].frame
+            yield WrongRow(CAUSE_RANKS[name], text, counted(
+                len(causes), "subtitle" if frame is None else "pause"),
+                           f"s{first.index}" + "-pause" * (frame is not None),
+                           first.begin if frame is None else frame)
 
     def make_histogram(self) -> Markup:
         """Return a histogram of the delays, or empty markup if no cue is late or early."""
@@ -232,7 +246,9 @@ class CueList:
         number = self.part.number
         heads = join_markup(markup('<th scope="col">{}</th>', name) for name in COLUMNS)
         wrong_count = sum(row.row_class not in GOOD_CLASSES for row in self.rows)
-        hidden = len(self.rows) - wrong_count, max(wrong_count - MAX_PRINTED_ROWS, 0)
+        hidden = [counted(len(self.rows) - wrong_count, "right subtitle"), "repeated faults"]
+        hidden += [f"{wrong_count - MAX_PRINTED_ROWS:,} more rows"] * (
+            wrong_count > MAX_PRINTED_ROWS)
         printed_count = 0
         rows = []
         for row in self.rows:
@@ -251,12 +267,11 @@ class CueList:
             for value, name, count in choices)
         return markup(
             '<section class="cues"><h2 id="cues">Cue list</h2><fieldset class="filter"><legend>'
-            'Show subtitles</legend>{}</fieldset><p class="paper">On paper, {:,} right subtitles, '
-            "repeated faults and {:,} more rows are omitted.</p><table "
+            'Show subtitles</legend>{}</fieldset><p class="paper">On paper, {} are omitted.</p><table '
             'class="list{}"><caption>{}</caption><thead><tr>{}</tr></thead><tbody>{}</tbody>'
             "</table>"
             "</section>",
-            radios if wrong_count else NO_MARKUP, *hidden,
+            radios if wrong_count else NO_MARKUP, join_words(hidden, "and"),
             "" if self.part.recording else " file", self.make_caption(), heads,
             join_markup(rows, "\n"))
 
@@ -268,10 +283,11 @@ class CueList:
                            ROW_CLASSES.items() if row_classes[row_class])
         words = f"{counted(len(subtitle_rows), 'subtitle')}: {counts}. Expected: TCI and TCO."
         if self.part.recording:
-            words += " Actual: the first frame at whose end a receiver has the page, and the " \
+            words += " Received: the first frame at whose end a receiver has the page, and the " \
                 "first without."
         if self.start is not None:
-            words += " Into recording: counted from its first PCR."
+            words += " Into recording: counted from its first " \
+                f"{'PCR' if self.part.recording and self.part.recording.is_stream else 'PTS'}."
         if self.part.clock and self.part.clock.is_estimated:
             words += " The clock is estimated: these times do not include a delay of all subtitles."
         return words

@@ -3,29 +3,34 @@ from __future__ import annotations
 
 import os
 import re
-from typing import Iterable, Iterator, Sequence
+from typing import Any, Iterable, Iterator, Sequence
 
 from ..clock.start import Clock, START, TCP
 from ..common.command_line import counted
 from ..common.files import SummedFile
 from ..common.markup import BREAK, HEAD, Markup, NO_MARKUP, Value, join_markup, markup, read_style
 from ..common.program import describe_program
-from ..common.times import Span, format_frame
+from ..common.times import Span, format_frame, format_seconds, subtract_pts
 from ..formats.listing import (
-    CHANGED, CONTENT, FaultLine, PARITY, make_cell_markup, make_number_link, read_meanings)
+    CHANGED, CONTENT, FAULTS_WITH_CAUSE, FaultLine, PARITY, STL_FAULTS, make_cell_markup,
+    make_number_link, read_meanings)
 from ..formats.stl import Subtitle, read_titles
 from ..formats.teletext import OPTION_BY_WORD, page_name
 from ..judging.causes import list_cause_counts
 from ..judging.coverage import describe_unchecked
+from ..judging.faults import describe_hint
 from ..judging.part import Part, belongs_to_part, find_lost_spans
+from ..judging.sentence import FAULT_CLAUSES, rank_number
 from ..judging.status import ACCEPTED, LOST, NOT_JUDGED, REFUSED, RELATIVE, VALID, WAIVED, WARNED
 from ..judging.subtitles import advise_on_midnight
 from ..judging.verdict import Verdict, count_fault_numbers, summarize_delays
 from ..request.commands import CommandPaths
+from ..recording.recording import Recording
 from ..stream.gaps import limit_lines
 from ..stream.receiver import BLANK_PAGE
+from ..stream.survey import describe_pid
 from .blocks import make_fault_lines
-from .cue_list import CueList, make_filter_style, find_places
+from .cue_list import CueList, WrongRow, make_filter_style, find_places
 from .pictures import draw_picture_pair
 from .timeline import Lanes
 
@@ -65,10 +70,9 @@ def draw_verdict(word: str) -> tuple[str, Markup]:
 
 
 def make_verdict_box(verdict: Verdict) -> Markup:
-    """Return the box with the verdict: sentence, line, clock, advice and notes."""
+    """Return the box with the verdict: sentence, clock, advice and notes."""
     kind, shape_markup = draw_verdict(verdict.word)
     not_judged = verdict.word == NOT_JUDGED
-    line = NOT_JUDGED if not_judged else verdict.worst_line or ""
     # The sentence of a relative verdict already reports that no clock was given.
     parts = [describe_clock(verdict)] if verdict.word not in (NOT_JUDGED, RELATIVE) else []
     parts += [make_folded_list(LOST_TITLE, [gap.format_line() for gap in verdict.gaps
@@ -85,9 +89,8 @@ def make_verdict_box(verdict: Verdict) -> Markup:
     notes = [*verdict.notes, *(item.format_warning() for item in verdict.warnings), *dict.fromkeys(
         part.drawing_differences for part in verdict.parts if part.drawing_differences)]
     parts += [markup('<p class="note">{}</p>', keep_options_together(item)) for item in notes]
-    return markup('<div class="verdict {}">{}<div><p class="sentence">{}</p><p class="line" '
-                  'id="verdict">{}</p>{}</div></div>', kind, shape_markup,
-                  keep_options_together(verdict.sentence), line, join_markup(parts))
+    return markup('<div class="verdict {}">{}<div><p class="sentence">{}</p>{}</div></div>', kind,
+                  shape_markup, keep_options_together(verdict.sentence), join_markup(parts))
 
 
 def keep_options_together(text: str) -> Markup:
@@ -158,7 +161,8 @@ class PartView:
 
     def make_sections(self) -> Iterator[Markup]:
         """Yield all sections that are not empty."""
-        groups = self.cue_list.make_cause_table() + self.cue_list.make_histogram()
+        groups = self.cue_list.make_cause_table(self.list_fault_rows()) + \
+            self.cue_list.make_histogram()
         if groups:
             yield markup('<section><h2 id="causes">What is wrong</h2><div class="beside">{}</div>'
                          "</section>", groups)
@@ -166,11 +170,30 @@ class PartView:
             yield markup('<section><h2 id="timeline">Timeline</h2>{}</section>',
                          self.draw_timeline())
         if pictures := join_markup(self.pictures()):
-            yield markup('<section><h2 id="pictures">First of each kind</h2>{}</section>', pictures)
+            yield markup('<section><h2 id="pictures">First fault of each kind, as a picture</h2>{}'
+                         "</section>", pictures)
         if self.cue_list.rows:
             yield self.cue_list.make_list()
         if self.part.check_output.fault_count:
             yield self.make_fault_table()
+
+    def list_fault_rows(self) -> Iterator[WrongRow]:
+        """Yield a row for each number of transmission faults that no cause explains, with the reason
+        of the first fault."""
+        answer = self.part.check_output
+        for number, fault in answer.first_faults.items():
+            if number in STL_FAULTS or number in FAULTS_WITH_CAUSE and self.part.causes:
+                continue
+            reason = describe_hint(fault, self.part, self.verdict) or FAULT_CLAUSES.get(number, "")
+            waived = "" if number in self.part.error_numbers else " (waived)"
+            yield WrongRow(rank_number(number), f"{number} {fault.name}{waived}: {reason}",
+                           counted(answer.counts_by_number[number], "fault"), f"n{number}",
+                           self.find_fault_frame(fault))
+
+    def find_fault_frame(self, fault: FaultLine) -> int | None:
+        """Return the frame of a fault, or of the PES packet before it."""
+        return fault.frame if fault.pes is None or self.decoded is None else \
+            self.decoded.find_frame_before(fault.pes)
 
     def draw_timeline(self) -> Markup:
         """Draw the timeline of the part, with the frames that were lost or skipped."""
@@ -223,8 +246,7 @@ class PartView:
         rows = []
         for number, count in sorted(answer.counts_by_number.items()):
             first = answer.first_faults[number]
-            frame = self.decoded.find_frame_before(first.pes) if self.decoded \
-                and first.pes is not None else first.frame
+            frame = self.find_fault_frame(first)
             advice = find_advice(self.part, first)
             more = NO_MARKUP if advice is None else markup(
                 "<dl><dt>Meaning</dt><dd>{}</dd><dt>Remedy</dt><dd>{}</dd></dl>", *advice)
@@ -272,14 +294,30 @@ def make_scope_section(verdict: Verdict) -> Markup:
     titles = read_titles(path) if os.path.isfile(path) else []
     times = [part.format_time_codes() for part in verdict.parts if part.alignment]
     count = counted(verdict.subtitle_count, "subtitle")
+    recording = verdict.parts[0].recording if verdict.parts else None
     range_text = f"{times[0][0]} to {times[-1][1]}, {count}" if times else ""
     delays = summarize_delays(frames for part in verdict.parts for frames in part.delays) \
         if verdict.request.within else None
     return make_definition_list([
         ("Programme", " / ".join(titles)), ("Subtitle file", verdict.request.stl),
-        ("Recording", verdict.request.recording or ""), ("Judged", range_text),
+        ("Recording", describe_recording(verdict, recording)), ("Judged", range_text),
         ("Page", page_name(*verdict.request.page)),
+        ("Teletext", describe_pid(recording.packets, recording.survey.programmes)
+         if recording and recording.is_stream else ""),
         ("Delays", delays.describe() if delays else "")])
+
+
+def describe_recording(verdict: Verdict, recording: Recording | None) -> str:
+    """Return the name of the recording, its length by the PCR, and the time of its last change."""
+    words = [verdict.request.recording or ""]
+    pcr_range = recording.survey.get_pcr_range(recording.packets.pid) \
+        if recording and recording.is_stream else None
+    if pcr_range and subtract_pts(*pcr_range) > 0:
+        words.append(f"{format_seconds(subtract_pts(*pcr_range) // 90_000)} long")
+    file: Any = verdict.files_at_start.get("recording")
+    if file:
+        words.append(f"last changed {file['modified'][:19].replace('T', ' ')} UTC")
+    return ", ".join(words)
 
 
 def list_waived(verdict: Verdict) -> Iterator[str]:
@@ -330,7 +368,8 @@ def make_footer(verdict: Verdict, command_paths: CommandPaths) -> Markup:
                'their checksums</caption><thead><tr><td></td><th scope="col">Name</th><th '
                'scope="col">Size</th><th scope="col">SHA-256</th></tr></thead><tbody>{}</tbody>'
                "</table>{}<p class=\"says\">{}</p></section>", rows, make_definition_list([
-                   ("Commands", commands), *(("Options", format_judging_options(verdict, part))
+                   ("Last line", verdict.line or NOT_JUDGED), ("Commands", commands),
+                   *(("Options", format_judging_options(verdict, part))
                                              for part in verdict.parts),
                    ("Date", verdict.date.replace("T", " ").replace("Z", " UTC")),
                    ("Version", program.version), ("PROVED", proved)]),
@@ -370,7 +409,6 @@ def make_report_page(verdict: Verdict, command_paths: CommandPaths) -> Markup:
     """Return the HTML report on a verdict."""
     title = " and ".join(os.path.basename(name) for name in
                          (verdict.request.stl, verdict.request.recording) if name)
-    line = verdict.worst_line or f"{NOT_JUDGED}: {verdict.unjudged_reason}"
     views = [] if verdict.word == NOT_JUDGED else [
         PartView(verdict, part) for part in verdict.parts]
     body = [make_verdict_box(verdict), make_scope_section(verdict)]
@@ -392,5 +430,5 @@ def make_report_page(verdict: Verdict, command_paths: CommandPaths) -> Markup:
     style = read_style(os.path.join(os.path.dirname(__file__), "style.css"))
     return markup(
         "{}<title>{} &#8211; {}</title><style>\n{}{}</style></head><body><main><h1>Report on {}"
-        '</h1>\n<nav aria-label="Sections">{}</nav>\n{}\n</main></body></html>\n', HEAD, line,
-        title, style, make_filter_style(view.cue_list for view in views), title, links, content)
+        '</h1>\n<nav aria-label="Sections">{}</nav>\n{}\n</main></body></html>\n', HEAD,
+        verdict.word, title, style, make_filter_style(view.cue_list for view in views), title, links, content)

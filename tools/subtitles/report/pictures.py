@@ -227,7 +227,7 @@ NO_TEXT = "no text"
 
 def draw_picture_pair(time: str, expected: Rows, header: bytes, state: ReceiverState | None,
                       region: int = 0) -> Markup:
-    """Draw the expected and the decoded page at the end of a frame."""
+    """Draw the expected and the received page at the end of a frame."""
     decoded = state.rows if state and state.is_received else None
     shown_rows = find_used_rows([expected, decoded] if decoded else [expected])
     left = make_figure(f"Expected at {time}", NO_TEXT * (expected == BLANK_PAGE),
@@ -235,7 +235,7 @@ def draw_picture_pair(time: str, expected: Rows, header: bytes, state: ReceiverS
     if state is None or decoded is None or state.header is None:
         reason = "not known" if state is None else "nothing received yet"
         return markup('<div class="pictures">{}{}</div>', left, make_figure(
-            f"Decoded at {time}", reason, draw_empty_picture(reason, shown_rows)))
+            f"Received at {time}", reason, draw_empty_picture(reason, shown_rows)))
     different = find_differences(expected, decoded)
     words = [f"{counted(len(different), 'cell')} differ{'s' * (len(different) == 1)}"
              if different else "no cell differs"]
@@ -247,7 +247,7 @@ def draw_picture_pair(time: str, expected: Rows, header: bytes, state: ReceiverS
         words.append("the page is incomplete: receivers that wait for the next header still show "
                      "the previous page")
     return markup('<div class="pictures">{}{}</div>', left, make_figure(
-        f"Decoded at {time}", "; ".join(words), draw_picture(decoded, state.header, shown_rows,
+        f"Received at {time}", "; ".join(words), draw_picture(decoded, state.header, shown_rows,
                                                              different, region)))
 
 

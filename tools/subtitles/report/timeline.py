@@ -40,7 +40,7 @@ class Lanes:
         lanes = [self.draw_lane("expected", "Expected", ((cue.subtitle.begin, cue.subtitle.end)
                                                          for cue in self.cues.cues))]
         if self.decoded:
-            lanes.append(self.draw_lane("received", "Decoded", (
+            lanes.append(self.draw_lane("received", "Received", (
                 (span.first, span.last + 1) for span in find_text_spans(self.decoded))))
         lanes += self.draw_fault_lanes()
         if self.lost_spans:
