@@ -200,9 +200,11 @@ class Installation(Case):
         with tarfile.open(path) as archive:
             archive.extractall(self.folder)
             folder = self.path(archive.getnames()[0])
-        sums = subprocess.run(["sha256sum", "--quiet", "-c", "SHA256SUMS"], cwd=folder, check=False)
-        self.must("its sums", sums.returncode == 0)
-        self.must("what was proved", read(os.path.join(folder, "PROVED")) == read(proved))
+        for name, sums in (folder, "SHA256SUMS"), (self.folder, f"{path}.sha256"):
+            process = self.call(["sha256sum", "--quiet", "-c", sums], folder=name)
+            self.must(f"the sums in {sums}", process.status == 0, process)
+        for name in os.path.join(folder, "PROVED"), f"{path}.PROVED":
+            self.must(f"{name}: what was proved", read(name) == read(proved))
         check_installation(self, folder)
 
     def test_makes_a_reproducible_debian_package(self) -> None:

@@ -77,19 +77,34 @@ class JobScripts(Case):
             process = self.call(["bash", script], env={**self.env, "SLURM_ARRAY_TASK_ID": number})
             self.check(f"index {number!r}", (process.status, os.path.exists(self.path("out"))),
                        (1, False))
-        os.mkdir(self.path("out"))
+        # Slurm drops each job without a message if there is no folder for its output.
+        shutil.copy(script, self.path("judge.sh"))
+        command = self.read_command("mkdir -p log")
+        self.write_program("bin/sbatch", 'cd log && echo "$@" >../called\n')
+        self.call(["bash", "-c", command], env=self.env)
+        self.check("the manual's command", self.read("called"), b"--array=1-6%20 judge.sh\n")
+        os.unlink(self.path("bin/sbatch"))
         if not shutil.which("sbatch") or self.call(["sinfo"]).status:
             self.skipTest("an array of Slurm, since no node of it is here")
-        shutil.rmtree(self.path("out"))
-        os.mkdir(self.path("log"))
-        self.call(["sbatch", "--wait", "--array=1-6", script], env=self.env)
+        self.call(["bash", "-c", command.replace("sbatch", "sbatch --wait")], env=self.env)
         self.check_results("an array")
+
+    def read_command(self, beginning: str) -> str:
+        """Return the command of the manual's page about many machines that begins so."""
+        manual = read(os.path.join(TOP, "docs", "manual", "many-pairs.md")) or ""
+        return " ".join(re.findall(f"`({beginning}[^`]*)`", manual)[0].split())
+
+    def test_runs_each_line_as_an_index_of_kubernetes(self) -> None:
+        command = self.read_command("subttx-qc --batch list --line")
+        statuses = [self.call(["sh", "-c", command], env={
+            **self.env, "JOB_COMPLETION_INDEX": f"{index}"}).status for index in range(6)]
+        self.check("statuses", statuses, [0, 0, 0, 0, 64, 64])
+        self.check_results("results")
 
     def test_runs_each_line_by_gnu_parallel_again_if_not_judged(self) -> None:
         if not shutil.which("parallel"):
             self.skipTest("GNU parallel, which is not here")
-        manual = read(os.path.join(TOP, "docs", "manual", "many-pairs.md")) or ""
-        command = " ".join(re.findall(r"`(seq [^`]*)`", manual)[0].split())
+        command = self.read_command("seq ")
         self.write("hosts", b":\n")
         command = command.replace("parallel", "parallel --sshloginfile hosts --workdir .")
         env = {**self.env, "PARALLEL_HOME": self.path("home")}

@@ -2,16 +2,20 @@
 from __future__ import annotations
 
 import io
+import contextlib
+import io
 import os
 import shutil
+import subprocess
 import unittest
 import unittest.mock
+from typing import Any
 
 from developing.proved import (
     Crates, ProvedProgram, find_crates_without_line, format_proved, list_crate_sums)
 from developing.shown import has_expected_status
 from subtitles.common.command_line import Stop
-from subtitles.common.program import TOP
+from subtitles.common.program import TOP, read
 from .bench import Case, get_tool_path, import_script
 from .failures import MAX_LINES_PRINTED
 from .runner import Counts
@@ -150,6 +154,44 @@ class FailedChecks(Case):
         self.check("status", process.status, 0)
         self.check("first line", first, f"running 1 test, 3 at a time, of {self.bench.program}")
         self.check("last line", last, "11 passed, 0 failed")
+
+
+class NewMachines(Case):
+    def test_install_test_tools_needs_root_if_a_package_is_missing(self) -> None:
+        for name, text in (("dpkg-query", ""), ("id", "echo 1000\n")):
+            self.write_program(name, f"#!/bin/sh\n{text}")
+        process = self.call([get_tool_path("install-test-tools")],
+                            env={**os.environ, "PATH": f"{self.folder}:{os.environ['PATH']}"})
+        self.check("status, message", (process.status, process.told),
+                   (2, ["install-test-tools: needs root: use sudo"]))
+
+    def test_check_program_says_what_it_runs_and_last_what_was_skipped(self) -> None:
+        script = import_script("check-program")
+        self.patch_script(script)
+        with contextlib.redirect_stdout(io.StringIO()) as out:
+            script.main(["-p", self.bench.program])
+        first, *lines = out.getvalue().splitlines()
+        self.must("first line", first.startswith("running 1 scripts, ") and "minutes" in first,
+                  first)
+        self.check("last lines", lines[-2:], ["skipped: units, since it is night",
+                                              "3 passed, 0 failed"])
+
+    def patch_script(self, script: Any) -> None:
+        """Let check-program run a script that skips a test, and compare no examples."""
+        process = subprocess.CompletedProcess(
+            [], 0, "skipped: units, since it is night\n2 passed, 0 failed\n")
+        for name, value in {"SCRIPTS": ["check-live"], "run": lambda *_: process,
+                            "compare_examples": lambda _: (1, 0)}.items():
+            patch = unittest.mock.patch.object(script, name, value)
+            patch.start()
+            self.addCleanup(patch.stop)
+
+    def test_the_first_screen_of_readme_has_both_commands(self) -> None:
+        lines = (read(os.path.join(TOP, "README.md")) or "").splitlines()
+        screen = " ".join(" ".join(lines[:24]).split())
+        for text in ("apt-get install git python3", "tools/qc MY.stl MY.ts", "tools/check-program",
+                     "dev/install-test-tools", "licence"):
+            self.must(text, text in screen)
 
 
 class ReleasedLines(unittest.TestCase):
