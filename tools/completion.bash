@@ -20,10 +20,10 @@ _subttx_value() {
         --option) _subttx_words 'english german swedish italian french spanish czech polish turkish croatian romanian estonian lithuanian' "$2" ;;
         --receiver) _subttx_words 'blank keep drop anew' "$2" ;;
         --packet-size) _subttx_words '188 192 204' "$2" ;;
-        --against | --at | --breaks | --every | --every-seconds | --flip | --free | --from | \
-            --jobs | --late | --layout | --length | --limit | --line | --lose | --margin | \
-            --on-result | --origin | --pace | --page | --pause | --pes | --pid | --settled | \
-            --skip | --start | --to | --within)
+        --at | --breaks | --every | --every-seconds | --flip | --free | --from | --jobs | \
+            --late | --layout | --length | --limit | --line | --lose | --margin | --on-result | \
+            --origin | --pace | --page | --pause | --pes | --pid | --settled | --skip | \
+            --start | --to | --within)
             COMPREPLY=()
             ;;
 # end

@@ -98,7 +98,7 @@ def judge_files_with(program: str, *args: str, recorder: LineRecorder | None = N
     request, command_paths = make_request(known), CommandPaths("tools/qc", program)
     listener = Listener(recorder)
     stamps = stamp_inputs(request)
-    verdict = make_verdict(request, listener)
+    verdict = make_verdict(request, listener, Verdict)
     with tempfile.TemporaryDirectory() as folder, lock_pair(known.out, "one"):
         names = OutputNames("one", folder, known.out)
         names.set_subtitle_file(request.stl)

@@ -53,7 +53,8 @@ def make_result(verdict: str = "refused", **more: Any) -> dict[str, Any]:
         "worst_fault": None if verdict in (ACCEPTED, VALID, NOT_JUDGED)
         else f"{verdict} 72 Content", "sentence": "Refused.",
         "reason": None if is_judged else "why",
-        "not_judged_kind": None if is_judged else "undecided", "scope": "pair", "frames": None,
+        "not_judged_kind": None if is_judged else "undecided", "scope": "pair",
+        "reading": None, "frames": None,
         "transmissions": None, "fault_count": 0, "subtitle_counts": None, "request": REQUEST,
         "files_at_start": {"stl": None, "recording": None, "severity": None},
         "inputs": {"stl": None, "recording": None},

@@ -7,7 +7,7 @@ from typing import Sequence
 
 from subtitles.common.checks import (
     CHECK_KINDS, CHECKS, CLOCK, CheckState, FAILED, HOLE, JUMP, KINDS, LISTED, LOSSES, MADE,
-    NO_VIDEO, PHRASES, SEAM, UNREAD, decide_check, describe_kinds, parse_required_kinds)
+    NO_VIDEO, OPTION, PHRASES, SEAM, UNREAD, decide_check, describe_kinds, parse_required_kinds)
 from subtitles.judging.sentence import Facts, write_sentence
 from subtitles.judging.status import ACCEPTED, NOT_JUDGED, REFUSED, RELATIVE
 from subtitles.judging.unchecked import MISSING_TEXTS, Unchecked, list_check_entries
@@ -46,7 +46,7 @@ class Checks(Case):
                 self.check(f"{name} {state} {kind} {number}", listed, [
                     Unchecked(kinds[0], MISSING_TEXTS[name], 1)] * is_new)
         self.check("nothing is known", [item.kind for item in list_check_entries([], [(1, {})])],
-                   [UNREAD, LOSSES, CLOCK, SEAM])
+                   [UNREAD, LOSSES, CLOCK, SEAM, OPTION])
 
     def test_names_unmade_checks(self) -> None:
         drift = "whether the video and the subtitles drift apart"

@@ -247,7 +247,8 @@ class Lines(unittest.TestCase):
                 block=7), " block 7"),
                              (named_fault._replace(time="00:00:01:00"), " frame 00:00:01:00")):
             self.assertEqual(fault.line, f"refused not shown{place}", (fault, place))
-        self.assertEqual({*listing.read_named_meanings()}, {*listing.FAULT_NAMES})
+        self.assertEqual({*listing.read_named_meanings()},
+                         {*listing.FAULT_NAMES, *listing.READING_FAULT_NAMES})
         self.assertTrue(all(map(all, listing.read_named_meanings().values())))
         self.assertEqual(listing.remove_markup("`a` [b c](d#e) f, [g](h)"), "a b c f, g")
 

@@ -9,7 +9,8 @@ from typing import Any, Sequence
 
 from subtitles.common.command_line import Stop
 from subtitles.formats.listing import (
-    Accepted, FAULT_NAMES, FaultLine, NamedFault, NEVER_SENT, STL_FAULTS, Trusted,
+    Accepted, FAULT_NAMES, FaultLine, NamedFault, NEVER_SENT, READING_FAULT_NAMES, STL_FAULTS,
+    Trusted,
     parse_accepted_line,
     parse_count_line, parse_fault_line, read_meanings, parse_fault_number, parse_trusted_line)
 from subtitles.formats.stl import Subtitle, parse_subtitles
@@ -339,7 +340,7 @@ class LeadingFaults(Case):
                   part.worst_fault_line is None and part.first_text == part.check_output.line)
 
     def test_ranks_named_faults(self) -> None:
-        self.must("each", set(NAME_RANKS) == set(FAULT_NAMES))
+        self.must("each", set(NAME_RANKS) == {*FAULT_NAMES, *READING_FAULT_NAMES})
         never, left, hidden = (NamedFault(name, "") for name in FAULT_NAMES)
         rows: tuple[tuple[list[NamedFault], Rank | None, NamedFault | None], ...] = (
             ([], None, None), ([], Rank.LATER, None), ([left], None, left),

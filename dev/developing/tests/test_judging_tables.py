@@ -33,7 +33,7 @@ from subtitles.recording.notices import (
 from subtitles.recording.recording import is_recording
 from subtitles.request.commands import (
     CommandPaths, ListNames, OutputNames, list_pair_files, make_pair_name, make_part_name,
-    make_qc_command, quote_command)
+    make_command, quote_command)
 from subtitles.request.request import Selection, Unclear
 from subtitles.stream import gaps
 from subtitles.stream.gaps import ClockJump
@@ -328,13 +328,13 @@ class NamesOfFiles(Case):
                                (("--within", "5"),
                                 whole.replace(" --within 2", "") + " --within 5"),
                                (("--pes", "1-2"), whole.replace(" --pes 2-9", "") + " --pes 1-2")):
-            self.must(f"{more}", make_qc_command(request, typed, *more) == expected,
-                      make_qc_command(request, typed, *more))
+            self.must(f"{more}", make_command(request, typed, *more) == expected,
+                      make_command(request, typed, *more))
         start = make_example_request("one.stl", "one.ts", "--start", "tcp")
-        self.must("start", make_qc_command(start, typed) == "tools/qc one.stl one.ts --start tcp")
-        self.must("an origin instead", make_qc_command(start, typed, "--origin", "T") ==
+        self.must("start", make_command(start, typed) == "tools/qc one.stl one.ts --start tcp")
+        self.must("an origin instead", make_command(start, typed, "--origin", "T") ==
                   "tools/qc one.stl one.ts --origin T")
-        self.check("a file alone", make_qc_command(make_example_request("one.stl", None), typed),
+        self.check("a file alone", make_command(make_example_request("one.stl", None), typed),
                    "tools/qc one.stl --file-only")
         self.must("words", quote_command("cat", "a b", ">", "c", "|", "d'e") ==
                   "cat 'a b' >c | 'd'\"'\"'e'")

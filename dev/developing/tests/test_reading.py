@@ -2,27 +2,28 @@
 from __future__ import annotations
 
 import json
+import os
 from typing import Any
 
+from developing import TOOLS
 from developing.pes import decode_pts, encode_triplet, make_packet, make_pes_packet
-from subtitles.common.checks import JUMP
+from subtitles.common.checks import CLOCK as CLOCK_KIND, OPTION, OUTSIDE
 from subtitles.common.times import CLOCK, TICKS
 from subtitles.formats.layout import PLAIN, draw_text, make_page_rows
+from subtitles.formats.listing import NEVER_SENT, SUB_PAGES
 from subtitles.formats.stl_writer import StoredPage, store_page
 from subtitles.formats.teletext import (
-    CROATIAN, ENGLISH, FRENCH, GERMAN, OPTIONS, NationalOption)
-from subtitles.judging.status import ACCEPTED, LOST, NOT_JUDGED, REFUSED, Severity
-from subtitles.judging.unchecked import Unchecked
-from subtitles.judging.verdict import Verdict
+    CROATIAN, ENGLISH, FRENCH, GERMAN, OPTIONS, NationalOption, SentOption)
+from subtitles.judging.cues import CERTAIN, NOT_CERTAIN
+from subtitles.judging.status import (
+    AS_SHOWN, CheckSummary, Grounds, NOT_READ, Severity, WITH_FAULTS, decide_reading)
 from subtitles.reading.received import (
-    ShownPage, choose_header_option, choose_language, find_likely_errors, join_late_pages,
-    mark_cuts)
-from subtitles.reading.result import (
-    AS_SHOWN, NOT_READ, PageResult, ReadingGrounds, WITH_FAULTS, decide_reading)
+    ShownPage, choose_header_option, choose_language, find_likely_errors, find_undecided_option,
+    join_late_pages, mark_cuts)
 from subtitles.request.request import Unclear
+from subtitles.results.schema import find_misfit
 from subtitles.stream.receiver import BLANK_PAGE, Rows
 from .bench import Case, CompletedCall
-from .parts import make_example_request
 from .streams import add_pictures, make_stream_of_pids
 from .transmissions import CLOSING, HEADER, make_numbered_row, make_random_stl, packets, replace_pts
 
@@ -125,58 +126,83 @@ class ReceivedPages(Case):
             self.check(name, find_likely_errors(pages), {*expected})
 
     def test_chooses_the_option_by_the_headers_and_the_announcement(self) -> None:
-        rows: dict[str, tuple[tuple[int, list[str]], tuple[str, bool]]] = {
-            "only one option": ((4, []), ("german", False)),
-            "announced": ((0, ["pol"]), ("polish", False)),
-            "announced, default region": ((0, ["eng"]), ("english", False)),
-            "the second one": ((0, ["deu", "pol", "eng"]), ("polish", False)),
-            "not announced": ((0, []), ("english", True)),
-            "another one": ((2, ["pol"]), ("swedish", True)),
-            "reserved in the default region": ((7, ["ron"]), ("romanian", False))}
-        for name, (values, (word, has_note)) in rows.items():
-            option, notes = choose_header_option(*values)
-            self.check(name, (option.word, len(notes)), (word, int(has_note)))
+        rows: dict[str, tuple[tuple[int, list[str]], tuple[str, int]]] = {
+            "only one option": ((4, []), ("german", 1)),
+            "announced": ((0, ["pol"]), ("polish", 1)),
+            "announced, default region": ((0, ["eng"]), ("english", 1)),
+            "the second one": ((0, ["deu", "pol", "eng"]), ("polish", 1)),
+            "not announced": ((0, []), ("english", 2)),
+            "another one": ((2, ["pol"]), ("swedish", 2)),
+            "reserved in the default region": ((7, ["ron"]), ("romanian", 1))}
+        for name, (values, (word, count)) in rows.items():
+            options = choose_header_option(*values).options
+            self.check(name, (options[0].word, len(options)), (word, count))
         with self.assertRaises(Unclear):
             choose_header_option(7, ["pol"])
-        self.check("the note", choose_header_option(2, [])[1], [
-            "C12 to C14 of the headers select swedish or estonian, by the region to which the "
-            "receiver is set: no announced language decides it, so the text was read as swedish"])
+
+    def test_lists_pages_whose_characters_no_option_decides(self) -> None:
+        sent, pounds = choose_header_option(0, []), page((22, b"\x0b#5"))
+        text = "the characters of 1 subtitle: C12 to C14 of the headers select english or " \
+            "polish, by the region to which the receiver is set, no announced language decides " \
+            "it, and the text was read as english"
+        cases: tuple[tuple[str, SentOption, list[Rows], list[str]], ...] = (
+                ("no such character", sent, [ONE, TWO], []),
+                ("one of two", sent, [ONE, pounds], [text]),
+                ("decided", choose_header_option(0, ["eng"]), [pounds], []))
+        for name, options, rows, expected in cases:
+            pages = [ShownPage(at, at + 1, item, "") for at, item in enumerate(rows)]
+            found = find_undecided_option(options, pages)
+            self.check(name, [(item.kind, item.text) for item in found],
+                       [(OPTION, text) for text in expected])
 
     def test_chooses_the_language_by_the_announcement_and_the_headers(self) -> None:
         self.check_rows(choose_language, {
             "announced": ((["deu"], GERMAN), b"08"), "English": ((["eng"], ENGLISH), b"09"),
             "the second one": ((["eng", "ger"], GERMAN), b"08"),
-            "another one": ((["deu"], ENGLISH), b"00"), "none": (([], ENGLISH), b"00"),
-            "none, German": (([], GERMAN), b"08"),
-            "another one, French": ((["eng"], FRENCH), b"0F"),
+            "another one": ((["deu"], ENGLISH), b"08"), "none": (([], ENGLISH), b"00"),
+            "unknown": ((["und"], ENGLISH), b"00"), "none, German": (([], GERMAN), b"08"),
+            "none, French": (([], FRENCH), b"0F"),
             "Croatian": (([], CROATIAN), b"04"), "Serbian": ((["srp"], CROATIAN), b"24")})
 
 
 class Decisions(Case):
     def test_decides_the_verdict(self) -> None:
-        cut = ReadingGrounds(REFUSED, {74}, 1, is_cut=True)
-        self.check_rows(decide_reading, {
-            "accepted": ((ReadingGrounds(ACCEPTED),), AS_SHOWN),
-            "accepted with a problem": ((ReadingGrounds(ACCEPTED, other_count=1),), WITH_FAULTS),
-            "not judged": ((ReadingGrounds(NOT_JUDGED, other_count=1),), NOT_READ),
-            "lost": ((ReadingGrounds(LOST),), WITH_FAULTS),
-            "refused": ((ReadingGrounds(REFUSED, {72}, 1),), WITH_FAULTS),
-            "cut": ((cut,), AS_SHOWN),
-            "74, but not cut": ((cut._replace(is_cut=False),), WITH_FAULTS),
-            "cut, with a frame that is not trusted": ((cut._replace(untrusted_frames=1),),
-                                                      WITH_FAULTS),
-            "cut, with another fault": ((cut._replace(fault_numbers={74, 73}, fault_count=2),),
-                                        WITH_FAULTS),
-            "cut, with a second 74": ((cut._replace(fault_count=2),), WITH_FAULTS),
-            "cut, with a problem": ((cut._replace(other_count=1),), WITH_FAULTS)})
+        accepted, cut = CheckSummary(0, True), CheckSummary(1, False, 1, 1, {74})
+        grounds = Grounds([accepted], Severity(None), has_clock=True)
+        allowed = grounds._replace(severity=Severity(None, is_loss_allowed=True))
 
+        def refuse(*numbers: int, count: int = 1) -> Grounds:
+            return allowed._replace(parts=[CheckSummary(1, False, count, count, {*numbers})])
 
-    def test_a_large_jump_of_pictures_is_a_problem(self) -> None:
-        for change, names in ((0, []), (25 * TICKS, ["pictures"])):
-            verdict = Verdict(make_example_request("one.stl", "one.ts"), Severity(None), "now",
-                              unchecked=[Unchecked(JUMP, "unclear", change=change)])
-            self.check(f"{change}", [problem.name for problem in PageResult(
-                "888", None, (), verdict).problems], names)
+        for name, known, is_cut, untrusted, word in (
+                ("accepted", grounds, False, 0, AS_SHOWN),
+                ("a named fault", grounds._replace(named_faults=[SUB_PAGES]), False, 0,
+                 WITH_FAULTS),
+                ("an error", grounds._replace(error_kinds=["input"]), False, 0, NOT_READ),
+                ("no answer", grounds._replace(parts=[CheckSummary(None)]), False, 0, NOT_READ),
+                ("never sent", grounds._replace(parts=[], named_faults=[NEVER_SENT]), False, 0,
+                 WITH_FAULTS),
+                ("lost", grounds._replace(judged_losses=[True]), False, 0, WITH_FAULTS),
+                ("lost, allowed", allowed._replace(judged_losses=[True]), False, 0, WITH_FAULTS),
+                ("lost with a gap marker, allowed", refuse(45), False, 0, WITH_FAULTS),
+                ("silent, allowed", refuse(79), False, 0, WITH_FAULTS),
+                ("refused", refuse(72), False, 0, WITH_FAULTS),
+                ("required", grounds._replace(missing_kinds=["losses"]), False, 0, NOT_READ),
+                ("cut", grounds._replace(parts=[cut]), True, 0, AS_SHOWN),
+                ("cut, required", grounds._replace(parts=[cut], missing_kinds=["losses"]), True, 0,
+                 NOT_READ),
+                ("cut, lost", grounds._replace(parts=[cut], judged_losses=[True]), True, 0,
+                 WITH_FAULTS),
+                ("cut, lost, allowed", allowed._replace(parts=[cut], judged_losses=[True]), True, 0,
+                 WITH_FAULTS),
+                ("74, but not cut", grounds._replace(parts=[cut]), False, 0, WITH_FAULTS),
+                ("cut, with a frame that is not trusted", grounds._replace(parts=[cut]), True, 1,
+                 WITH_FAULTS),
+                ("cut, with another fault", refuse(74, 73, count=2), True, 0, WITH_FAULTS),
+                ("cut, with a second 74", refuse(74, count=2), True, 0, WITH_FAULTS),
+                ("cut, with a named fault", grounds._replace(
+                    parts=[cut], named_faults=[SUB_PAGES]), True, 0, WITH_FAULTS)):
+            self.check(name, decide_reading(known, is_cut, untrusted).word, word)
 
 
 OTHER_OPTION = make_packet(0, 0, [8, 8, 0, 8, 0, 8, 1, 8], b" " * 32)  # German
@@ -194,7 +220,11 @@ class WholeCalls(Case):
     def result(self, name: str = "888") -> dict[str, Any]:
         with open(self.path(f"out/{name}.json"), encoding="utf-8") as file:
             result: dict[str, Any] = json.load(file)
+        self.check("the schema", find_misfit(result), None)
         return result
+
+    def list_verdicts(self) -> list[str]:
+        return [row["verdict"] for row in self.result()["subtitles"]]
 
     def send(self, *transmissions: tuple[int, list[bytes]]) -> str:
         """Write PES packets with the given frames and Teletext packets. Return their path."""
@@ -213,20 +243,23 @@ class WholeCalls(Case):
             status, lines = self.program("check", stl, again, *layout)
             self.must(f"{seed}: the source accepts it", status == 0, lines)
             rows = self.result()["subtitles"]
-            self.must(f"{seed}: certain", all(row["certain"] for row in rows), rows)
+            self.must(f"{seed}: certain, but for the first", all(
+                row["verdict"] == (NOT_CERTAIN if row["cut"] else CERTAIN) for row in rows), rows)
 
     def test_says_where_the_times_come_from(self) -> None:
         sent = [make_pes_packet(90_000 + TICKS * frame, [HEADER, *([ROW] * text), CLOSING])
                 for frame, text in ((0, 0), (25, 1), (50, 0))]
         self.write("sent.pes", b"".join(sent))
         self.write("sent.ts", add_pictures(b"".join(sent), 90_000).data)
-        for args, clock, begin in ((("sent.pes",), "first PES packet", "00:00:01:00"),
+        for args, clock, begin in ((("sent.pes",), "first_pes", "00:00:01:00"),
                                    (("sent.pes", "--origin", "0"), "given", "00:00:02:00"),
                                    (("sent.ts", "--start", "10:00:00:00"), "start", "10:00:01:00")):
             call = self.read(*args)
             result = self.result()
-            self.check(" ".join(args), (call.status, result["clock"], result["subtitles"][0]["in"]),
-                       (0, clock, begin))
+            source, cue = result["parts"][0]["clock"]["source"], result["subtitles"][0]
+            is_listed = CLOCK_KIND in {item["kind"] for item in result["not_checked"]}
+            self.check(" ".join(args), (call.status, source, cue["expected_in"], is_listed),
+                       (0, clock, begin, clock == "first_pes"))
         call = self.read("sent.pes", "--start", "10:00:00:00")
         self.check("no picture", (call.status, self.result()["verdict"]), (2, NOT_READ))
 
@@ -240,9 +273,12 @@ class WholeCalls(Case):
             "no text": ([(0, blank), (25, blank)], [])}
         for name, (frames, cuts) in rows.items():
             call = self.read(self.send(*frames))
-            shown = self.result()["subtitles"]
-            self.check(name, (call.status, [row["cut"] for row in shown],
-                              [row["certain"] for row in shown]), (0, cuts, [True] * len(cuts)))
+            result = self.result()
+            shown = result["subtitles"]
+            self.check(name, (call.status, [row["cut"] for row in shown], self.list_verdicts()),
+                       (0, cuts, [CERTAIN if cut is None else NOT_CERTAIN for cut in cuts]))
+            self.check(f"{name}: a note", "the page was blank all the time" in result["notes"],
+                       not cuts)
 
     def test_names_what_it_can_not_vouch_for(self) -> None:
         text, blank = [HEADER, ROW, CLOSING], [HEADER, CLOSING]
@@ -250,15 +286,17 @@ class WholeCalls(Case):
         jumping = [(100, text), (125, blank), (5, text), (30, blank)]
         switching = [(25 * at, [HEADER if at % 2 else OTHER_SUBCODE, ROW, CLOSING])
                      for at in range(8)]
+        row_24 = [(0, blank), (25, [HEADER, make_packet(0, 24, (), b"x" * 40), CLOSING]),
+                  (50, blank)]
         for name, frames, args, status, begin in (
                 ("two options", [(0, text), (25, blank), (50, other), (75, blank)], (), 1,
                  "refused 67"),
                 ("reserved bits", [(0, [RESERVED_OPTION, CLOSING])], (), 2, "C12, C13 and C14"),
-                ("no such page", [(0, text)], ("--page", "889"), 2, "page 889 was never sent"),
-                ("row 24", [(0, blank), (25, [HEADER, make_packet(0, 24, (), b"x" * 40), CLOSING]),
-                            (50, blank)], (), 1, "not in the file, 00:00:01:00 to 00:00:02:00: "
-                 "row 24 has text"),
-                ("PTS go back", jumping, (), 1, "time goes back, the PTS go back at PES packet 2"),
+                ("no such page", [(0, text)], ("--page", "889"), 2, "no header of the page"),
+                ("row 24", row_24, (), 1, "not in the file, row 24 has text: xxx"),
+                ("PTS go back", jumping, (), 1, "time goes back, at 00:00:01:00, where the PTS of "
+                 "PES packet 2 is earlier than the last, so reading ends there. Read the rest with "
+                 f"{os.path.join(TOOLS, 'read')} sent.pes --page 888 --pes 2-3"),
                 ("its first part", jumping, ("--pes", "0-1"), 0, ""),
                 ("its second part", jumping, ("--pes", "2-3"), 0, ""),
                 ("another character set", [(0, text), (10, [OTHER_SET]), (25, blank)], (), 1,
@@ -266,21 +304,71 @@ class WholeCalls(Case):
                 ("sub-pages", [*switching, (250, blank)], (), 1, "sub-pages"),
                 ("a missing repeat", [(0, text), (300, blank)], (), 1, "refused 73"),
                 ("allowed", [(0, text), (300, blank)], ("--every", "300"), 0, ""),
-                ("not closed", [(0, [HEADER, ROW]), (1, blank)], (), 1, "refused 77")):
-            call = self.read(self.send(*frames), *args)
-            self.must(name, call.status == status and
-                      self.result(args[1] if "--page" in args else "888")["line"].partition(": ")[2]
-                      .startswith(begin), call)
+                ("not closed", [(0, [HEADER, ROW]), (1, blank)], (), 1, "refused 77"),
+                ("an unmade check", [(0, text), (25, blank)], ("--require", "clock"), 2,
+                 "required but not checked: clock")):
+            self.send(*frames)
+            call = self.read("sent.pes", *args)
+            result = self.result(args[1] if "--page" in args else "888")
+            line = result["reason"] or result["line"].partition(": ")[2]
+            self.must(name, call.status == status == result["status"] and line.startswith(begin),
+                      call)
+        self.send(*row_24)
+        self.read("sent.pes")
+        result = self.result()
+        self.check("counts", [result["subtitles"], result["subtitle_counts"],
+                              result["reading"]["shown"]], [[], {"judged": 0, "refused": 1}, 1])
+
+    def test_names_pes_packets_before_the_first_header(self) -> None:
+        self.send((0, [CLOSING]), (25, [CLOSING]), (30, [HEADER, CLOSING]), (50, [HEADER, CLOSING]))
+        self.check("status", self.read("sent.pes").status, 0)
+        self.check("entry", [(item["from"], item["to"], item["text"])
+                             for item in self.result()["not_checked"] if item["kind"] == OUTSIDE],
+                   [("00:00:00:00", "00:00:01:00", "2 PES packets before the first header of the "
+                     "page, from 00:00:00:00 to 00:00:01:00")])
+
+    def test_names_subtitles_with_enhancements(self) -> None:
+        text, blank = [HEADER, ROW, CLOSING], [HEADER, CLOSING]
+        enhanced = [HEADER, ROW, make_packet(0, 26, [0], b"") + encode_triplet(0) * 13, CLOSING]
+        self.send((0, blank), (25, text), (50, blank), (75, enhanced), (100, blank))
+        self.check("status", self.read("sent.pes").status, 1)
+        result = self.result()
+        self.check("count", (result["reading"]["enhanced"], result["reading"]["certain"],
+                             self.list_verdicts()), (1, 2, [CERTAIN, CERTAIN]))
+        self.check("which", ["packets X/26" in str(row["reason"]) for row in result["subtitles"]],
+                   [False, True])
+        self.must("note", any("1 subtitle, first at 00:00:03:00: packets X/26" in note
+                              for note in result["notes"]), result["notes"])
+
+    def test_is_not_certain_of_cues_next_to_a_loss(self) -> None:
+        text, blank = [HEADER, ROW, CLOSING], [HEADER, CLOSING]
+        frames = {at: blank for at in range(0, 300, 5)}
+        frames |= {at: text for at in (*range(20, 40, 5), *range(60, 100, 5), *range(150, 200, 5),
+                                       *range(220, 240, 5))}
+        sent = b"".join(make_pes_packet(TICKS * at + 90_000, item)
+                        for at, item in sorted(frames.items()))
+        whole = make_stream_of_pids((0x101, sent))
+        stream = [whole[at:at + 188] for at in range(0, len(whole), 188)]
+        begins = [at for at, packet in enumerate(stream) if packet[1:3] == b"\x41\x01"]
+        for name, lost, expected in (
+                ("before the in-cue", 145, [CERTAIN, CERTAIN, NOT_CERTAIN, CERTAIN]),
+                ("within", 170, [CERTAIN, CERTAIN, NOT_CERTAIN, CERTAIN]),
+                ("after the out-cue", 200, [CERTAIN, CERTAIN, NOT_CERTAIN, CERTAIN]),
+                ("in a pause", 120, [CERTAIN] * 4)):
+            at = begins[lost // 5]
+            self.write("lost.ts", b"".join(stream[:at] + stream[at + 1:]))
+            for words in ((), ("--allow-lost",)):
+                call = self.read("lost.ts", *words)
+                self.check(f"{name} {words}", (call.status, self.list_verdicts()), (1, expected))
 
     def test_names_a_reading_that_ends_early(self) -> None:
         data = self.read_bytes(25)
         pes = packets(data)
         broken = bytearray(data)
         broken[len(b"".join(pes[:10])) + 5] ^= 1
-        self.check("the length", (self.read(self.write("a.pes", broken)).status,
-                                  self.result()["problems"][0]["name"]), (1, "ends early"))
-        self.check("the end", (self.read(self.write("a.pes", data[:-50])).status,
-                               self.result()["problems"][0]["name"]), (1, "ends early"))
+        for name, content in (("the length", bytes(broken)), ("the end", data[:-50])):
+            call = self.read(self.write("a.pes", content))
+            self.check(name, (call.status, self.result()["faults"][0]["name"]), (1, "ends early"))
 
     def read_bytes(self, every: int) -> bytes:
         stl = self.write("one.stl", make_random_stl(1)[0])
@@ -297,8 +385,11 @@ class WholeCalls(Case):
         data = self.read_bytes(25)
         self.write("two.ts", make_stream_of_pids((0x101, data), (0x102, data)))
         call = self.read("two.ts")
-        line = self.result()["line"]
-        self.must("both", call.status == 2 and "PID 0x101, PID 0x102" in line, call)
+        reason = self.result()["reason"]
+        self.must("both", call.status == 2 and "page 888 is sent on 2 PIDs" in reason, call)
+        command = f"{os.path.join(TOOLS, 'read')} two.ts --page 888 --pid"
+        self.must("commands", all(f"{command} {pid}" in line for pid, line in zip(
+            ("0x101", "0x102"), call.told[-2:])), call)
         self.check("one", self.read("two.ts", "--pid", "0x102").status, 0)
 
     def test_replaces_only_its_own_files(self) -> None:
@@ -308,38 +399,5 @@ class WholeCalls(Case):
         self.check("again", self.read(sent).status, 0)
         self.write("out/888.stl", make_random_stl(1)[0])
         call = self.read(sent)
-        self.must("of the operator", call.status == 2 and "was not written by read" in
+        self.must("of the operator", call.status == 2 and "was not written by" in
                   "".join(call.told), call)
-
-    def test_compares_another_file_with_what_was_read(self) -> None:
-        def move(frame: int, first: int) -> int:
-            return frame + 2 * (frame >= first)
-
-        text, blank = [HEADER, ROW, CLOSING], [HEADER, CLOSING]
-        frames = [(0, blank), (25, text), (50, blank), (75, text), (100, blank)]
-        one = self.write("one.pes", self.read_sent(frames))
-        for name, other, status in (
-                ("the same", frames, 0), ("all later", [(at + 2, sent) for at, sent in frames], 1),
-                ("the second later", [(move(at, 75), sent) for at, sent in frames], 1),
-                ("one subtitle less", frames[:3], 1),
-                ("one more", [*frames, (125, text), (150, blank)], 1),
-                ("no text", [(0, blank), (100, blank)], 1)):
-            call = self.read(one, "--origin", "0", "--against",
-                             self.write("two.pes", self.read_sent(other)))
-            self.check(name, (call.status, b"the same subtitles" in call.out), (status, not status))
-            call = self.read(self.path("two.pes"), "--origin", "0", "--against", one)
-            self.check(f"{name}, the other way", call.status, status)
-        self.check("its own file", self.read(one, "--origin", "0").status, 0)
-        stl = self.write("own.stl", self.read_file("out/888.stl"))
-        self.check("a file", self.read(one, "--origin", "0", "--against", stl).status, 0)
-        more = self.write("two.pes", self.read_sent([*frames, (125, text), (150, blank)]))
-        self.check("not on air", self.read(more, "--origin", "0", "--against", stl).status, 1)
-        self.check("no clock", self.read(one, "--against", stl).status, 64)
-
-    def read_sent(self, frames: list[tuple[int, list[bytes]]]) -> bytes:
-        with open(self.send(*frames), "rb") as file:
-            return file.read()
-
-    def read_file(self, name: str) -> bytes:
-        with open(self.path(name), "rb") as file:
-            return file.read()

@@ -11,11 +11,12 @@ from subtitles.formats.stl import NamedSubtitle, Subtitle, SubtitleFile
 from subtitles.judging.causes import Cause, LATE, NEVER, NOT_RECEIVED, UNKNOWN_CAUSE, WRONG_TEXT
 from subtitles.judging.cues import Cue, CueJudge, CueVerdict, add_decoded_page
 from subtitles.judging.status import (
-    ACCEPTED, LOST, NOT_JUDGED, REFUSED, RELATIVE, VALID, WAIVED, WARNED)
+    ACCEPTED, AS_SHOWN, LOST, NOT_JUDGED, NOT_READ, REFUSED, RELATIVE, VALID, WAIVED, WARNED,
+    WITH_FAULTS)
 from subtitles.judging.transmissions import ExpectedPages
 from subtitles.report.blocks import mark_field, mark_text, mark_times, show_byte
 from subtitles.report.cue_list import CueList, CueRow, mark_difference, format_signed
-from subtitles.report.page import SHAPES, keep_options_together
+from subtitles.report.page import SHAPES, draw_verdict, keep_options_together
 from subtitles.stream.packets import Packets, PES
 from subtitles.stream.receiver import BLANK_PAGE, Rows, Timeline
 from .bench import Case
@@ -162,7 +163,7 @@ class CueVerdicts(Case):
         for span, word in (((0, 99), "right"), ((100, 100), "not known"), ((199, 300), "not known"),
                            ((200, 300), "right")):
             part: Any = SimpleNamespace(
-                causes=None, unmarked_losses=[Span(*span)],
+                causes=None, doubts=None, unmarked_losses=[Span(*span)],
                 check_output=SimpleNamespace(is_file=False, fault_spans={}, verdict=ACCEPTED))
             verdict = CueJudge(part).judge(cue)
             self.check(f"{span}", (verdict.word, verdict.doubt), (
@@ -229,7 +230,10 @@ class TextMarkup(Case):
 
     def test_gives_each_verdict_a_class_and_a_shape(self) -> None:
         words = (ACCEPTED, VALID, WAIVED, RELATIVE, REFUSED, LOST, WARNED, NOT_JUDGED)
-        self.must("all", set(SHAPES) == set(words))
+        for reading, pair in ((AS_SHOWN, ACCEPTED), (NOT_READ, NOT_JUDGED), (WITH_FAULTS, REFUSED)):
+            self.check(reading, [draw_verdict(word)[0] for word in (reading, pair)],
+                       [draw_verdict(pair)[0]] * 2)
+        self.must("all", set(SHAPES) == {*words, AS_SHOWN, NOT_READ})
         self.must("classes", len({kind for kind, _ in SHAPES.values()}) == len(words))
         self.must("shapes", len({markup_text(drawn) for _, drawn in SHAPES.values()}) == len(words))
 

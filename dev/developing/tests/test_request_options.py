@@ -14,7 +14,7 @@ from subtitles.common.command_line import (
     Lateness, Stop, ToolParser, format_lateness, parse_lateness)
 from subtitles.common.shapes import Flag, Text
 from subtitles.common.times import FRAMES_OF_A_DAY
-from subtitles.request.commands import CommandPaths, format_profile, make_qc_command
+from subtitles.request.commands import CommandPaths, format_profile, make_command
 from subtitles.request.lines import read_pairs, read_profile, make_line_request
 from subtitles.request.request import (
     ALONE, JUDGED, LINE, MEASURE, OPTIONS, Option, Request, add_options, keep_stl,
@@ -50,7 +50,7 @@ from subtitles.results.schema import schema
 from subtitles.common.command_line import Stop
 from subtitles.request.lines import make_line_request
 from subtitles.request.request import make_request
-from subtitles.request.commands import CommandPaths, make_qc_command
+from subtitles.request.commands import CommandPaths, make_command
 
 def said(does):
     try:
@@ -73,7 +73,7 @@ print(json.dumps({
     "completion": pages.make_completion_parts("  check STL PES  does\\n", "", [help])["values"],
     "asked": REQUEST.to_json(asked), "left out": REQUEST.to_json(none),
     "call": list_call_arguments(asked),
-    "again": make_qc_command(asked, CommandPaths("tools/qc", program)),
+    "again": make_command(asked, CommandPaths("tools/qc", program)),
     "check": asked.list_check_arguments(),
     "file": asked.list_check_arguments(True), "pages": asked.list_schedule_arguments(),
     "schema": schema()["definitions"]["request"]["properties"],
@@ -163,7 +163,7 @@ class OptionRows(Case):
         every = [word for name, value, _ in ROWS if name != "--start"
                  for word in ([name, value] if value else [name])]
         request = make_example_request("one.stl", "one.pes", *every)
-        typed = make_qc_command(request, CommandPaths("tools/qc", self.bench.program))
+        typed = make_command(request, CommandPaths("tools/qc", self.bench.program))
         for name, _, _ in ROWS:
             self.must(f"{name}: typed", (f" {name}" in typed) == (name != "--start"), typed)
         self.must("complete",

@@ -15,7 +15,8 @@ from ..common.command_line import (
 from ..common.files import Inputs, NO_INPUTS, STANDARD_OUTPUTS, refuse_output_name, open_result
 from ..common.markup import BREAK, HEAD, Markup, NO_MARKUP, Value, join_markup, markup
 from ..judging.status import (
-    ACCEPTED, LOST, NOT_JUDGED, REFUSED, RELATIVE, VALID, WAIVED, WARNED, combine_statuses)
+    ACCEPTED, AS_SHOWN, LOST, NOT_JUDGED, NOT_READ, REFUSED, RELATIVE, VALID, WAIVED, WARNED,
+    WITH_FAULTS, combine_statuses)
 from ..request.commands import make_index_path
 from ..results.files import (
     ENDING, NO_CLOCK, Row, TestCase, sort_rows, make_junit_file, read_result, read_results,
@@ -44,9 +45,11 @@ th { background: var(--shade); font-weight: 600; }
 caption { text-align: left; color: var(--soft); font-size: 13px; }
 .pairs thead th { position: sticky; top: 0; overflow-wrap: normal; }
 td.verdict { font-weight: 600; white-space: nowrap; border-left: 4px solid; }
-.accepted .verdict { color: var(--good); } .refused .verdict { color: var(--bad); }
+.accepted .verdict, .as-shown .verdict { color: var(--good); }
+.refused .verdict, .shown-with-faults .verdict { color: var(--bad); }
 .waived .verdict { color: var(--soft); } .lost .verdict { color: var(--lost); }
-.warned .verdict, .relative .verdict, .not-judged .verdict, .estimated { color: var(--amber); }
+.warned .verdict, .relative .verdict, .not-judged .verdict, .not-read .verdict,
+.estimated { color: var(--amber); }
 .verdict .estimated { display: block; font-size: 13px; }
 small { color: var(--soft); }
 fieldset { border: 1px solid var(--line); display: flex; flex-wrap: wrap; gap: 4px 16px; }
@@ -58,7 +61,8 @@ fieldset { border: 1px solid var(--line); display: flex; flex-wrap: wrap; gap: 4
 @media print { fieldset { display: none; } .pairs thead th { position: static; } }
 """)
 VERDICT_SIGNS = {ACCEPTED: "\u2713", VALID: "\u25a1", WAIVED: "\u2212", REFUSED: "\u2715",
-                 LOST: "\u29d6", WARNED: "!", NOT_JUDGED: "?", RELATIVE: "\u223c"}
+                 LOST: "\u29d6", WARNED: "!", NOT_JUDGED: "?", RELATIVE: "\u223c",
+                 AS_SHOWN: "\u2713", WITH_FAULTS: "\u2715", NOT_READ: "?"}
 PAGE_HEADS = ("Verdict", "Pair", "What is wrong", "Faults", "Files")
 MAX_CAUSES = 6
 MAX_PAGE_PAIRS = 5000  # a page with 100,000 pairs would have 38 MB
@@ -110,7 +114,7 @@ def make_cause_totals(rows: Sequence[Row]) -> Markup:
 def make_sort_key(row: Row) -> tuple[int, str]:
     """Return a key that sorts refused pairs first, then pairs that were not judged, then waived and
     relative pairs and subtitle files without a recording, and accepted pairs last."""
-    ranks = {NOT_JUDGED: 1, WAIVED: 2, RELATIVE: 2, VALID: 2, ACCEPTED: 3}
+    ranks = {NOT_JUDGED: 1, NOT_READ: 1, WAIVED: 2, RELATIVE: 2, VALID: 2, ACCEPTED: 3, AS_SHOWN: 3}
     return ranks.get(row.verdict, 0), row.name
 
 

@@ -134,10 +134,15 @@ def make_parser(text: str) -> ToolParser:
 
 
 def main(text: str, program_name: str, line: list[str]) -> int:
-    """Run a command line of qc and return the exit status. If it fails before judging begins, write
-    the reason to the files of --json, --csv and --junit."""
+    """Run a command line of qc and return the exit status."""
+    return report_failures(lambda: dispatch(text, program_name, line), line)
+
+
+def report_failures(run: Callable[[], int], line: list[str]) -> int:
+    """Run a command line and return the exit status. If it fails before judging begins, write the
+    reason to the files of --json, --csv and --junit."""
     try:
-        status = dispatch(text, program_name, line)
+        status = run()
         sys.stdout.flush()
         return status
     except (Exception, KeyboardInterrupt) as reason:

@@ -10,22 +10,23 @@ import re
 import signal
 import stat
 import time
-from typing import Callable, Iterator, Mapping, NamedTuple
+from typing import Callable, Iterator, Mapping, NamedTuple, TypeVar
 
 from ..common.command_line import (
     BUG, ProgramInterrupted, RESOURCE, SIGNAL, Stop, classify_error, counted, discard_output,
     escape_character, format_error, print_stderr)
 from ..common.files import (
     Inputs, STANDARD_OUTPUTS, Stamp, add_name_to_errors, describe_kind, is_replaced,
-    make_temporary_folder, open_output, open_result, read_first_bytes, read_stamp,
+    make_temporary_folder, open_output, open_result, read_chunks, read_first_bytes, read_stamp,
     refuse_output_name)
 from ..common.markup import HEAD
 from ..common.program import describe_program
 from ..formats.listing import parse_count_line, is_check_line
+from ..formats.stl_writer import PUB, READ_PUBLISHER
 from ..judging.causes import format_cause_counts
 from ..judging.faults import list_hints
 from ..judging.pair import PairJudge
-from ..judging.status import ACCEPTED, NOT_JUDGED, RELATIVE, Severity, VALID
+from ..judging.status import ACCEPTED, AS_SHOWN, NOT_JUDGED, RELATIVE, Severity, VALID
 from ..judging.verdict import FailedOutput, Unjudged, Verdict
 from ..recording.recording import Recording
 from ..request.commands import (
@@ -82,6 +83,8 @@ def is_own_file(path: str) -> bool:
         return is_check_line(line) and parse_count_line(line) is None
     if os.path.basename(path) == STATE:
         return data.startswith(STATE_PREFIX)
+    if ending == ".stl":
+        return data[PUB].startswith(READ_PUBLISHER)
     return bool(RESULT.match(data)) if ending == ".json" else data.startswith(HEAD.page())
 
 
@@ -218,7 +221,7 @@ def judge_and_report(request: Request, call: PairOptions, program_name: str) -> 
     command_paths = CommandPaths(program_name, call.program)
     listener = Listener(printer)
     stamps = stamp_inputs(request)
-    verdict = make_verdict(request, listener)
+    verdict = make_verdict(request, listener, Verdict)
     verdict.is_kept = call.is_kept
     name = call.name or make_pair_name(request.stl)
     refuse_outputs(call, request, staging_folder, name)
@@ -243,12 +246,14 @@ def stamp_inputs(request: Request) -> dict[str, Stamp | None]:
     return {name: read_stamp(name) for name in names if name}
 
 
-def make_verdict(request: Request, listener: Listener) -> Verdict:
+AnyVerdict = TypeVar("AnyVerdict", bound=Verdict)
+
+
+def make_verdict(request: Request, listener: Listener, kind: type[AnyVerdict]) -> AnyVerdict:
     """Return an empty verdict that shares the notes, commands and choices of `listener`."""
-    return Verdict(request, Severity(
+    return kind(request, Severity(
         request.severity, request.is_loss_allowed, request.pace is not None), now(),
-                   notes=listener.notes, commands=listener.commands,
-                   selections=listener.selections)
+                notes=listener.notes, commands=listener.commands, selections=listener.selections)
 
 
 def refuse_outputs(call: PairOptions, request: Request, out: str | None, name: str) -> None:
@@ -356,7 +361,8 @@ def print_verdict(verdict: Verdict, printer: Printer, page: str | None = None) -
 def format_reference(verdict: Verdict, page: str | None) -> str:
     """Return a sentence that refers the reader to the report or, if there is no report, to the
     manual's section about the worst fault. Return an empty string if there is no fault."""
-    if verdict.word in (ACCEPTED, VALID) or verdict.word == RELATIVE and not verdict.fault_count:
+    if verdict.word in (ACCEPTED, VALID, AS_SHOWN) or \
+            verdict.word == RELATIVE and not verdict.fault_count:
         return ""
     if page:
         return f" See {page}."
@@ -466,7 +472,8 @@ class OutputFiles:
         return outputs
 
     def list_raw_outputs(self, recording: Recording | None) -> list[Output]:
-        """Return the fault lists of all parts as printed by `check`, and the kept recording."""
+        """Return the fault lists of all parts as printed by `check`, the kept recording, and the
+        subtitle file that was read from the recording."""
         lists = [Output(part.names.make_final_path("txt"), part.check_output.read_bytes, True,
                         is_raw=True)
                  for part in self.verdict.parts]
@@ -474,6 +481,9 @@ class OutputFiles:
         if self.call.is_kept and recording and ending:
             lists.append(Output(self.names.make_final_path(ending), recording.read_kept_data, True,
                                 is_raw=True))
+        if self.verdict.request.is_reading and self.verdict.is_judged and self.verdict.stl:
+            lists.append(Output(self.names.make_final_path("stl"), lambda: read_chunks(
+                self.verdict.request.stl_path), True, is_raw=True))
         return lists
 
     def make_pair_junit_file(self) -> Iterator[bytes]:

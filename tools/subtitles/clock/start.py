@@ -16,8 +16,9 @@ from ..stream.survey import ProgramMap, Survey
 
 
 RECORDING, GIVEN, START, TCP = "recording", "given", "start", "tcp"
+FIRST_PES = "first_pes"  # for tools/read: the first PES packet is at 00:00:00:00
 SOURCES = {RECORDING: "estimated", GIVEN: "given", START: "by the first picture",
-           TCP: "by the first picture, TCP"}
+           TCP: "by the first picture, TCP", FIRST_PES: "from the first PES packet"}
 ESTIMATED_NOTE = "no clock was given"
 ESTIMATED_LATER_NOTE = "the clock after a break was estimated, so a delay that all subtitles of " \
     "that part share was not checked"

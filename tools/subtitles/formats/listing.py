@@ -156,6 +156,16 @@ NEVER_SENT = "never sent"  # the PMT announces the page, but it was not sent
 PICTURES_LEFT = "pictures left"  # the video PTS jump, but the subtitle PTS do not
 NOT_SHOWN = "not shown"  # no receiver shows a row of a subtitle
 FAULT_NAMES = (NEVER_SENT, PICTURES_LEFT, NOT_SHOWN)
+# Faults that only tools/read finds
+
+NOT_IN_FILE = "not in the file"  # no subtitle draws a page that receivers show
+ENDS_EARLY = "ends early"  # the end of the recording can't be read
+TIME_GOES_BACK = "time goes back"  # the PTS go back, so the rest was not read
+SUB_PAGES = "sub-pages"  # sub-pages of the page alternate
+CHARACTER_SET = "character set"  # packets X/28 or M/29 name another character set
+CLOCK_JUMP = "clock jump"  # the PCR jumps, but no packet is missing
+READING_FAULT_NAMES = (NOT_IN_FILE, ENDS_EARLY, TIME_GOES_BACK, SUB_PAGES, CHARACTER_SET,
+                       CLOCK_JUMP)
 
 
 class NamedFault(NamedTuple):
@@ -212,7 +222,7 @@ def read_named_meanings() -> dict[str, Meaning]:
         for line in file:
             cells = [cell.strip() for cell in line.strip().strip("|").split("|")]
             name = cells[0].strip("`")
-            if len(cells) == 4 and name in FAULT_NAMES:
+            if len(cells) == 4 and name in (*FAULT_NAMES, *READING_FAULT_NAMES):
                 meaning_by_name[name] = Meaning(name, *cells[2:])
     return meaning_by_name
 

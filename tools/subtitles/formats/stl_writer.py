@@ -15,6 +15,8 @@ from .teletext import COMMON, NATIONAL_CODES, NationalOption
 MAX_BLOCKS = 9  # most blocks of a subtitle that `check` reads
 BOXED, ENDED = b"\x0b\x0b", b"\x0a\x0a"  # codes that the default layout adds around a line
 LEFT, CENTRED, RIGHT = 1, 2, 3  # justification codes (JC)
+PUB = slice(277, 309)  # bytes of the publisher in a GSI block
+READ_PUBLISHER = b"subttx read"  # marks the files that tools/read may replace
 
 
 def encode_time_code(frame: int) -> bytes:
@@ -24,11 +26,12 @@ def encode_time_code(frame: int) -> bytes:
 
 
 def make_gsi_block(title: bytes, blocks: int, subtitles: int, first: int = 0,
-                   language: bytes = b"09", publisher: bytes = b"") -> bytes:
+                   language: bytes = b"09", publisher: bytes = b"",
+                   date: bytes = b"261122") -> bytes:
     """Return a GSI block with STL25.01, Teletext level 1 and code table 00.
 
-    `language` is an LC such as 09 (English) or 08 (German). `subttx` ignores the counts and the
-    first time code.
+    `language` is an LC such as 09 (English) or 08 (German), and `date` is YYMMDD. `subttx` ignores
+    the counts and the first time code.
     """
     block = bytearray(b" " * GSI)
 
@@ -41,14 +44,14 @@ def make_gsi_block(title: bytes, blocks: int, subtitles: int, first: int = 0,
     put(12, b"00")  # CCT: code table 00, Latin
     put(14, language)  # LC, language code
     put(16, title[:32])  # OPT, programme title
-    put(224, b"261122261122")  # CD and RD, dates
+    put(224, date * 2)  # CD and RD, dates of creation and revision
     put(236, b"00")  # RN, revision number
     put(238, b"%05d%05d001" % (blocks, subtitles))  # TNB, TNS, TNG: total numbers
     put(251, b"4023")  # MNC, MNR: columns and rows
     put(255, b"1")  # TCS: time codes are intended for use
     put(256, b"00000000%02d%02d%02d%02d" % tuple(encode_time_code(first)))  # TCP, TCF: time codes
     put(272, b"11GBR")  # TND, DSN: disk 1 of 1; CO
-    put(277, publisher[:32])  # PUB
+    put(PUB.start, publisher[:32])
     return bytes(block)
 
 

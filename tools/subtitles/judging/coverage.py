@@ -8,7 +8,7 @@ from ..common.command_line import counted
 from ..common.times import ALL_DAY
 from ..formats.stl import SubtitleFile
 from .unchecked import Unchecked, summarize_pictures
-from .verdict import Verdict
+from .verdict import SCOPE_PAIR, Verdict
 
 UNCHECKED_ROW_0 = "row 0, the header line of the page"
 UNCHECKED_GAP = "the transmission between the parts"
@@ -39,7 +39,7 @@ def list_outside(verdict: Verdict) -> Iterator[tuple[str, str]]:
         yield ROW_0, UNCHECKED_ROW_0
         judged_count = sum(part.pes[1] + 1 - part.pes[0] for part in verdict.parts if part.pes)
         count = verdict.parts[0].packets.count
-        if judged_count < count:
+        if judged_count < count and verdict.scope == SCOPE_PAIR:
             yield OUTSIDE, f"{counted(count - judged_count, 'PES packet')} of {count:,}, before " \
                 "and after the subtitles"
     elif request.recording and not verdict.recording:

@@ -121,6 +121,8 @@ def is_variant(page: Rows, decoded: Rows, expected: ExpectedPages) -> bool:
 
 
 RIGHT, WRONG, WAIVED, NOT_KNOWN = "right", "wrong", "waived", "not known"
+CERTAIN, NOT_CERTAIN = "certain", "not certain"  # of subtitles that were read from a recording
+CUTS = START, END, BOTH = "start", "end", "both"  # of such a subtitle: what is not in the recording
 NOT_ALL_RECEIVED = "not received completely"
 
 
@@ -151,6 +153,10 @@ class CueJudge:
         begin, end = cue.subtitle.begin, cue.subtitle.end
         numbers = [number for number, spans in self.spans.items()
                    if any(True for _ in spans.between(begin, end))]
+        if self.part.doubts is not None:
+            unsure = self.describe_doubt(cue)
+            return CueVerdict(NOT_CERTAIN if unsure else CERTAIN, fault_numbers=numbers,
+                              doubt=unsure)
         words = self.wording.describe(cue.cause,
                                       has_text=False) if cue.cause and self.wording else ""
         if not words and not numbers:
@@ -168,6 +174,8 @@ class CueJudge:
         is accepted and no TS packet was lost during the cue, or `check` trusts all frames of the
         cue."""
         begin, end = cue.subtitle.begin, cue.subtitle.end
+        if doubt := (self.part.doubts or {}).get(cue.subtitle.index):
+            return doubt
         if self.part.check_output.verdict == ACCEPTED:
             is_lost = any(span.first < end and begin <= span.last
                           for span in self.part.unmarked_losses)
@@ -300,7 +308,8 @@ def make_judged_rows(part: Part) -> Iterator[Members]:
             "delay_in": cue.delay_in, "delay_out": cue.delay_out,
             "expected_text": format_page_text(cue.expected, option),
             "decoded_text": None if cue.decoded is None else format_page_text(cue.decoded, option),
-            "verdict": verdict.word, "reason": judge.describe_reason(verdict) or None,
+            "verdict": verdict.word, "cut": None,
+            "reason": judge.describe_reason(verdict) or None,
             "complete_after": part.delays[place] if part.delays else None}
 
 
@@ -317,4 +326,4 @@ def make_refused_rows(part: Part, valid_subtitles: ValidSubtitles | None) -> Ite
                 "expected_text", "decoded_text", "complete_after"))
             yield {"part": part.number, "position": subtitle.position, "number": subtitle.number,
                    "expected_in": subtitle.begin, "expected_out": subtitle.end,
-                   "verdict": word, "reason": reason, **unknown_values}
+                   "verdict": word, "cut": None, "reason": reason, **unknown_values}

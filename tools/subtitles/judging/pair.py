@@ -18,7 +18,7 @@ from ..formats.teletext import OPTION_BY_WORD
 from ..recording import notices
 from ..recording.notices import NeverSent, Notice, refuse_dead_source, refuse_other_pid
 from ..recording.recording import Recording, refuse_files
-from ..request.commands import CommandPaths, Listener, OutputNames, make_qc_command
+from ..request.commands import CommandPaths, Listener, OutputNames, make_command
 from ..request.request import (
     OPTION_CHOICE, Request, Selection, Unclear, IncompleteAnswer, WrongInput, describe_option)
 from ..stream.packets import HEADER, NO_RANGE, Range
@@ -151,7 +151,7 @@ class PairJudge:
 
     def format_call(self, *more: str) -> str:
         """Return the command line of this run, with the additional arguments `more`."""
-        return make_qc_command(self.request, self.command_paths, *more)
+        return make_command(self.request, self.command_paths, *more)
 
     def judge(self) -> None:
         """Judge the pair; raise `Unclear` if the operator must decide something first."""
@@ -210,7 +210,8 @@ class PairJudge:
             answer = self.find_valid_subtitles(answer)
         file = SubtitleFile(self.names.program_stl)
         verdict.warnings += notices.find_count_notices(file)
-        if request.from_time is None and (title := advise_on_title(file)):
+        if request.from_time is None and not request.is_reading and \
+                (title := advise_on_title(file)):
             self.listener.add_notes(title)
         return answer
 

@@ -5,7 +5,7 @@ import array
 import collections
 import dataclasses
 import functools
-from typing import Callable, Collection, Iterator, NamedTuple, Sequence
+from typing import Callable, Collection, Iterator, Mapping, NamedTuple, Sequence
 
 from ..clock.start import Clock, TimedPart
 from ..common.command_line import counted
@@ -66,6 +66,9 @@ class Part:
     judged_file: SummedFile | None = None  # the judged PES packets of a piped recording
     # PTS before and after each announced jump of the continuity counter that may hide lost packets
     jumps: Sequence[PTSPair] = ()
+    # If the subtitles were read from the recording: why some are not certain although `check`
+    # trusts their frames, by position in the file
+    doubts: Mapping[int, str] | None = None
     expected_pages: Callable[[], ExpectedPages] = make_empty_pages
     timeline: Callable[[], Timeline | None] = lambda: None
     severity: Severity = ALL_ERRORS

@@ -10,9 +10,10 @@ from ..common.checks import CLOCK, describe_kinds
 from ..common.command_line import counted, format_frame_range, was
 from ..common.times import format_frame
 from ..formats.listing import (
-    BEGIN, CONTENT, CONTROL, END, ENDS_READING, FaultLine, GAP, INCOMPLETE, LOSSES, LOST_PACKETS,
-    NamedFault, NEVER_SENT, NOT_SHOWN, OFF_FRAME, ORDER, PARITY, PICTURES_LEFT, STL_FAULTS,
-    UNDECIDED, FAULTS_WITH_CAUSE)
+    BEGIN, CHARACTER_SET, CLOCK_JUMP, CONTENT, CONTROL, END, ENDS_EARLY, ENDS_READING, FaultLine,
+    GAP, INCOMPLETE, LOSSES, LOST_PACKETS, NamedFault, NEVER_SENT, NOT_IN_FILE, NOT_SHOWN,
+    OFF_FRAME, ORDER, PARITY, PICTURES_LEFT, STL_FAULTS, SUB_PAGES, TIME_GOES_BACK, UNDECIDED,
+    FAULTS_WITH_CAUSE)
 from ..formats.stl import Subtitle
 from ..formats.teletext import OPTION_BY_WORD
 from .causes import (
@@ -56,7 +57,10 @@ NUMBER_RANKS = {
     **dict.fromkeys((*ENDS_READING - {31, 32}, *LOSSES, BEGIN, END, UNDECIDED), Rank.UNSEEN),
     **dict.fromkeys((64, 65, 66, 69, 70, 71, 73), Rank.LATER)}
 
-NAME_RANKS = {NEVER_SENT: Rank.NEVER, NOT_SHOWN: Rank.WRONG, PICTURES_LEFT: Rank.MOVED}
+NAME_RANKS = {
+    NEVER_SENT: Rank.NEVER, NOT_SHOWN: Rank.WRONG, PICTURES_LEFT: Rank.MOVED,
+    NOT_IN_FILE: Rank.FILE, SUB_PAGES: Rank.SOME, CHARACTER_SET: Rank.SOME,
+    **dict.fromkeys((ENDS_EARLY, TIME_GOES_BACK, CLOCK_JUMP), Rank.UNSEEN)}
 
 
 def find_worst_named_fault(faults: Sequence[NamedFault],

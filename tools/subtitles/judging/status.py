@@ -7,7 +7,7 @@ from typing import Callable, Collection, Iterable, NamedTuple, Sequence
 from ..common.command_line import (
     BUG, BUG_STATUS, OTHER_STATUS, STATUSES_BY_KIND, Stop, UNDECIDED, USAGE_STATUS)
 from ..common.files import read_bounded_bytes
-from ..formats.listing import ENDS_FILE, ENDS_READING, FAULT_NAMES, LOST_PACKETS, SILENT
+from ..formats.listing import END, ENDS_FILE, ENDS_READING, FAULT_NAMES, LOST_PACKETS, SILENT
 from ..request.lines import MAX_PROFILE_BYTES, decode_text
 from .waivers import (
     EXAMPLE, FileWaivers, Owners, Waiver, choose_waivers, is_waiver, parse_waiver)
@@ -102,6 +102,11 @@ STATUSES = {ACCEPTED: 0, VALID: 0, WAIVED: 0, REFUSED: 1, LOST: 1, WARNED: 1,
 POSSIBLE_RESULTS = [*STATUSES.items(), (RELATIVE, 0), (NOT_JUDGED, USAGE_STATUS),
                     (NOT_JUDGED, BUG_STATUS)]
 STATUS_ORDER = (BUG_STATUS, USAGE_STATUS, OTHER_STATUS, 1, 3, 0)
+# The verdicts on a reading, which is the subtitles that were read from a recording
+AS_SHOWN, WITH_FAULTS, NOT_READ = "as shown", "shown with faults", "not read"
+READING_STATUSES = {AS_SHOWN: 0, WITH_FAULTS: 1, NOT_READ: OTHER_STATUS}
+POSSIBLE_READINGS = [*READING_STATUSES.items(), (NOT_READ, USAGE_STATUS), (NOT_READ, BUG_STATUS)]
+NO_VERDICTS = (NOT_JUDGED, NOT_READ)
 
 NOT_ANSWERED = "check gave no verdict"
 NOT_CHECKED = "required but not checked"
@@ -157,7 +162,8 @@ class Decision(NamedTuple):
         """Return the exit status of the verdict."""
         if self.not_judged_kind:
             return STATUSES_BY_KIND[self.not_judged_kind]
-        return 0 if self.word == RELATIVE and self.is_relative_allowed else STATUSES[self.word]
+        return 0 if self.word == RELATIVE and self.is_relative_allowed else \
+            (STATUSES | READING_STATUSES)[self.word]
 
 
 def decide_part(summary: CheckSummary) -> str:
@@ -204,6 +210,28 @@ def decide(grounds: Grounds) -> Decision:
     if not grounds.has_clock:
         return Decision(RELATIVE, is_relative_allowed=grounds.is_relative_allowed)
     return Decision(WAIVED if REFUSED in words or grounds.named_faults else ACCEPTED)
+
+
+def decide_reading(grounds: Grounds, is_cut: bool, untrusted_frames: int) -> Decision:
+    """Return the verdict on a reading. `is_cut` says whether the page is shown when the recording
+    ends, and `untrusted_frames` is the number of frames that were read but `check` does not trust.
+
+    A recording that ends while the page is shown has one fault by construction, 74: the page was
+    not erased. `check` then does not accept it, but trusts each of its frames, and the main theorem
+    holds for trusted frames as well. All other faults forbid `as shown`, even if they are warnings.
+    """
+    if is_cut and not untrusted_frames and [is_only_cut(part) for part in grounds.parts] == [True]:
+        grounds = grounds._replace(parts=[CheckSummary(0, True, is_read=grounds.parts[0].is_read)])
+    found = decide(grounds)
+    if found.word == NOT_JUDGED:
+        return found._replace(word=NOT_READ)
+    is_accepted = found.word == ACCEPTED and not any(grounds.judged_losses)
+    return Decision(AS_SHOWN if is_accepted else WITH_FAULTS)
+
+
+def is_only_cut(part: CheckSummary) -> bool:
+    """Return whether the only fault of a part is that the recording ends before the last TCO."""
+    return decide_part(part) == REFUSED and part.fault_count == 1 and {*part.fault_numbers} == {END}
 
 
 def find_worst_kind(kinds: Iterable[str]) -> str:

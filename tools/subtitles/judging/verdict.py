@@ -8,10 +8,11 @@ from typing import Callable, Collection, Iterable, Iterator, Mapping, NamedTuple
 
 from ..clock.start import ESTIMATED_LATER_NOTE, ESTIMATED_NOTE, advise_on_clock
 from ..common.checks import (
-    CHECK_KINDS, CLOCK, CheckState, LOSSES, PICTURES, SEAM, find_missing_kinds)
+    CHECK_KINDS, CLOCK, CheckState, LOSSES, OPTION, PICTURES, SEAM, find_missing_kinds)
 from ..common.command_line import (
     RESOURCE, classify_error, format_error, format_frame_range, was)
 from ..common.files import SummedFile
+from ..common.shapes import Members
 from ..common.times import compute_time, format_frame
 from ..formats.listing import (
     CONTENT, LOST_PACKETS, NamedFault, PICTURES_LEFT, SILENT, STL_FAULTS, UNDECIDED)
@@ -21,16 +22,19 @@ from ..recording.notices import Notice
 from ..request.request import Request, Selection
 from ..stream.gaps import LossPlace, describe_loss
 from ..stream.receiver import Rows, Timeline
+from .cues import make_subtitle_rows
 from .part import Part, belongs_to_part
 from .sentence import Facts, FaultCount, Rank, WorstFault, find_worst_named_fault, write_sentence
 from .status import (
-    ACCEPTED, Decision, Grounds, LOST, NOT_JUDGED, REFUSED, RELATIVE, Severity, WAIVED, WARNED,
-    decide)
+    ACCEPTED, Decision, Grounds, LOST, NO_VERDICTS, NOT_JUDGED, REFUSED, RELATIVE, Severity,
+    WAIVED, WARNED, decide)
 from .subtitles import SubtitleCounts, ValidSubtitles
 from .unchecked import Unchecked, list_check_entries, summarize_pictures
 from .waivers import Waiver
 
 
+# What was judged: a recording by a subtitle file, a subtitle file alone, or a recording alone
+SCOPES = SCOPE_PAIR, SCOPE_FILE, SCOPE_READING = "pair", "file", "reading"
 # Faults that may delay a page. Without them, and with --within 0, each page is complete at its TCI.
 DELAYING_FAULTS = {*range(30, 33), 44, 45, 60, 62, 63, 71, 72, 74, 77}
 
@@ -250,7 +254,7 @@ class Verdict:
         return {PICTURES: CheckState(PICTURES in names, has_left),
                 LOSSES: CheckState(LOSSES in names, is_lost),
                 CLOCK: CheckState(part.clock is not None and not part.clock.is_estimated),
-                SEAM: CheckState(True)}
+                SEAM: CheckState(True), OPTION: CheckState(True)}
 
     def list_unchecked(self) -> list[Unchecked]:
         """Return the checks of the judged parts that were not made everywhere."""
@@ -268,6 +272,24 @@ class Verdict:
         losses = dict.fromkeys(item.text for item in self.unchecked if item.kind == LOSSES)
         return [f"not checked: {text}" for text in (
             *losses, *summarize_pictures(self.list_unchecked()))]
+
+    @property
+    def scope(self) -> str:
+        return SCOPE_READING if self.request.is_reading else \
+            SCOPE_FILE if self.request.recording is None else SCOPE_PAIR
+
+    @property
+    def is_judged(self) -> bool:
+        return self.word not in NO_VERDICTS
+
+    def list_subtitle_rows(self) -> Iterator[Members]:
+        """Yield the JSON value of each subtitle. Yield nothing if the pair was not judged."""
+        for part in self.parts if self.is_judged else ():
+            yield from make_subtitle_rows(part, self.valid_subtitles)
+
+    def describe_reading(self) -> Members | None:
+        """Return the JSON value of what was read, if a recording was judged alone."""
+        return None
 
     @property
     def decision(self) -> Decision:
@@ -375,7 +397,7 @@ class Verdict:
     @property
     def subtitle_counts(self) -> SubtitleCounts | None:
         """Return the numbers of judged and refused subtitles, or `None` if they are unknown."""
-        if self.word == NOT_JUDGED or not self.parts:
+        if not self.is_judged or not self.parts:
             return None
         if self.valid_subtitles:
             return SubtitleCounts(len(self.valid_subtitles.judged),

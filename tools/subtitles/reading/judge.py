@@ -1,42 +1,101 @@
-"""Judge a recording by the subtitles that were read from it."""
+"""Read a page of a recording, and judge the recording by the subtitles that were read."""
 from __future__ import annotations
 
 import dataclasses
 import functools
+import os
+from typing import Iterator
 
-from ..clock.start import TimedPart
+from ..clock.start import Clock, GIVEN, NoFirstPicture, TimedPart, compute_start_clock
+from ..common.times import FRAMES_OF_A_DAY, Spans, format_frame
+from ..formats.listing import CHARACTER_SET, CLOCK_JUMP, NamedFault
+from ..formats.stl import Subtitle
+from ..formats.stl_writer import StoredPage
+from ..judging.cues import Cue, CueJudge
 from ..judging.pair import LocatedRecording, PairJudge
 from ..judging.part import Part
+from ..judging.status import ACCEPTED
 from ..judging.timing import PartClocks, PartSearch
-from ..judging.verdict import Verdict
 from ..recording.recording import Recording
 from ..request.commands import CommandPaths, Listener, OutputNames
 from ..request.request import PES_CHOICE, Selection
 from ..stream.packets import Range
-from .received import Reading
+from .dates import find_date
+from .received import CUT_TEXTS, Reading, ShownPage, make_stl, read_pages
+from .result import ReadingVerdict
+
+# The warnings that forbid `as shown`: receivers may show other characters, or the times are not
+# those of the pictures
+FAULTS_BY_WARNING = {"character_set": CHARACTER_SET, "clock_jump": CLOCK_JUMP}
+ENHANCED = 70  # a packet X/25 to X/28 while the page is open
+BEFORE, AFTER = "the in-cue may be earlier, since check does not trust the frame before it", \
+    "the out-cue may be later, since check does not trust the frame after it"
 
 
 class ReadingJudge(PairJudge):
-    """Judges all PES packets of a reading, not only those around its subtitles. The clock is known,
-    so it is not estimated. A page without subtitles is judged, too."""
+    """Reads a page, writes the subtitles to the file of the request, and judges all PES packets by
+    them, not only those around the subtitles. The clock is known, so it is not estimated. A page
+    without subtitles is judged, too."""
 
     may_be_empty = True
 
-    def __init__(self, verdict: Verdict, command_paths: CommandPaths, names: OutputNames,
-                 listener: Listener, recording: Recording, reading: Reading,
-                 has_causes: bool = False) -> None:
-        super().__init__(verdict, command_paths, names, listener, is_result_written=False)
-        self.recording, self.reading, self.has_causes = recording, reading, has_causes
+    def __init__(self, verdict: ReadingVerdict, command_paths: CommandPaths, names: OutputNames,
+                 listener: Listener, recording: Recording, first: Recording,
+                 is_result_written: bool) -> None:
+        super().__init__(verdict, command_paths, names, listener, is_result_written)
+        self.reading_verdict, self.first = verdict, first
+        self.recording = self.source = recording
+
+    @property
+    def reading(self) -> Reading:
+        assert self.reading_verdict.reading
+        return self.reading_verdict.reading
+
+    def judge(self) -> None:
+        """Read the page, and judge the recording by it."""
+        self.source.read_contents(False, self.first)
+        self.verdict.recording = self.source.file
+        with self.catch_missing_page():
+            self.source.choose_packets()
+            self.read_page()
+            super().judge()
+
+    def read_page(self) -> None:
+        """Store in the verdict what is shown on the page, and write the subtitle file."""
+        verdict, request, recording = self.reading_verdict, self.request, self.source
+        verdict.reading = reading = read_pages(
+            recording.packets, request, self.find_clock(), verdict.languages,
+            lambda first, last: self.format_call("--pes", f"{first}-{last}"))
+        verdict.named_faults += reading.faults
+        verdict.unchecked += reading.unchecked
+        request.option = reading.option.word
+        with open(request.stl_path, "wb") as file:
+            file.write(make_stl(reading, os.path.basename(recording.name), verdict.languages,
+                                find_date(recording.path, recording.survey.size or 0)))
+        self.names.set_subtitle_file(request.stl_path)
+
+    def find_clock(self) -> Clock | None:
+        """Return the clock from --origin or --start. Return `None` if neither is given."""
+        request, recording = self.request, self.source
+        if request.origin is not None:
+            return Clock(request.origin, GIVEN)
+        if request.start is None:
+            return None
+        try:
+            if not recording.is_stream:
+                raise NoFirstPicture("a file of Teletext PES packets has no pictures")
+            return compute_start_clock(request, recording.survey, recording.packets).clock
+        except NoFirstPicture as reason:
+            raise recording.make_picture_error(reason) from None
 
     @functools.cached_property
     def located_recording(self) -> LocatedRecording:
         """Return the recording with a single part: everything that was read."""
-        assert self.recording
         subtitles, reading = self.find_subtitles(), self.reading
         self.verdict.subtitle_count = len(subtitles)
         part = TimedPart(reading.first, reading.last + 1, reading.clock)
         search = PartSearch(self.request, part, None)
-        return LocatedRecording(self.recording, PartClocks(search, [part], [], ""), subtitles)
+        return LocatedRecording(self.source, PartClocks(search, [part], [], ""), subtitles)
 
     def find_packets(self, part: Part, programme: PartSearch) -> Range:
         """Return the range of PES packets that was read, and report it."""
@@ -47,10 +106,51 @@ class ReadingJudge(PairJudge):
             "from the first header of the page on", last - first + 1, count, part.number))
         return self.reading.pes
 
+    def add_recording_warnings(self, recording: Recording, origin: int, part: TimedPart) -> None:
+        """Add warnings about the recording and the PID. Some of them are faults of a reading."""
+        super().add_recording_warnings(recording, origin, part)
+        for warning in [*self.verdict.warnings]:
+            if name := FAULTS_BY_WARNING.get(warning.kind):
+                self.verdict.warnings.remove(warning)
+                self.verdict.named_faults.append(NamedFault(name, warning.line, warning.time))
+
     def explain(self, part: Part) -> Part:
-        """Return a copy of a part without causes if the subtitles were read from the recording,
-        since a cause says how the recording differs from the subtitles."""
-        if self.has_causes and self.verdict.subtitle_count:
-            return super().explain(part)
-        return dataclasses.replace(part, severity=self.verdict.severity,
-                                   is_recording_read=part.is_read())
+        """Return a copy of a part without causes, since a cause says how the recording differs from
+        the subtitles, but with the reasons why subtitles are not certain."""
+        verdict, reading = self.reading_verdict, self.reading
+        part = dataclasses.replace(
+            part, severity=verdict.severity, is_recording_read=part.is_read(),
+            timeline=lambda: reading.timeline)
+        part = dataclasses.replace(part, doubts=dict(list_doubts(part, reading)))
+        judge, enhanced = CueJudge(part), part.check_output.fault_spans.get(
+            ENHANCED, Spans())
+        for number, page in enumerate(reading.written_pages, 1):
+            assert isinstance(page.stored, StoredPage)
+            subtitle = Subtitle(number, number, page.begin, page.end, *page.stored)
+            verdict.certain_count += not judge.describe_doubt(Cue(subtitle, page.rows, None,
+                                                                  page.rows, page.begin, page.end))
+            if any(True for _ in enhanced.between(page.begin, page.end)):
+                verdict.enhanced_numbers.append(number)
+        self.listener.add_notes(*verdict.describe_pages())
+        return part
+
+
+def list_doubts(part: Part, reading: Reading) -> Iterator[tuple[int, str]]:
+    """Yield the number of each subtitle that the recording cuts, or whose cues may be different
+    since the frame before or after it is not trusted, with the reason."""
+    for number, page in enumerate(reading.written_pages, 1):
+        if page.cut:
+            yield number, CUT_TEXTS[page.cut]
+        elif not is_trusted(part, reading, page.begin - 1):
+            yield number, BEFORE
+        elif not is_trusted(part, reading, page.end):
+            yield number, AFTER
+
+
+def is_trusted(part: Part, reading: Reading, frame: int) -> bool:
+    """Return whether `check` trusts a frame, or the frame was not read."""
+    if not reading.first <= frame <= reading.last:
+        return True
+    if part.check_output.verdict == ACCEPTED:
+        return not any(span.first <= frame <= span.last for span in part.unmarked_losses)
+    return any(True for _ in part.trusted_frames.between(frame, frame + 1))

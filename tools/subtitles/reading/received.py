@@ -1,44 +1,38 @@
 """Find the pages that a receiver shows during a recording, and the subtitles that draw them.
 
 Nothing here decides a verdict: `check` compares the subtitles with the recording, frame by frame.
+What forbids the verdict `as shown`, or was not checked, is returned with the pages.
 """
 from __future__ import annotations
 
 import collections
-from typing import Iterator, NamedTuple, Sequence
+from typing import Callable, Iterator, NamedTuple, Sequence
 
-from ..clock.start import Clock, GIVEN
+from ..clock.start import Clock, FIRST_PES
+from ..common.checks import CLOCK, OPTION, OUTSIDE
 from ..common.command_line import counted, format_pid
-from ..common.times import TICKS, format_frame, subtract_pts, wrap_pts
+from ..common.times import TICKS, compute_time, format_frame, subtract_pts, wrap_pts
+from ..formats.listing import ENDS_EARLY, NOT_IN_FILE, NamedFault, SUB_PAGES, TIME_GOES_BACK
 from ..formats.stl import TTI
 from ..formats.stl_writer import (
-    StoredPage, encode_time_code, make_gsi_block, make_subtitle_blocks, store_page)
+    READ_PUBLISHER, StoredPage, make_gsi_block, make_subtitle_blocks, store_page)
 from ..formats.teletext import (
-    ENGLISH, NationalOption, choose_language_option, choose_track_option, find_sent_option)
-from ..judging.pages import is_partial_page
+    ENGLISH, NATIONAL_CODES, NationalOption, SentOption, choose_language_option,
+    choose_track_option, find_sent_option)
+from ..judging.cues import BOTH, END, START
+from ..judging.pages import format_page_text, is_partial_page
+from ..judging.unchecked import Unchecked
 from ..request.request import Request, Unclear
 from ..stream.packets import (
     HEADER, Packets, Range, describe_subpages, find_alternating_subcodes, parse_headers)
 from ..stream.receiver import BLANK_PAGE, Rows, Timeline, read_national_option
 from ..stream.survey import CODES
 
-PUBLISHER = b"subttx read"  # marks the files that tools/read may replace
 MAX_TITLE = 32
 FEW_CELLS = 2  # a page that differs from its neighbour in so few characters may be an error
-
-
-START, END, BOTH = "start", "end", "both"
 CUT_TEXTS = {START: "the recording begins during this subtitle: its in-cue is not known",
              END: "the recording ends during this subtitle: its out-cue is not known",
              BOTH: "the recording shows only this subtitle: its cues are not known"}
-
-
-class Problem(NamedTuple):
-    """A finding that forbids the verdict `as shown`: its name, its text, and its time, if any."""
-
-    name: str
-    text: str
-    time: str | None = None
 
 
 class ShownPage(NamedTuple):
@@ -61,16 +55,24 @@ class Reading(NamedTuple):
 
     pes: Range  # PES packets from the first header on
     clock: Clock
-    first: int  # first frame
-    last: int  # last frame
+    timeline: Timeline
     option: NationalOption
     pages: list[ShownPage]
-    problems: list[Problem]
-    notes: list[str]
+    faults: list[NamedFault]  # each forbids the verdict `as shown`
+    unchecked: list[Unchecked]
 
     @property
-    def origin(self) -> int:
-        return self.clock.origin
+    def first(self) -> int:
+        """Return the first frame."""
+        return self.timeline.frames[0]
+
+    @property
+    def last(self) -> int:
+        """Return the last frame."""
+        return self.timeline.last
+
+    def format_text(self, page: ShownPage) -> str:
+        return format_page_text(page.rows, self.option.number)
 
     @property
     def written_pages(self) -> list[ShownPage]:
@@ -123,21 +125,31 @@ def find_header_bits(packets: Packets, pes: Range) -> int:
     return counts.most_common(1)[0][0]
 
 
-def choose_header_option(bits: int, languages: Sequence[str]) -> tuple[NationalOption, list[str]]:
-    """Return the national option whose C12 to C14 are `bits`: that of the first announced language
-    with such an option, or else that of the default region. Return a note if several regions have
-    one and no language decides it. Raise `Unclear` if the default region has none."""
+def choose_header_option(bits: int, languages: Sequence[str]) -> SentOption:
+    """Return the national options whose C12 to C14 are `bits`, first the one to use: that of the
+    first announced language with such an option, which then is the only one, or else that of the
+    default region. Raise `Unclear` if the default region has none."""
     for option in map(choose_track_option, languages):
         if option and option.bits == bits:
-            return option, []
+            return SentOption([option], [option])
     sent = find_sent_option(bits, ENGLISH, ())
     option = sent.options[0]
     if option.region:
         raise Unclear("C12, C13 and C14 are set in the headers of the page, which is reserved in "
                       f"region 0000: {option.word} has these bits, but the announced languages do "
                       "not choose it")
-    return option, [f"C12 to C14 of the headers select {sent.words}: no announced language decides "
-                    f"it, so the text was read as {option.word}"] * (len(sent.options) > 1)
+    return sent
+
+
+def find_undecided_option(sent: SentOption, pages: Sequence[ShownPage]) -> list[Unchecked]:
+    """Return an entry if several regions have a national option, no announced language decides
+    which, and a page has a character that differs between them."""
+    codes = bytes(code for at, code in enumerate(NATIONAL_CODES)
+                  if len({option.characters[at] for option in sent.options}) > 1)
+    count = sum(any(code in codes for code in b"".join(page.rows)) for page in pages)
+    return [Unchecked(OPTION, f"the characters of {counted(count, 'subtitle')}: C12 to C14 of the "
+                      f"headers select {sent.words}, no announced language decides it, and the "
+                      f"text was read as {sent.options[0].word}")] if count else []
 
 
 def list_spans(timeline: Timeline) -> Iterator[ShownPage]:
@@ -176,54 +188,69 @@ def mark_cuts(pages: list[ShownPage]) -> list[ShownPage]:
 
 
 def read_pages(packets: Packets, request: Request, clock: Clock | None,
-               languages: Sequence[str]) -> Reading:
+               languages: Sequence[str], call: Callable[[int, int], str]) -> Reading:
     """Return what a receiver shows on the page of `request`. If `clock` is `None`, choose an
-    origin. Raise `Unclear` if nothing can be read."""
+    origin. `call` returns the command that reads a range of PES packets. Raise `Unclear` if
+    nothing can be read."""
     pes = find_header_range(packets, request.pes)
-    option, notes = choose_header_option(find_header_bits(packets, pes), languages)
-    clock = clock or Clock(choose_origin(packets, pes, request.pes), GIVEN)
-    origin = clock.origin
+    sent = choose_header_option(find_header_bits(packets, pes), languages)
+    unchecked = [] if clock else [Unchecked(
+        CLOCK, "the time of day: no clock was given, so the first PES packet is at 00:00:00:00")]
+    clock = clock or Clock(choose_origin(packets, pes, request.pes), FIRST_PES)
     back = find_step_back(packets, pes)
     pes = pes if back is None else (pes[0], back - 1)
-    timeline = Timeline(packets, request.page, origin, request.within, pes)
-    problems = find_early_end(packets, request.pes)
-    if back is not None:
-        problems.append(Problem(
-            "time goes back", f"the PTS go back at PES packet {back}, after "
-            f"{format_frame(max(timeline.last, 0))}, so reading ends there: read the rest with "
-            f"--pes {back}-{packets.count - 1}", format_frame(max(timeline.last, 0))))
+    timeline = Timeline(packets, request.page, clock.origin, request.within, pes)
     if not timeline.pages:
         raise Unclear("no header of the page has a time between 00:00:00:00 and 24:00:00:00 on "
                       "this clock: check --origin or --start")
-    subcodes = find_alternating_subcodes(packets, pes)
-    if subcodes:
-        problems.append(Problem("sub-pages", describe_subpages(subcodes, request.page_name)))
-    pages = mark_cuts(join_late_pages([*list_spans(timeline)], request.within))
-    stored = [page._replace(stored=store_page(page.rows, option)) for page in pages
-              if page.rows != BLANK_PAGE]
-    problems += [Problem("not in the file", f"{format_frame(page.begin)} to "
-                         f"{format_frame(page.end)}: {page.stored}", format_frame(page.begin))
-                 for page in stored if isinstance(page.stored, str)]
-    return Reading(pes, clock, timeline.frames[0], timeline.last, option, stored, problems,
-                   [*notes, *describe_beginning(pes, request.pes, timeline)])
+    faults = find_early_end(packets, request.pes)
+    if back is not None:
+        time = format_frame(max(timeline.last, 0))
+        rest = back, request.pes[1] if request.pes else packets.count - 1
+        faults.append(NamedFault(
+            TIME_GOES_BACK, f"at {time}, where the PTS of PES packet {back} is earlier than the "
+            f"last, so reading ends there. Read the rest with {call(*rest)}", time))
+    if subcodes := find_alternating_subcodes(packets, pes):
+        faults.append(NamedFault(SUB_PAGES, describe_subpages(subcodes, request.page_name)))
+    pages = [page._replace(stored=store_page(page.rows, sent.options[0]))
+             for page in mark_cuts(join_late_pages([*list_spans(timeline)], request.within))
+             if page.rows != BLANK_PAGE]
+    reading = Reading(pes, clock, timeline, sent.options[0], pages, faults, [
+        *unchecked, *find_undecided_option(sent, pages),
+        *find_beginning(packets, pes, request.pes, clock.origin)])
+    faults += [NamedFault(NOT_IN_FILE, f"{page.stored}: {reading.format_text(page)}",
+                          format_frame(page.begin), format_frame(page.end - 1))
+               for page in pages if isinstance(page.stored, str)]
+    return reading
 
 
-def describe_beginning(pes: Range, inside: Range | None, timeline: Timeline) -> list[str]:
-    """Return a note if PES packets come before the first header of the page."""
-    count = pes[0] - (inside[0] if inside else 0)
-    return [f"not judged: {counted(count, 'PES packet')} before the first header of the page, at "
-            f"{format_frame(timeline.frames[0])}"] if count else []
+def find_beginning(packets: Packets, pes: Range, inside: Range | None, origin: int) \
+        -> Iterator[Unchecked]:
+    """Yield entries about the PES packets outside of --pes, and about those before the first header
+    of the page."""
+    first, last = inside or (0, packets.count - 1)
+    outside = packets.count - (min(last, packets.count - 1) + 1 - first)
+    if outside:
+        yield Unchecked(OUTSIDE, f"{counted(outside, 'PES packet')} outside of --pes {first}-"
+                        f"{last}")
+    if first < pes[0]:
+        pts = [*packets.pts((first, pes[0] - 1))]
+        begin, end = (compute_time(item, origin) for item in (pts[:1] + pts[-1:])) if pts else \
+            (None, None)
+        yield Unchecked(OUTSIDE, f"{counted(pes[0] - first, 'PES packet')} before the first header "
+                        f"of the page, from {begin or 'an unknown time'} to "
+                        f"{end or 'an unknown time'}", None, begin, end)
 
 
-def find_early_end(packets: Packets, inside: Range | None) -> list[Problem]:
-    """Return a problem if bytes after the last PES packet can't be read."""
+def find_early_end(packets: Packets, inside: Range | None) -> list[NamedFault]:
+    """Return a fault if bytes after the last PES packet can't be read."""
     if inside and inside[1] < packets.count:
         return []
     if packets.damage:
-        return [Problem("ends early", f"{packets.damage}: the rest was not read")]
+        return [NamedFault(ENDS_EARLY, f"{packets.damage}: the rest was not read")]
     if packets.refusal:
-        return [Problem("ends early", f"{format_pid(packets.pid)}: fault {packets.refusal} after "
-                        f"PES packet {packets.count - 1}: the rest was not read")]
+        return [NamedFault(ENDS_EARLY, f"{format_pid(packets.pid)}: fault {packets.refusal} after "
+                           f"PES packet {packets.count - 1}: the rest was not read")]
     return []
 
 
@@ -242,18 +269,19 @@ def find_likely_errors(pages: Sequence[ShownPage]) -> set[int]:
 
 def choose_language(languages: Sequence[str], option: NationalOption) -> bytes:
     """Return the language code (LC) for the first announced language that has the national option
-    of the headers. Without one, return 00, or for another option than English its first language,
-    so that `qc --option auto` chooses the right option."""
-    for language in languages:
-        if choose_track_option(language) == option:
-            codes = [code for code, words in CODES.items() if language.lower() in words.split()]
-            return b"%02X" % codes[0]
+    of the headers, or else for the first announced language. If no language with an LC is
+    announced, return 00, or for another option than English its first language, so that `qc
+    --option auto` chooses the right option."""
+    for language in sorted(languages, key=lambda word: choose_track_option(word) != option):
+        for code, words in CODES.items():
+            if language.lower() in words.split():
+                return b"%02X" % code
     is_default = choose_language_option(b"00") == option
     return b"00" if is_default else option.languages.split()[0].encode()
 
 
-def make_stl(reading: Reading, title: str, languages: Sequence[str]) -> bytes:
-    """Return the subtitle file that draws the pages of a reading."""
+def make_stl(reading: Reading, title: str, languages: Sequence[str], date: bytes) -> bytes:
+    """Return the subtitle file that draws the pages of a reading. `date` is YYMMDD."""
     blocks = []
     for number, page in enumerate(reading.written_pages, 1):
         assert isinstance(page.stored, StoredPage)
@@ -261,4 +289,4 @@ def make_stl(reading: Reading, title: str, languages: Sequence[str]) -> bytes:
     size = sum(map(len, blocks)) // TTI
     return make_gsi_block(title.encode("cp850", "replace")[:MAX_TITLE], size, len(blocks),
                           reading.first, choose_language(languages, reading.option),
-                          PUBLISHER) + b"".join(blocks)
+                          READ_PUBLISHER, date) + b"".join(blocks)

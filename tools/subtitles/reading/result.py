@@ -1,178 +1,134 @@
-"""Decide the verdict on a page that was read, and make its JSON result."""
+"""The verdict on a page that was read from a recording, and its JSON values."""
 from __future__ import annotations
 
 import dataclasses
-from typing import Any, Collection, NamedTuple, Sequence
+from typing import Iterator, Sequence
 
-from ..common.command_line import counted
-from ..common.files import SummedFile
-from ..common.program import ProgramInfo
+from ..clock.start import FIRST_PES, GIVEN
+from ..common.checks import CLOCK, OPTION, OUTSIDE, describe_kinds
+from ..common.command_line import counted, format_pid
+from ..common.shapes import Members
 from ..common.times import format_frame
-from ..formats.listing import END
-from ..formats.stl import Subtitle
-from ..judging.cues import Cue, CueJudge
-from ..judging.pages import format_page_text
 from ..judging.part import Part
-from ..judging.status import ACCEPTED, NOT_JUDGED, REFUSED
+from ..judging.status import AS_SHOWN, Decision, NOT_READ, WITH_FAULTS, decide_reading
+from ..judging.subtitles import SubtitleCounts
 from ..judging.verdict import Verdict
-from .received import CUT_TEXTS, Problem, Reading, ShownPage, find_likely_errors
+from .received import CUT_TEXTS, Reading, find_likely_errors
 
-
-FORMAT = 1
-AS_SHOWN, WITH_FAULTS, NOT_READ = "as shown", "shown with faults", "not read"
-STATUSES = {AS_SHOWN: 0, WITH_FAULTS: 1, NOT_READ: 2}
-# Warnings of the judge that forbid the verdict `as shown`: receivers may show other characters, or
-# the times are not those of the pictures.
-PROBLEM_WARNINGS = ("character_set", "clock_jump")
-MAX_FAULTS = 1000  # most lines of `check` in a result
 LIKELY_ERROR = "from an adjoining subtitle in one or two characters: a transmission error?"
-
-
-class ReadingGrounds(NamedTuple):
-    """The values that decide the verdict on a page."""
-
-    judged: str  # the judge's verdict on the subtitle file and the recording
-    fault_numbers: Collection[int] = ()
-    fault_count: int = 0
-    other_count: int = 0  # faults without a number, losses that only the PCR shows, and problems
-    is_cut: bool = False  # whether the page is shown when the recording ends
-    untrusted_frames: int = 0  # frames that `check` does not trust
-
-
-def decide_reading(grounds: ReadingGrounds) -> str:
-    """Return the verdict on a page.
-
-    A recording that ends while the page is shown has one fault by construction, 74: the page was
-    not erased. `check` then does not accept it, but trusts each of its frames, and the main theorem
-    holds for trusted frames as well.
-    """
-    if grounds.judged == NOT_JUDGED:
-        return NOT_READ
-    if grounds.other_count:
-        return WITH_FAULTS
-    is_trusted = grounds.judged == REFUSED and grounds.is_cut and grounds.fault_count == 1 and \
-        {*grounds.fault_numbers} == {END} and not grounds.untrusted_frames
-    return AS_SHOWN if grounds.judged == ACCEPTED or is_trusted else WITH_FAULTS
+X_26 = "packets X/26 were sent, so receivers above level 1 show other characters"
+CLOCK_TEXTS = {GIVEN: "as given", FIRST_PES: "from the first PES packet, which is at 00:00:00:00"}
 
 
 @dataclasses.dataclass
-class PageResult:
-    """What was read on a page, the judge's verdict on it, and where the times come from."""
+class ReadingVerdict(Verdict):
+    """The verdict on a page: what was read, and how `check` judges the recording by it."""
 
-    page: str
-    pid: int | None
-    languages: Sequence[str]
-    verdict: Verdict
-    clock: str = ""  # start, given or first PES packet
+    languages: Sequence[str] = ()  # announced languages
     reading: Reading | None = None
-    stl: SummedFile | None = None
-    reason: str = ""  # why the page was not read
+    certain_count: int = 0  # number of certain subtitles
+    enhanced_numbers: list[int] = dataclasses.field(default_factory=list)  # subtitles with X/26
 
     @property
     def part(self) -> Part | None:
-        return self.verdict.parts[0] if self.verdict.parts else None
+        return self.parts[0] if self.parts else None
 
     @property
-    def problems(self) -> list[Problem]:
-        """Return the findings that forbid the verdict `as shown`."""
-        known = self.reading.problems if self.reading else []
-        return [*known, *(Problem(fault.name, fault.text) for fault in self.verdict.named_faults),
-                *(Problem("lost", gap.format_line(), gap.after) for gap in self.verdict.gaps
-                  if gap.is_judged),
-                *(Problem("pictures", item.text, item.begin)
-                  for item in self.verdict.unchecked if item.may_be_wrong),
-                *(Problem(warning.kind.replace("_", " "), warning.line, warning.time)
-                  for warning in self.verdict.warnings if warning.kind in PROBLEM_WARNINGS)]
+    def has_clock(self) -> bool:
+        """Return true, since the subtitles have the clock of the recording."""
+        return True
 
     @property
-    def word(self) -> str:
-        if self.reason or not self.part or not self.reading:
-            return NOT_READ
-        output, reading = self.part.check_output, self.reading
-        return decide_reading(ReadingGrounds(
-            self.verdict.word, output.fault_numbers, output.fault_count, len(self.problems),
-            reading.is_cut, reading.last + 1 - reading.first - self.part.trusted_frames.total()))
+    def decision(self) -> Decision:
+        reading, part = self.reading, self.part
+        if not reading or not part:
+            return decide_reading(self.collect_grounds(), False, 0)
+        untrusted = reading.last + 1 - reading.first - part.trusted_frames.total()
+        return decide_reading(self.collect_grounds(), reading.is_cut, untrusted)
 
     @property
-    def status(self) -> int:
-        return STATUSES[self.word]
-
-    @property
-    def line(self) -> str:
-        """Return the last line about the page."""
-        if not self.reading or self.word == NOT_READ:
-            return f"{NOT_READ}: {self.reason or self.verdict.unjudged_reason}"
-        if self.word == AS_SHOWN:
-            frames = self.reading.last + 1 - self.reading.first
-            return f"{AS_SHOWN}: {counted(len(self.reading.pages), 'subtitle')} in " \
-                f"{counted(frames, 'frame')}"
-        problems = [f"{problem.name}, {problem.text}" for problem in self.problems]
-        return f"{WITH_FAULTS}: {[*problems, self.verdict.line][0]}"
-
-    def list_notes(self) -> list[str]:
-        """Return the sentences about cut subtitles, problems and likely errors."""
-        if not self.reading:
-            return []
-        pages = self.reading.pages
-        lines = [f"{format_frame(page.begin)}: {CUT_TEXTS[page.cut]}" for page in pages if page.cut]
-        errors = sorted(find_likely_errors(pages))
-        if errors:
-            verb = "differs" if len(errors) == 1 else "differ"
-            lines.append(f"{counted(len(errors), 'subtitle')}, first at "
-                         f"{format_frame(pages[errors[0]].begin)}, {verb} {LIKELY_ERROR}")
-        return [*self.reading.notes, *lines]
-
-    def make_subtitle_rows(self) -> list[dict[str, Any]]:
-        """Return the JSON values of all subtitles, also of those that are not in the file."""
+    def sentence(self) -> str:
+        """Return a sentence about the page: where it is sent, and how many subtitles it has."""
+        if not self.is_judged:
+            return f"Not read: {(self.unjudged_reason or '').splitlines()[0]}."
         if not self.reading or not self.part:
-            return []
-        judge, errors = CueJudge(self.part), find_likely_errors(self.reading.pages)
-        rows, number = [], 0
-        for at, page in enumerate(self.reading.pages):
-            number += page.is_written
-            doubt = describe_doubt(judge, page)
-            rows.append({
-                "number": number if page.is_written else None, "in": format_frame(page.begin),
-                "out": format_frame(page.end), "cut": page.cut,
-                "text": format_page_text(page.rows, self.reading.option.number),
-                "certain": not doubt, "reason": doubt or None,
-                "note": f"differs {LIKELY_ERROR}" if at in errors else None})
-        return rows
+            return f"{self.named_faults[0].text}."
+        clock, stream = self.reading.clock, self.part.stream
+        where = format_pid(stream[0]) if stream else "no PID"
+        times = CLOCK_TEXTS.get(clock.source, "by the first picture")
+        return f"Page {self.request.page_name} on {where} " \
+            f"({' '.join(self.languages) or 'not announced'}), {self.request.option}: " \
+            f"{counted(len(self.reading.pages), 'subtitle')}, {self.certain_count} certain. " \
+            f"Times are {times} (--origin {clock.origin}). " \
+            f"{describe_kinds({*self.unchecked_kinds} - {CLOCK})}".rstrip()
 
-    def to_json(self, program: ProgramInfo) -> dict[str, Any]:
-        """Return the JSON result of the page."""
-        reading, part, request = self.reading, self.part, self.verdict.request
-        lines = part.check_output.read_lines() if part and part.check_output.fault_count else []
-        rows = self.make_subtitle_rows()
-        return {
-            "format": FORMAT, "tool": "read", "verdict": self.word, "status": self.status,
-            "line": self.line, "page": self.page, "pid": self.pid,
-            "languages": [*self.languages], "option": reading and reading.option.word,
-            "origin": reading and reading.origin, "clock": self.clock or None,
-            "from": reading and format_frame(reading.first),
-            "to": reading and format_frame(reading.last),
-            "pes": part.pes_argument if part else None,
-            "recording": self.verdict.files_at_start.get("recording"),
-            "stl": self.stl and self.stl._asdict(),
-            "request": {"every": request.every, "within": request.within,
-                        "complete": request.is_complete, "keeping": request.may_keep,
-                        "pace": request.pace_word, "start": request.start},
-            "subtitle_counts": {"shown": len(rows),
-                                "written": len(reading.written_pages) if reading else 0,
-                                "certain": sum(row["certain"] for row in rows)},
-            "problems": [problem._asdict() for problem in self.problems],
-            "fault_count": part.check_output.fault_count if part else 0,
-            "faults": [line for _, line in zip(range(MAX_FAULTS), lines)],
-            "subtitles": rows, "notes": [
-                *self.list_notes(), *self.verdict.notes, *self.verdict.list_unchecked_lines()],
-            "warnings": [warning._asdict() for warning in self.verdict.warnings],
-            "commands": self.verdict.commands, "program": program._asdict(),
-            "date": self.verdict.date}
+    @property
+    def line(self) -> str | None:
+        if not self.is_judged:
+            return None
+        if self.word == AS_SHOWN and self.reading:
+            kinds = self.unchecked_kinds
+            return f"{AS_SHOWN}: {counted(len(self.reading.pages), 'subtitle')} in " \
+                f"{counted(self.reading.last + 1 - self.reading.first, 'frame')}" \
+                f"{'; not checked: ' + ', '.join(kinds) if kinds else ''}"
+        lost = [gap.format_line() for gap in self.gaps if gap.is_judged]
+        worst, fault = self.worst_named_fault, self.worst_part
+        return f"{WITH_FAULTS}: " + (f"{worst.name}, {worst.text}" if worst else
+                                     fault.first_text if fault else lost[0])
 
+    @property
+    def worst_line(self) -> str | None:
+        return self.line
 
-def describe_doubt(judge: CueJudge, page: ShownPage) -> str:
-    """Return the reason why a subtitle is not certain, or an empty string if it is."""
-    if isinstance(page.stored, str):
-        return f"not in the file: {page.stored}"
-    subtitle = Subtitle(0, 0, page.begin, page.end, *page.stored)
-    return judge.describe_doubt(Cue(subtitle, page.rows, None, page.rows, page.begin, page.end))
+    @property
+    def last_line(self) -> str:
+        """Return the line that says whether the page was read."""
+        return self.line or f"{NOT_READ}: {(self.unjudged_reason or '').splitlines()[0]}"
+
+    @property
+    def subtitle_counts(self) -> SubtitleCounts | None:
+        """Return the numbers of subtitles that are in the file, and that are not."""
+        if not self.reading or not self.is_judged:
+            return None
+        written = len(self.reading.written_pages)
+        return SubtitleCounts(written, len(self.reading.pages) - written)
+
+    def describe_pages(self) -> Iterator[str]:
+        """Yield the sentences about cut subtitles, X/26, likely errors and an empty page."""
+        assert self.reading
+        pages = self.reading.pages
+        yield from (f"{format_frame(page.begin)}: {CUT_TEXTS[page.cut]}" for page in pages
+                    if page.cut)
+        enhanced = [self.reading.written_pages[number - 1] for number in self.enhanced_numbers]
+        likely_errors = [pages[at] for at in sorted(find_likely_errors(pages))]
+        for found, reason in ((enhanced, X_26), (likely_errors, f"it differs {LIKELY_ERROR}")):
+            if found:
+                yield f"{counted(len(found), 'subtitle')}, first at " \
+                    f"{format_frame(found[0].begin)}: {reason}"
+        if not pages:
+            yield "the page was blank all the time"
+
+    def list_unchecked_lines(self) -> list[str]:
+        """Return the lines about everything that was not checked."""
+        return [*super().list_unchecked_lines(), *(
+            f"not checked: {item.text}" for item in self.unchecked
+            if item.kind in (CLOCK, OPTION, OUTSIDE))]
+
+    def list_subtitle_rows(self) -> Iterator[Members]:
+        """Yield the JSON value of each subtitle in the file."""
+        if not self.reading:
+            return
+        errors, enhanced = find_likely_errors(self.reading.pages), {*self.enhanced_numbers}
+        written = [(at, page) for at, page in enumerate(self.reading.pages) if page.is_written]
+        for number, ((at, page), row) in enumerate(zip(written, super().list_subtitle_rows()), 1):
+            notes = [row["reason"], *[X_26] * (number in enhanced),
+                     *[f"differs {LIKELY_ERROR}"] * (at in errors)]
+            yield {**row, "cut": page.cut, "reason": "; ".join(filter(None, notes)) or None}
+
+    def describe_reading(self) -> Members | None:
+        reading = self.reading
+        return reading and {
+            "languages": [*self.languages], "from": format_frame(reading.first),
+            "to": format_frame(reading.last), "shown": len(reading.pages),
+            "written": len(reading.written_pages), "certain": self.certain_count,
+            "enhanced": len(self.enhanced_numbers)}

@@ -308,13 +308,14 @@ def explain_never_sent(survey: Survey, page: Page, pids: Collection[int],
 
 def refuse_unsent_page(request: Request, survey: Survey, times: Sequence[tuple[int, int]]) -> None:
     """Raise `NeverSent` if the page is announced but never sent, and a subtitle is expected in the
-    recording. If --pid is given, consider only that PID."""
+    recording, or nothing is known about its subtitles. If --pid is given, consider only that PID.
+    """
     announced = find_announcements(survey.programmes, request.page)
     named_pids = {pid for announcement in announced for pid in announcement.pids
                   if request.pid in (None, pid)}
-    if named_pids and not has_unreadable(survey, named_pids) and any(
+    if named_pids and not has_unreadable(survey, named_pids) and (request.is_reading or any(
             is_page_expected(survey.get_pcr_range(pid), times, find_origin(request, survey, pid))
-            for pid in named_pids):
+            for pid in named_pids)):
         raise NeverSent(explain_never_sent(survey, request.page, named_pids))
 
 

@@ -18,7 +18,7 @@ from ..common.times import subtract_pts
 from ..formats.stl import describe_other_file
 from ..formats.teletext import START
 from ..request.commands import (
-    CommandPaths, KEPT_PES, KEPT_TS, Listener, OutputNames, Printer, make_qc_command)
+    CommandPaths, KEPT_PES, KEPT_TS, Listener, OutputNames, Printer, make_command)
 from ..request.request import PID_CHOICE, Request, Selection, Unclear, WrongInput
 from ..stream.gaps import (
     LossPlace, describe_gap_markers, explain_refusal, find_loss_places, find_recorded_range)
@@ -144,14 +144,29 @@ class Recording:
         self.file: SummedFile | None = None
 
     def read(self, is_summed: bool) -> None:
-        """Read the whole recording with `survey`. If `is_summed` is true, compute its SHA-256."""
-        if self.is_piped:
+        """Read the whole recording, and find the packets of the page. If `is_summed` is true,
+        compute the SHA-256 of the recording."""
+        self.read_contents(is_summed)
+        self.choose_packets()
+
+    def read_contents(self, is_summed: bool, other: Recording | None = None) -> None:
+        """Read the whole recording with `survey`. `other` is the same recording, if it was read
+        before, perhaps for another page."""
+        if other:
+            self.path, self.file = other.path, other.file
+            if self.request.page == other.request.page:
+                self.survey = other.survey
+                return
+        elif self.is_piped:
             self.file = copy_piped(self.name, self.path, self.listener.printer)
         background_sum = BackgroundChecksum(self.name) if is_summed and not self.is_piped else None
         self.survey = survey(self.command_paths.program_path, self.path, self.request.page,
                              self.request.pid, look=self.show_progress)
         self.file = background_sum.result() if background_sum else self.file
         refuse_stream(self.survey, self.name)
+
+    def choose_packets(self) -> None:
+        """Find the packets of the page, and report losses."""
         self.packets = self.find_packets()
         self.count_from_first_packet()
         self.print_losses()
@@ -345,7 +360,7 @@ class Recording:
                        self.suggest_call("--origin", "T"))
 
     def suggest_call(self, *more: str) -> str:
-        return make_qc_command(self.request, self.command_paths, *more)
+        return make_command(self.request, self.command_paths, *more)
 
     def suggest_other_pages(self, several: Iterable[Packets]) -> Iterator[str]:
         """Return suggested commands for the other pages on these PIDs. The page with the most

@@ -14,8 +14,9 @@ from ..formats.stl import NamedSubtitle, Subtitle, SubtitleFile
 from ..formats.teletext import OPTION_BY_WORD
 from ..judging.causes import Cause, CAUSE_NAMES, LATE, find_first_frame
 from ..judging.cues import (
-    Cue, CueJudge, CueVerdict, NEXT_REFUSED, NOT_KNOWN, RIGHT, WAIVED, WRONG, find_cues,
-    find_recording_start, find_refused_subtitles, format_recording_offset, read_block_text)
+    CERTAIN, Cue, CueJudge, CueVerdict, NEXT_REFUSED, NOT_CERTAIN, NOT_KNOWN, RIGHT, WAIVED, WRONG,
+    find_cues, find_recording_start, find_refused_subtitles, format_recording_offset,
+    read_block_text)
 from ..judging.pages import format_page_text
 from ..judging.part import Part
 from ..judging.sentence import (
@@ -30,7 +31,8 @@ COLUMNS = ("No.", "Into recording", "Expected in", "Expected out", "Received in"
 MAX_PRINTED_ROWS = 200  # maximum number of rows to print on paper
 MAX_BARS = 12  # maximum number of delays in the histogram
 # CSS classes
-ROW_CLASSES = {RIGHT: "ok", VALID: "valid", WAIVED: "waived", WRONG: "bad", NOT_KNOWN: "unseen"}
+ROW_CLASSES = {RIGHT: "ok", VALID: "valid", WAIVED: "waived", WRONG: "bad", NOT_KNOWN: "unseen",
+               CERTAIN: "ok", NOT_CERTAIN: "unseen"}
 GOOD_CLASSES = {ROW_CLASSES[RIGHT], ROW_CLASSES[VALID]}
 
 
@@ -128,8 +130,9 @@ class CueList:
         links = [markup('<a href="#n{}">{} {}</a>', number, number, faults_by_number[number].name)
                  for number in verdict.fault_numbers]
         words = join_markup(filter(None, [verdict.cause, *links, verdict.doubt]), "; ")
-        return verdict.word if verdict.word in (RIGHT, VALID) else \
-            markup("{}: {}", WAIVED, words) if verdict.word == WAIVED else words
+        return verdict.word if verdict.word in (RIGHT, VALID, CERTAIN) else \
+            markup("{}: {}", verdict.word, words) if verdict.word in (WAIVED, NOT_CERTAIN) else \
+            words
 
     def make_text_cell(self, cue: Cue) -> Value:
         """Return the expected text and a different decoded text, with the differences marked."""

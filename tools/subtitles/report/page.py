@@ -21,9 +21,10 @@ from ..judging.coverage import describe_unchecked
 from ..judging.faults import describe_hint
 from ..judging.part import Part, belongs_to_part, find_lost_spans
 from ..judging.sentence import FAULT_CLAUSES, rank_number
-from ..judging.status import ACCEPTED, LOST, NOT_JUDGED, REFUSED, RELATIVE, VALID, WAIVED, WARNED
+from ..judging.status import (
+    ACCEPTED, AS_SHOWN, LOST, NOT_JUDGED, NOT_READ, REFUSED, RELATIVE, VALID, WAIVED, WARNED)
 from ..judging.subtitles import advise_on_midnight
-from ..judging.verdict import Verdict, count_fault_numbers, summarize_delays
+from ..judging.verdict import SCOPE_READING, Verdict, count_fault_numbers, summarize_delays
 from ..request.commands import CommandPaths
 from ..recording.recording import Recording
 from ..stream.gaps import limit_lines
@@ -52,9 +53,10 @@ SHAPES = {
                                   '40 46 28"/>')),
     NOT_JUDGED: ("unjudged", markup('<path d="M31 4L58 31L31 58L4 31z"/><path d="M23 25Q23 17 31 '
                                     '17Q39 17 39 24Q39 29 31 32V37M31 41V46"/>'))}
+SHAPES |= {AS_SHOWN: SHAPES[ACCEPTED], NOT_READ: SHAPES[NOT_JUDGED]}
 MAX_LINES = 5  # number of places to show; a longer list is folded
 LOST_TITLE = "TS packets are missing from the recording, which could not be checked there"
-NAMED_FAULTS_TITLE = "Faults that only qc finds"
+NAMED_FAULTS_TITLE = "Faults without a number"
 PROOF_NOTE = markup("The verdict and the faults are the lines that <code>subttx check --all</code> "
               "printed. The times, texts and pictures are computed by Python that is not proved; "
               "they show one receiver, tuned in before the first packet.")
@@ -72,9 +74,10 @@ def draw_verdict(word: str) -> tuple[str, Markup]:
 def make_verdict_box(verdict: Verdict) -> Markup:
     """Return the box with the verdict: sentence, clock, advice and notes."""
     kind, shape_markup = draw_verdict(verdict.word)
-    not_judged = verdict.word == NOT_JUDGED
-    # The sentence of a relative verdict already reports that no clock was given.
-    parts = [describe_clock(verdict)] if verdict.word not in (NOT_JUDGED, RELATIVE) else []
+    not_judged = not verdict.is_judged
+    # The sentences about relative verdicts and readings already describe the clock.
+    parts = [describe_clock(verdict)] if verdict.is_judged and verdict.word != RELATIVE and \
+        verdict.scope != SCOPE_READING else []
     parts += [make_folded_list(LOST_TITLE, [gap.format_line() for gap in verdict.gaps
                                             if gap.is_judged]),
               make_folded_list(NAMED_FAULTS_TITLE,
@@ -84,7 +87,7 @@ def make_verdict_box(verdict: Verdict) -> Markup:
                   for item in (verdict.unjudged_reason or "").splitlines()[1:]]
         parts += [markup('<p>Type <code class="long">{}</code></p>', item)
                   for item in verdict.suggestions]
-    elif verdict.word not in (ACCEPTED, VALID):
+    elif verdict.word not in (ACCEPTED, VALID, AS_SHOWN):
         parts.append(make_advice(verdict))
     notes = [*verdict.notes, *(item.format_warning() for item in verdict.warnings), *dict.fromkeys(
         part.drawing_differences for part in verdict.parts if part.drawing_differences)]
@@ -409,7 +412,7 @@ def make_report_page(verdict: Verdict, command_paths: CommandPaths) -> Markup:
     """Return the HTML report on a verdict."""
     title = " and ".join(os.path.basename(name) for name in
                          (verdict.request.stl, verdict.request.recording) if name)
-    views = [] if verdict.word == NOT_JUDGED else [
+    views = [] if not verdict.is_judged else [
         PartView(verdict, part) for part in verdict.parts]
     body = [make_verdict_box(verdict), make_scope_section(verdict)]
     if len(views) == 1:
@@ -431,4 +434,5 @@ def make_report_page(verdict: Verdict, command_paths: CommandPaths) -> Markup:
     return markup(
         "{}<title>{} &#8211; {}</title><style>\n{}{}</style></head><body><main><h1>Report on {}"
         '</h1>\n<nav aria-label="Sections">{}</nav>\n{}\n</main></body></html>\n', HEAD,
-        verdict.word, title, style, make_filter_style(view.cue_list for view in views), title, links, content)
+        verdict.word, title, style, make_filter_style(view.cue_list for view in views), title,
+        links, content)

@@ -211,13 +211,17 @@ class OutputNames:
         return path
 
 
-def make_qc_command(request: Request, command_paths: CommandPaths, *more: str) -> str:
+def make_command(request: Request, command_paths: CommandPaths, *more: str) -> str:
     """Return the command line that repeats a request with additional arguments. An additional
     option replaces the same option of the request."""
     arguments = [command_paths.get_tool_command("qc"), request.stl,
                  request.recording or "--file-only"]
     options = list_arguments(request)
     replaced_options = {"--origin": ["--origin", "--start"]}.get(more[0], [more[0]]) if more else []
+    if request.is_reading:
+        arguments = [command_paths.get_tool_command("read"), str(request.recording),
+                     *["--page", request.page_name] * ("--page" not in more)]
+        replaced_options = [*replaced_options, "--page", "--option"]
     arguments += [word for option in options if option and option[0] not in replaced_options
                   for word in option]
     return quote_command(*arguments, *more)

@@ -343,6 +343,7 @@ class Request:
     profile: Profile | None = None  # the other fields contain its values
     kept_stl: str | None = None  # path of the copy, if the subtitle file is a pipe
     language: str | None = None  # language code by which `option` was chosen, if any
+    is_reading: bool = False  # whether `stl` is read from the recording
 
     @property
     def stl_path(self) -> str:

@@ -20,13 +20,12 @@ from ..common.files import (
     is_replaced, open_output, open_result, read_bounded_bytes, read_first_bytes)
 from ..common.program import ProgramInfo
 from ..common.shapes import ListOf, Member, Members
-from ..judging.status import ACCEPTED, NOT_JUDGED, matches_exit_status
+from ..judging.status import ACCEPTED, NOT_JUDGED, NO_VERDICTS, matches_exit_status
 from ..judging.subtitles import SubtitleCounts
 from ..judging.verdict import Verdict
 from ..request.request import Request
 from .schema import (
-    CUE, FORMAT, LISTS, NO_PAIR, OMITTED, REQUEST, VERDICT, ResultSource, find_misfit,
-    list_subtitle_rows)
+    CUE, FORMAT, LISTS, NO_PAIR, OMITTED, REQUEST, VERDICT, ResultSource, find_misfit)
 
 
 # JSON results. Lists are written item by item, since they may have any number of faults.
@@ -101,7 +100,7 @@ class Row(NamedTuple):
     @property
     def is_judged(self) -> bool:
         """Return whether the pair has a verdict other than `not judged`."""
-        return self.verdict != NOT_JUDGED
+        return self.verdict not in NO_VERDICTS
 
 
 def make_unjudged(name: str, reason: str, kind: str) -> dict[str, Any]:
@@ -382,7 +381,7 @@ def make_subtitle_lines(verdict: Verdict) -> Iterator[bytes]:
     pair: Columns = {**files, "verdict": verdict.word,
                      "reason": verdict.unjudged_reason or verdict.sentence,
                      UNCHECKED_COLUMN: ", ".join(verdict.unchecked_kinds)}
-    rows = ({**files, **row} for row in list_subtitle_rows(verdict))
+    rows = ({**files, **row} for row in verdict.list_subtitle_rows())
     return map(str.encode, make_column_lines(itertools.chain([pair], rows), CUE_COLUMNS))
 
 
@@ -443,7 +442,7 @@ def make_element(case: TestCase) -> tree.Element:
         [case.sentence] * bool(case.sentence) + [case.line] * (case.line not in case.sentence)
         + [case.counts] * bool(case.counts) + [*case.lines]))
     if case.status:
-        kind = "error" if case.verdict == NOT_JUDGED else "failure"
+        kind = "error" if case.verdict in NO_VERDICTS else "failure"
         message = escape_hidden_lines(case.sentence or case.line)
         tree.SubElement(element, kind, message=message, type=case.verdict).text = text
     elif case.verdict != ACCEPTED or case.not_checked:
@@ -454,7 +453,7 @@ def make_element(case: TestCase) -> tree.Element:
 def make_junit_file(cases: Sequence[TestCase], date: str) -> bytes:
     """Return the JUnit file with a test case for each pair."""
     def count(kind: str) -> str:
-        return str(sum(case.status != 0 and (case.verdict == NOT_JUDGED) == (kind == "errors")
+        return str(sum(case.status != 0 and (case.verdict in NO_VERDICTS) == (kind == "errors")
                        for case in cases))
 
     counts = {"tests": str(len(cases)), "failures": count("failures"), "errors": count("errors"),

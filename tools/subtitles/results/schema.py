@@ -18,17 +18,20 @@ from ..common.shapes import (
 from ..common.times import FRAMES_OF_A_DAY, format_frame
 from ..judging.causes import CAUSE_NAMES, CauseDescriber, count_causes
 from ..judging.coverage import list_unchecked
-from ..judging.cues import NOT_KNOWN, RIGHT, WAIVED, WRONG, make_subtitle_rows
+from ..judging.cues import (
+    CERTAIN, CUTS, NOT_CERTAIN, NOT_KNOWN, RIGHT, WAIVED, WRONG)
 from ..judging.faults import make_faults
 from ..judging.part import Part
 from ..judging.status import (
-    ACCEPTED, NOT_JUDGED, POSSIBLE_RESULTS, REFUSED, RELATIVE, STATUSES, VALID)
-from ..judging.verdict import Verdict
+    ACCEPTED, NO_VERDICTS, NOT_JUDGED, POSSIBLE_READINGS, POSSIBLE_RESULTS, READING_STATUSES,
+    REFUSED, RELATIVE, STATUSES, VALID)
+from ..judging.verdict import SCOPE_FILE, SCOPE_PAIR, SCOPE_READING, SCOPES, Verdict
 from ..judging.waivers import WAIVABLE
 from ..request.request import CHOICES, list_request_members
 
 
 FIRST_FAULT, LAST_FAULT = 10, 79
+MAX_LISTED_ITEMS = 20_000
 
 CODE_TIME = make_named_shape("code_time", Text(r"[0-9]{2,3}(:[0-9]{2,3}){3}"))
 DATE = make_named_shape("date", Text(r"[0-9]{4}-[0-9]{2}-[0-9]{2}T[0-9]{2}:[0-9]{2}:[0-9]{2}Z"))
@@ -38,7 +41,7 @@ KIND = make_named_shape("kind", OneOf(*KINDS))
 KIND_NOTE = "The kind of that reason: `usage` (wrong arguments, also in a list), `input` (a file " \
     "is missing or wrong), `undecided`, `resource` (device, memory, time or another process), " \
     "`signal` or `bug`."
-WORD = make_named_shape("word", OneOf(*STATUSES))
+WORD = make_named_shape("word", OneOf(*STATUSES, *READING_STATUSES))
 
 FILE_AT_START = Record(
     "file_at_start", "",
@@ -88,7 +91,7 @@ FAULT = Record(
     Member("part", PART),
     Member("line", Text(r"refused [ -~]+", 200), "The line that `check --all` prints."),
     Member("number", Maybe(Integer(FIRST_FAULT, LAST_FAULT))),
-    Member("name", Text(r"[A-Za-z]+( [a-z]+)?", 40)),
+    Member("name", Text(r"[A-Za-z]+([ -][a-z]+)*", 40)),
     Member("severity", OneOf("error", "warning"), "`error`, or `warning` for a waived fault."),
     Member("file", OneOf("stl", "pes"), "`stl` for the subtitle file, `pes` for the recording."),
     Member("block", Maybe(COUNT), "The number of the TTI block, from 1; 0 means the GSI block."),
@@ -129,7 +132,7 @@ CLOCK_OF_PART = Record(
     "clock", "",
     Member("origin", PTS, "The PTS of 00:00:00:00."),
     Member("source", OneOf(*SOURCES), "recording (estimated), given (--origin), start (--start "
-           "TIME) or tcp (--start tcp)."),
+           "TIME), tcp (--start tcp) or first_pes (00:00:00:00 is the first PES packet)."),
     Member("delay_frames", Maybe(Integer(-FRAMES_OF_A_DAY, FRAMES_OF_A_DAY)), "The number of "
            "frames by which the cues come later than this clock predicts."))
 
@@ -245,10 +248,12 @@ CUE = Record(
     Member("delay_out", DELAY),
     Member("expected_text", Maybe(Text())),
     Member("decoded_text", Maybe(Text())),
-    Member("verdict", OneOf(RIGHT, VALID, WRONG, WAIVED, NOT_KNOWN), "right, valid (there is no "
-           "recording), wrong, waived (all faults are warnings) or not known (it could not be "
-           "judged)."),
-    Member("reason", Maybe(Text())),
+    Member("verdict", OneOf(RIGHT, VALID, WRONG, WAIVED, NOT_KNOWN, CERTAIN, NOT_CERTAIN), "right, "
+           "valid (there is no recording), wrong, waived (all faults are warnings) or not known "
+           "(it could not be judged). In a reading: certain or not certain."),
+    Member("cut", OneOf(*CUTS, None), "In a reading: the recording begins (`start`) or ends "
+           "(`end`) during the subtitle, or both."),
+    Member("reason", Maybe(Text()), "The reason for the verdict, or a note about the subtitle."),
     Member("complete_after", Maybe(COUNT), "The number of frames from the TCI until the page was "
            "complete and, with `--complete`, closed."))
 
@@ -285,9 +290,17 @@ COUNTS = Record(
     Member("refused", COUNT, "The count includes the subtitle before a subtitle with fault 56 or "
            "57."))
 
+READING = Record(
+    "reading", "",
+    Member("languages", ListOf(Text(), MAX_LISTED_ITEMS), "The languages that the PMT announces."),
+    Member("from", TIME),
+    Member("to", TIME, "The last frame that was read."),
+    Member("shown", COUNT, "The number of subtitles that receivers show."),
+    Member("written", COUNT, "The number of subtitles in the file."),
+    Member("certain", COUNT),
+    Member("enhanced", COUNT, "The number of subtitles with packets X/26."))
+
 FORMAT = 8
-SCOPES = SCOPE_PAIR, SCOPE_FILE, SCOPE_READING = "pair", "file", "reading"
-MAX_LISTED_ITEMS = 20_000
 MAX_SUBTITLES = 100_000  # maximum number of subtitles; a subtitle file has at most 99,999 blocks
 MAX_SECONDS = 10 ** 9
 Value = object
@@ -314,12 +327,6 @@ def list_cause_rows(known: ResultSource) -> Iterator[dict[str, Value]]:
             wording = CauseDescriber(part.causes, known.verdict.request.option)
             for cause in part.causes.list_causes():
                 yield {"part": part.number, **wording.make_json(cause)}
-
-
-def list_subtitle_rows(verdict: Verdict) -> Iterator[dict[str, Value]]:
-    """Yield a row for each subtitle of all parts. Yield no rows if the pair was not judged."""
-    for part in verdict.parts if verdict.word != NOT_JUDGED else ():
-        yield from make_subtitle_rows(part, verdict.valid_subtitles)
 
 
 def add_numbers_if_known(numbers: list[int | None]) -> int | None:
@@ -351,12 +358,13 @@ def list_kinds(status: int) -> list[str]:
 TEXT, NOTHING = Text(least=1), OneOf(None)
 JOINT_RULES = Rules([
     {"verdict": OneOf(word), "status": OneOf(status),
-     "line": NOTHING if word == NOT_JUDGED else TEXT,
-     "worst_fault": NOTHING if word in (ACCEPTED, VALID, NOT_JUDGED) else
+     "line": NOTHING if word in NO_VERDICTS else TEXT,
+     "worst_fault": NOTHING if word in (ACCEPTED, VALID, *NO_VERDICTS) else
      TEXT if word in (REFUSED, WAIVED) else Maybe(TEXT),
-     "reason": TEXT if word == NOT_JUDGED else NOTHING,
-     "not_judged_kind": OneOf(*list_kinds(status)) if word == NOT_JUDGED else NOTHING}
-    for word, status in POSSIBLE_RESULTS])
+     "reason": TEXT if word in NO_VERDICTS else NOTHING,
+     "not_judged_kind": OneOf(*list_kinds(status)) if word in NO_VERDICTS else NOTHING,
+     "scope": OneOf(SCOPE_READING) if word in READING_STATUSES else OneOf(SCOPE_PAIR, SCOPE_FILE)}
+    for word, status in [*POSSIBLE_RESULTS, *POSSIBLE_READINGS]])
 # Without a clock no pair is accepted or waived. Only a subtitle file without a recording is valid,
 # and it is never accepted. The verdict `relative` has status 0 only with --relative.
 IS_FILE: dict[str, Shape | Rules] = {"recording": NOTHING}
@@ -365,7 +373,8 @@ HAS_CLOCK: list[dict[str, Shape | Rules]] = [
 RELATIVE_RULES = Rules([{"relative": OneOf(True)}])
 TIME_RULES = Rules([
     {"verdict": OneOf(*(word for word in STATUSES
-                        if word not in (ACCEPTED, VALID, WAIVED, RELATIVE)))},
+                        if word not in (ACCEPTED, VALID, WAIVED, RELATIVE)),
+                      *READING_STATUSES)},
     {"verdict": OneOf(ACCEPTED), "request": Rules(HAS_CLOCK)},
     {"verdict": OneOf(WAIVED), "request": Rules([*HAS_CLOCK, IS_FILE])},
     {"verdict": OneOf(VALID), "request": Rules([IS_FILE])},
@@ -397,7 +406,7 @@ LISTS = (
     Member("causes", ListOf(LISTED_CAUSE, MAX_LISTED_ITEMS),
            "Each cause also has a key named `part`.", list_cause_rows),
     Member("subtitles", ListOf(CUE, MAX_SUBTITLES), "The list includes refused subtitles.",
-           lambda known: list_subtitle_rows(known.verdict)))
+           lambda known: known.verdict.list_subtitle_rows()))
 OMITTED = Record("omitted", "The number of items omitted from each list.", *(
     Member(one.name, COUNT) for one in LISTS))
 
@@ -418,7 +427,9 @@ VERDICT = Record(
            lambda known: known.verdict.not_judged_kind),
     Member("scope", OneOf(*SCOPES), "What was judged: `pair` (a recording by a subtitle file), "
            "`file` (a subtitle file alone) or `reading` (a recording alone).",
-           lambda known: SCOPE_FILE if known.verdict.request.recording is None else SCOPE_PAIR),
+           lambda known: known.verdict.scope),
+    Member("reading", Maybe(READING), "Null unless a recording was judged alone.",
+           lambda known: known.verdict.describe_reading()),
     Member("frames", Maybe(COUNT), getter=lambda known: sum_parts(known, "frames")),
     Member("transmissions", Maybe(COUNT),
            getter=lambda known: sum_parts(known, "transmissions")),
