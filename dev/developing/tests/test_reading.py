@@ -1,6 +1,7 @@
 """Test tools/read: stored pages, cut and joined pages, verdicts and complete calls."""
 from __future__ import annotations
 
+import hashlib
 import json
 import os
 from typing import Any
@@ -17,6 +18,7 @@ from subtitles.formats.teletext import (
 from subtitles.judging.cues import CERTAIN, NOT_CERTAIN
 from subtitles.judging.status import (
     AS_SHOWN, CheckSummary, Grounds, NOT_READ, Severity, WITH_FAULTS, decide_reading)
+from subtitles.reading.dates import find_date
 from subtitles.reading.received import (
     ShownPage, choose_header_option, choose_language, find_likely_errors, find_undecided_option,
     join_late_pages, mark_cuts)
@@ -401,3 +403,67 @@ class WholeCalls(Case):
         call = self.read(sent)
         self.must("of the operator", call.status == 2 and "was not written by" in
                   "".join(call.told), call)
+
+
+DAY_2000 = (51544).to_bytes(2, "big")  # the modified Julian date of 1 January 2000
+
+
+class WrittenFiles(Case):
+    def test_takes_the_date_from_the_tdt(self) -> None:
+        table = b"\x70\x70\x05" + DAY_2000 + b"\x12\x34\x56"
+        other = b"\x71\x70\x05\xff\xff\x12\x34\x56"
+        null = (b"\x47\x1f\xff\x10").ljust(188, b"\xff")
+        path = self.write("one.ts", b"")
+        for name, packet, date in (
+                ("a TDT", b"\x47\x40\x14\x10\x00" + table, b"000101"),
+                ("a TOT", b"\x47\x40\x14\x1f\x00\x73" + table[1:], b"000101"),
+                ("after a pointer", b"\x47\x40\x14\x10\x02\xff\xff" + table, b"000101"),
+                ("after an adaptation field", b"\x47\x40\x14\x31\x02\x00\xff\x00" + table,
+                 b"000101"),
+                ("another table", b"\x47\x40\x14\x10\x00" + other, b"010203"),
+                ("no payload", b"\x47\x40\x14\x20\x00" + table, b"010203"),
+                ("no section", b"\x47\x00\x14\x10\x00" + table, b"010203"),
+                ("a long pointer", b"\x47\x40\x14\x10\xfe" + table, b"010203"),
+                ("another PID", b"\x47\x40\x15\x10\x00" + table, b"010203")):
+            self.write("one.ts", null * 3 + packet.ljust(188, b"\xff") + null * 3)
+            os.utime(path, (981_173_106, 981_173_106))  # 3 February 2001
+            self.check(name, find_date(path, 188), date)
+        self.check("PES packets", find_date(path, 0), b"010203")
+
+    def test_writes_the_same_file_again(self) -> None:
+        stl = self.write("one.stl", make_random_stl(1)[0])
+        sent = self.schedule(stl, "sent.pes", "--every", "25")
+        files = []
+        for out in ("a", "b"):
+            self.check(out, self.tool("read", sent, "-o", out).status, 0)
+            with open(self.path(f"{out}/888.stl"), "rb") as file:
+                files.append(file.read())
+        self.check("bytes", files[0], files[1])
+        os.utime(sent, (981_173_106, 981_173_106))
+        self.tool("read", sent, "-o", "c")
+        with open(self.path("c/888.stl"), "rb") as file:
+            self.check("the dates", file.read()[224:236], b"010203010203")
+
+    def test_writes_the_files_of_qc(self) -> None:
+        stl = self.write("one.stl", make_random_stl(1)[0])
+        sent = self.schedule(stl, "sent.pes", "--every", "25")
+        with open(sent, "rb") as file:
+            data = file.read()
+        for name, args, piped in (("a file", [sent], None), ("a pipe", ["-"], data)):
+            call = self.tool("read", *args, "--page", "888", "-o", "out", "--json", "1.json",
+                             "--csv", "1.csv", "--junit", "1.xml", data=piped)
+            self.check(name, (call.status, sorted(os.listdir(self.path("out")))),
+                       (0, ["888.html", "888.json", "888.stl", "888.txt"]))
+        with open(self.path("1.json"), encoding="utf-8") as file:
+            result = json.load(file)
+        with open(self.path("1.csv"), encoding="utf-8") as file:
+            lines = file.read().splitlines()
+        self.check("subtitles", len(lines) - 2, len(result["subtitles"]))
+        self.check("sum", result["inputs"]["recording"]["sha256"],
+                   hashlib.sha256(data).hexdigest())
+        call = self.tool("qc", "--collect", "out", "--junit", "all.xml")
+        self.must("collected", call.status == 0 and b"1 pair: 1 as shown" in call.out, call)
+        with open(self.path("out/888.html"), encoding="utf-8") as file:
+            page = file.read()
+        self.check("the report", page.count("<td>certain</td>"), len(result["subtitles"]) - 1)
+        self.check("no page", self.tool("read", sent, "--json", "1.json").status, 64)
