@@ -17,7 +17,7 @@ from subtitles.judging.status import decide
 from subtitles.judging.verdict import Verdict
 from subtitles.request.commands import CommandPaths, Listener, OutputNames
 from subtitles.request.lines import read_options
-from subtitles.request.request import make_request
+from subtitles.request.request import begin_programme_day, make_request
 from subtitles.results.files import describe_inputs, make_result_chunks
 from .bench import Case
 from .streams import Packet, join_packets
@@ -99,9 +99,10 @@ def judge_files_with(program: str, *args: str, recorder: LineRecorder | None = N
     listener = Listener(recorder)
     stamps = stamp_inputs(request)
     verdict = make_verdict(request, listener, Verdict)
-    with tempfile.TemporaryDirectory() as folder, lock_pair(known.out, "one"):
+    with tempfile.TemporaryDirectory() as folder, lock_pair(known.out, "one"), \
+            begin_programme_day(request, folder):
         names = OutputNames("one", folder, known.out)
-        names.set_subtitle_file(request.stl)
+        names.set_subtitle_file(request.stl_path, request.moved_stl is not None)
         files = OutputFiles(PairOptions(program, known.out, known.is_kept, known.json, known.csv,
                                         known.junit), verdict, command_paths, names, stamps)
         verdict.files_at_start = describe_inputs(request)
@@ -111,7 +112,7 @@ def judge_files_with(program: str, *args: str, recorder: LineRecorder | None = N
         result = json.loads("".join(make_result_chunks(verdict, ProgramInfo("1", "0" * 64, None))))
         listed = [line for part in verdict.parts for line in part.check_output.read_lines()]
         # A recording read from a pipe is listed with the name of its stored copy.
-        known_files = {request.stl, request.recording, os.devnull}
+        known_files = {names.moved_stl or request.stl, request.recording, os.devnull}
         if pair.recording:
             known_files.add(pair.recording.display_name)
     return JudgedPair(verdict, recorder.lines, result, listed, known_files)

@@ -22,8 +22,9 @@ from subtitles.cli.state import MIN_FREE_BYTES
 from subtitles.clock.stretches import MIN_BREAK_FRAMES
 from subtitles.common.command_line import BUG_STATUS, MAX_WITHIN, Stop, USAGE_STATUS
 from subtitles.common.program import TOP, read
-from subtitles.common.times import FRAMES_A_SECOND, FRAMES_OF_A_DAY, TICKS
+from subtitles.common.times import FRAMES_A_SECOND, FRAMES_OF_A_DAY
 from subtitles.formats.listing import LOST_PACKETS
+from subtitles.formats.midnight import MIN_STEP_BACK
 from subtitles.formats.stl import MAX_STL
 from subtitles.judging.status import NOT_JUDGED, STATUSES, Severity
 from subtitles.recording.recording import MAX_PIPED_BYTES
@@ -331,7 +332,7 @@ RECORDER, JUDGE, STATUS = make_record_parser(), make_judge_parser(), make_status
 NUMBER_WORDS = {2: "two", 5: "five"}
 BREAK_SECONDS = NUMBER_WORDS[MIN_BREAK_FRAMES // FRAMES_A_SECOND]
 STATED: list[tuple[str, str, object]] = [
-    ("MANUAL.md", "{:,} ticks (one day)", FRAMES_OF_A_DAY * TICKS),
+    ("MANUAL.md", "back once, by {} hours or more", MIN_STEP_BACK // (FRAMES_OF_A_DAY // 24)),
     ("manual/results.md", "The format number is {}.", FORMAT),
     ("manual/many-pairs.md", "exit status {} is a `failure`", " or ".join(
         f"{status}" for status in sorted({*STATUSES.values()} - {0, STATUSES[NOT_JUDGED]}))),

@@ -158,14 +158,11 @@ class Files(Case):
             self.assertEqual(file.count_ended()[1], sum(data[at + 3] == LAST_BLOCK for at in range(
                 GSI, len(data), 128)))
             for at, item in enumerate(groups, 1):
-                earlier = [some for place, some in own if some.blocks[0] < item.blocks[0]]
                 for block in item.blocks:
                     result = file.find_by_block(block)
                     self.assertEqual((result and (result.position, result.number),
-                                      file.find_previous_block(
-                        block), file.is_outside(block)), (
-                            (at, at + (at > 3)), earlier[-1].blocks[0] if earlier else None,
-                            outside[at - 1]), block)
+                                      file.is_outside(block)), (
+                            (at, at + (at > 3)), outside[at - 1]), block)
                 self.assertEqual(file.text(item.blocks[-1]), item.text, (at, item))
             for frame in range(0, 300, 3):
                 due = [at for at, item in own if (item.begin or 0) <= frame < (item.end or 0)]
@@ -232,10 +229,10 @@ class Lines(unittest.TestCase):
             expected |= {"passed"} if 33 <= number <= 40 or number in (45, 61) else set()
             self.assertEqual({kind for kind, some in kinds.items() if number in some}, expected,
                              number)
-        self.assertEqual((listing.EMPTY, listing.EMPTY_TIME, listing.OUT_OF_ORDER,
-                          listing.OFF_FRAME, listing.GAP, listing.LOST_PACKETS, listing.CONTENT,
-                          listing.CHARACTER, listing.CONTROL, listing.BEGIN, listing.END),
-                         (60, 21, 56, 61, 73, 45, 72, 50, 67, 63, 74))
+        self.assertEqual((listing.EMPTY, listing.OFF_FRAME, listing.GAP, listing.LOST_PACKETS,
+                          listing.CONTENT, listing.CHARACTER, listing.CONTROL, listing.BEGIN,
+                          listing.END),
+                         (60, 61, 73, 45, 72, 50, 67, 63, 74))
         self.assertEqual((listing.TEXT_FAULTS, listing.FAULTS_WITH_CAUSE, listing.LOSSES,
                           listing.UNDECIDED),
                          ((50, 51), {63, 72, 74}, {45, 79}, 78))

@@ -12,12 +12,10 @@ from unittest import mock
 from developing.pes import make_pes_packet
 from developing.stl import make_gsi_block
 from subtitles.common.command_line import Stop, ToolParser
-from subtitles.common.times import FRAMES_OF_A_DAY, NO_FRAME, Span, TICKS
+from subtitles.common.times import NO_FRAME, Span, TICKS
 from subtitles.formats.listing import parse_fault_line
-from subtitles.formats.stl import SubtitleFile
 from subtitles.judging.check import CheckOutput, run_check
 from subtitles.judging.pair import PairJudge
-from subtitles.judging.subtitles import AT_MIDNIGHT, advise_on_midnight, falls_at_midnight
 from subtitles.report.blocks import show_byte
 from subtitles.request.lines import make_line_request
 from subtitles.request.request import Unclear, add_options
@@ -26,7 +24,7 @@ from .bench import Case, get_example_path, read_example_file
 from .judged import judge_files
 from .streams import TELETEXT_PID, make_stream_of_pids
 from .parts import make_example_request, markup_text, survey_packets, make_part, make_shell_script
-from .transmissions import CLOSING, HEADER, PAGE, write_pipe, write_programme
+from .transmissions import CLOSING, HEADER, PAGE, write_pipe
 from .test_judging_verdicts import make_part_verdict
 
 FIRST_LINE_TEXT, SECOND = "refused 72 Content frame 00:00:05:00 row 20 column 1", \
@@ -145,39 +143,6 @@ class Answers(Case):
                           list(result.read_lines())),
                          ("valid", "2 subtitles", 0, set(), []))
         self.assertFalse(result.summarize(False).is_read)
-
-
-class Midnight(Case):
-    def test_finds_times_that_fall_at_midnight(self) -> None:
-        def code(text: str) -> bytes:
-            return bytes(map(int, text.split(":")))
-
-        for first, second, expected in (
-                ("23:00:00:00", "00:59:59:24", True), ("22:59:59:24", "00:00:00:00", False),
-                ("23:59:59:24", "01:00:00:00", False), ("23:59:59:24", "00:00:00:00", True),
-                ("24:00:00:00", "00:00:00:00", False), ("23:00:00:00", "00:60:00:00", False)):
-            self.assertEqual(falls_at_midnight(code(first), code(second)), expected,
-                             (first, second))
-
-    def test_advises_to_cut_a_file_at_midnight(self) -> None:
-        day = FRAMES_OF_A_DAY
-        times = [(100, 200), (day - 50, 20), (day - 40, day - 20), (10, 60), (5, 70)]
-        subtitles = SubtitleFile(write_programme(self, times))
-        for line, is_told in (
-                ("refused 21 Times block 1", False), ("refused 21 Times block 2", True),
-                ("refused 21 Times block 3", False), ("refused 56 Order block 4", True),
-                ("refused 56 Order block 5", False), ("refused 56 Order block 3", False),
-                ("refused 56 Order block 1", False), ("refused 20 Other block 2", False),
-                ("refused 57 Other block 4", False), ("refused 21 Times", False)):
-            reported = parse_fault_line(line)
-            assert reported
-            self.assertEqual(advise_on_midnight(reported, subtitles),
-                             AT_MIDNIGHT if is_told else "",
-                             line)
-        reported = parse_fault_line("refused 56 Order block 2")
-        for begin, expected in ((day - 90_001, ""), (day - 90_000, AT_MIDNIGHT)):
-            subtitles = SubtitleFile(write_programme(self, [(begin, day - 100), (10, 60)]))
-            self.assertEqual(reported and advise_on_midnight(reported, subtitles), expected, begin)
 
 
 class LineOptions(Case):

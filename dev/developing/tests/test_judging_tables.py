@@ -303,13 +303,13 @@ class NamesOfFiles(Case):
                 pass
         result = [os.path.basename(path) for path in list_pair_files(out, "one")]
         self.must("own", sorted(result) == sorted([*own, "one.cut.pes", "one.recording.pes",
-                                                   "one.recording.ts",
+                                                   "one.recording.ts", "one.midnight.stl",
                                                    "one.txt", "one.html", "one.json"]), result)
         for name in ("a[1]", "a*", "a?"):
             path = self.write(f"out/{name}.1.txt", b"")
             kept = list_pair_files(out, name)
             self.must(name, path in kept and os.path.join(out, "one.1.txt") not in kept, kept)
-        self.must("no folder", len(list_pair_files(self.path("none"), "one")) == 6)
+        self.must("no folder", len(list_pair_files(self.path("none"), "one")) == 7)
 
     def test_prints_the_call_with_other_options(self) -> None:
         typed = CommandPaths("tools/qc", self.bench.program)
@@ -444,7 +444,6 @@ class PageDifferences(Case):
             ("61", "a"), ("C2", "é"), ("65", "e"), ("80", None), ("F9", "ø"), ("FF", "\ufffd"),
             (None, None)])
         self.assertEqual([file.describe_byte(at, 0) for at in (0, 7)], [(None, None)] * 2)
-        self.assertEqual([file.find_previous_block(at) for at in (2, 5, 6)], [None, None, 2])
         result = [file.find_by_block(at) for at in range(8)]
         self.assertEqual([item and (item.position, item.number, item.begin) for item in result], [
             None, (0, 7, "00:00:01:00"), (1, 7, "00:00:01:00"), (1, 7, "00:00:01:00"),

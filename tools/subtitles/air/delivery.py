@@ -12,11 +12,12 @@ from ..cli.batch import DONE_SUFFIX
 from ..cli.single import now as date
 from ..common.command_line import Stop, format_error
 from ..common.files import DamagedFile
-from ..common.times import FRAMES_A_SECOND, FRAMES_OF_A_DAY, FrameRange
+from ..common.times import FRAMES_A_SECOND, FRAMES_OF_A_DAY, begin_day_at
+from ..formats.midnight import find_day_begin, move_times
 from ..formats.stl import GSI, TTI, get_subtitle_times, read_stl, read_stored_subtitles
 from ..recording.notices import TNB, read_count
 from ..request.commands import make_pair_name
-from ..request.request import Request
+from ..request.request import Request, parse_range
 
 # maximum number of frames from the TCI of a subtitle to the TCO of the next one
 MAX_STEP = 6 * 3600 * FRAMES_A_SECOND
@@ -49,7 +50,7 @@ def read_delivery(request: Request, now: float, settled: float) -> Delivery:
     try:
         info = os.stat(stl)
         version = info.st_mtime_ns, info.st_size
-        content = read_content(stl, version, request.between)
+        content = read_content(stl, version, request.from_time, request.to_time)
     except FileNotFoundError:
         return Delivery(f"{stl} does not exist")
     except (OSError, Stop) as reason:
@@ -75,12 +76,15 @@ def find_first_look(_path: str, _version: tuple[int, int]) -> float:
 
 
 @functools.lru_cache(maxsize=10_000)
-def read_content(path: str, _version: tuple[int, int], between: FrameRange) -> Content:
+def read_content(path: str, _version: tuple[int, int], *limits: str | None) -> Content:
     """Read a subtitle file. Its length is the time from the first TCI to the last TCO, but ends
-    where the subtitles are damaged or not in order, since `check` refuses such files."""
+    where the subtitles are damaged or not in order, since `check` refuses such files. `limits` are
+    the values of --from and --to."""
     data, first, last, subtitles = read_stl(path), -1, 0, list[tuple[int, int, bytes]]()
-    with contextlib.suppress(DamagedFile, Stop):
-        for subtitle in read_stored_subtitles(data):
+    day_begin = find_day_begin(data)
+    with begin_day_at(day_begin), contextlib.suppress(DamagedFile, Stop):
+        between = parse_range(*limits)
+        for subtitle in read_stored_subtitles(move_times(data, day_begin)):
             begin, end = get_subtitle_times(subtitle)
             if begin is None or end is None or not between.includes(begin):
                 continue

@@ -4,6 +4,7 @@ from __future__ import annotations
 import argparse
 import contextlib
 import fcntl
+import functools
 import itertools
 import os
 import re
@@ -30,9 +31,10 @@ from ..judging.status import ACCEPTED, AS_SHOWN, NOT_JUDGED, RELATIVE, Severity,
 from ..judging.verdict import FailedOutput, Unjudged, Verdict
 from ..recording.recording import Recording
 from ..request.commands import (
-    CommandPaths, Listener, LOCK, OutputNames, PartFiles, Progress, Printer, STATE, list_pair_files,
-    make_index_path, make_lock_path, make_pair_name, format_profile)
-from ..request.request import Request, Unclear, IncompleteAnswer, keep_stl, make_request
+    CommandPaths, Listener, LOCK, MOVED_STL, OutputNames, PartFiles, Progress, Printer, STATE,
+    list_pair_files, make_index_path, make_lock_path, make_pair_name, format_profile)
+from ..request.request import (
+    Request, Unclear, IncompleteAnswer, begin_programme_day, keep_stl, make_request)
 from ..results import files as results
 from ..results.files import describe_inputs, encode_result, make_unjudged
 from ..stream.gaps import limit_lines
@@ -70,11 +72,11 @@ def refuse_folder_files(folder: str, inputs: Inputs) -> None:
 
 
 def is_own_file(path: str) -> bool:
-    """Return whether these tools wrote a file. Examine the file's first bytes, or for a recording
-    the time at which it was written."""
+    """Return whether these tools wrote a file. Examine the file's first bytes, or for a copy of an
+    input the time at which it was written."""
     stem, ending = os.path.splitext(path)
-    if ending in (".pes", ".ts"):
-        return is_kept_recording(path, f"{os.path.splitext(stem)[0]}.json")
+    if ending in (".pes", ".ts") or path.endswith(f".{MOVED_STL}"):
+        return is_kept_copy(path, f"{os.path.splitext(stem)[0]}.json")
     data = read_first_bytes(path, PREFIX_BYTES, is_followed=False)
     if not data or ending == f".{LOCK}":
         return not data
@@ -88,9 +90,9 @@ def is_own_file(path: str) -> bool:
     return bool(RESULT.match(data)) if ending == ".json" else data.startswith(HEAD.page())
 
 
-def is_kept_recording(path: str, result: str) -> bool:
-    """Return whether a recording was kept by the run that wrote the file `result`. The run writes
-    the result soon after the recording."""
+def is_kept_copy(path: str, result: str) -> bool:
+    """Return whether the copy of an input was kept by the run that wrote the file `result`. The run
+    writes the result soon after the copy."""
     if not os.path.isfile(result) or not is_own_file(result):
         return False
     return 0 <= os.stat(result).st_mtime_ns - os.stat(path).st_mtime_ns < KEPT_SECONDS * 10**9
@@ -231,12 +233,13 @@ def judge_and_report(request: Request, call: PairOptions, program_name: str) -> 
             remove_results(staging_folder, name)
         names = OutputNames(name, folder, out, staging_folder)
         keep_stl(request, folder)
-        names.set_subtitle_file(request.stl_path)
-        files = OutputFiles(call, verdict, command_paths, names, stamps)
-        verdict.files_at_start = describe_inputs(request)
-        pair = PairJudge(verdict, command_paths, names, listener, files.needs_sums())
-        judge_pair(pair, files)
-        report_pair(verdict, printer, files)
+        with begin_programme_day(request, folder):
+            names.set_subtitle_file(request.stl_path, request.moved_stl is not None)
+            files = OutputFiles(call, verdict, command_paths, names, stamps)
+            verdict.files_at_start = describe_inputs(request)
+            pair = PairJudge(verdict, command_paths, names, listener, files.needs_sums())
+            judge_pair(pair, files)
+            report_pair(verdict, printer, files)
     return verdict
 
 
@@ -472,11 +475,14 @@ class OutputFiles:
         return outputs
 
     def list_raw_outputs(self, recording: Recording | None) -> list[Output]:
-        """Return the fault lists of all parts as printed by `check`, the kept recording, and the
-        subtitle file that was read from the recording."""
+        """Return the fault lists of all parts, the copy of the subtitle file with moved times, the
+        kept recording, and the subtitle file that was read from the recording."""
         lists = [Output(part.names.make_final_path("txt"), part.check_output.read_bytes, True,
                         is_raw=True)
                  for part in self.verdict.parts]
+        if moved_stl := self.verdict.request.moved_stl:
+            lists.append(Output(self.names.make_final_path(MOVED_STL),
+                                functools.partial(read_chunks, moved_stl), True, is_raw=True))
         ending = recording and recording.packets.count and recording.kept_ending
         if self.call.is_kept and recording and ending:
             lists.append(Output(self.names.make_final_path(ending), recording.read_kept_data, True,

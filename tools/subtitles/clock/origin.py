@@ -10,8 +10,8 @@ from typing import Collection, Iterator, NamedTuple, Sequence
 
 from ..common.command_line import Lateness, Stop, counted, format_frame_range, was
 from ..common.times import (
-    ALL_DAY, FRAMES_A_SECOND, FrameRange, TICKS, compute_time, format_frame, subtract_origin,
-    subtract_pts, subtract_pts_within)
+    ALL_DAY, FRAMES_A_SECOND, FrameRange, TICKS, compute_origin, compute_time, format_frame,
+    format_origin, format_time_code, subtract_origin, subtract_pts, subtract_pts_within)
 from ..formats.stl import encode_page_characters, read_until_damage, read_stl, get_subtitle_times
 from ..formats.teletext import Page, page_name
 from ..stream.packets import Packets, Range, STRAY, describe_subpages, find_alternating_subcodes
@@ -240,7 +240,7 @@ def add_part(origin: OriginEstimate, part: EstimatedPart, packets: Range | None,
     best = part.best
     origin.parts.append(PartOrigin(part.origin, packets, frames, best.matches, best.total,
                                    format_match(part, count)))
-    origin.printed.append(f"{between}{pes}--origin {part.origin}")
+    origin.printed.append(f"{between}{pes}{format_origin(part.origin)}")
 
 
 def compare_with_known_origin(origin: OriginEstimate, known: int | None,
@@ -250,11 +250,12 @@ def compare_with_known_origin(origin: OriginEstimate, known: int | None,
     best, cue_offset = part.best, part.time_base.find_cue_offset(part.best)
     origin.has_all_cues = best.matches == best.total or bool(
         cue_offset and cue_offset.matches == cue_offset.total)
-    ticks_late = subtract_pts(known or 0, part.origin)
+    compared = compute_origin(0) if known is None else known
+    ticks_late = subtract_pts(compared, part.origin)
     origin.ticks_late = None if known is None else ticks_late
     if known is not None or abs(ticks_late) // TICKS <= MAX_PRINTED_DISTANCE \
             and not 0 <= abs(ticks_late) < TICKS:
-        origin_text = f"--origin {known or 0}"
+        origin_text = format_origin(compared)
         origin.lines.append(f"compared with {origin_text}, the subtitles are "
                             f"{describe_offset(ticks_late)}" if ticks_late
                             else f"the subtitles match {origin_text}")
@@ -302,7 +303,7 @@ def is_clear(part: EstimatedPart, is_known: bool = False) -> bool:
 def format_match(part: EstimatedPart, count: int) -> str:
     """Return a line with the number of matching cues; `count` is the number of cues in the file."""
     best, others, cues = part.best, part.others, len(part.time_base.cues)
-    following = f"the next best is --origin {others[0].origin} with " \
+    following = f"the next best is {format_origin(others[0].origin)} with " \
         f"{counted(others[0].matches, 'cue')}" if others else "no other origin matches a cue"
     return (f"{best.matches} of {counted(best.total, 'cue')} in the recording "
             f"{'matches' if best.matches == 1 else 'match'}, {best.content_matches} with the "
@@ -322,8 +323,8 @@ def format_part(part: EstimatedPart, count: int, has_picture: bool = False,
             f"{format_frame_range(delays[0], delays[-1])} late (median {delays[len(delays) // 2]})"
     equal, cue_offset = find_equal_origins(part), part.time_base.find_cue_offset(best)
     if equal:
-        names = ", ".join(f"--origin {fit.origin}" for fit in equal[:MAX_PRINTED_ITEMS])
-        yield (f"ambiguous: --origin {best.origin} fits no better than {names}"
+        names = ", ".join(format_origin(fit.origin) for fit in equal[:MAX_PRINTED_ITEMS])
+        yield (f"ambiguous: {format_origin(best.origin)} fits no better than {names}"
                + (f" and {len(equal) - MAX_PRINTED_ITEMS} more" if len(equal) > MAX_PRINTED_ITEMS
                   else ""))
     if part.early:
@@ -343,8 +344,8 @@ def format_part(part: EstimatedPart, count: int, has_picture: bool = False,
     if mismatch:
         yield mismatch
     elif best.matches * 2 < best.total and not cue_offset:
-        yield (f"fewer than half of the cues match with --origin {best.origin}: check that this "
-               "is the right subtitle file")
+        yield (f"fewer than half of the cues match with {format_origin(best.origin)}: check that "
+               "this is the right subtitle file")
 
 
 def describe_mismatch(part: EstimatedPart, bases: Sequence[TimeBase]) -> str:
@@ -404,7 +405,7 @@ def format_breaks(parts: Sequence[EstimatedPart]) -> Iterator[str]:
     """Yield a line about each part after the first, with its start and the break before it."""
     for number, (previous, part) in enumerate(zip(parts, parts[1:]), 2):
         frames, rest = divmod(abs(gap_ticks := subtract_pts(previous.origin, part.origin)), TICKS)
-        length = format_frame(frames) + (f" and {counted(rest, 'tick')}" if rest else "")
+        length = format_time_code(frames) + (f" and {counted(rest, 'tick')}" if rest else "")
         place_text = "where the PTS go back" if part.base != previous.base else \
             f"after a break of {length}" if gap_ticks > 0 else f"where the recording lacks {length}"
         yield f"part {number} begins at {format_frame(part.begin)}, {place_text}"

@@ -7,9 +7,9 @@ from typing import NamedTuple, Sequence
 from ..common.command_line import counted, format_pid, escape_hidden, was
 from ..common.files import read_first_bytes
 from ..common.times import (
-    ALL_DAY, EARLY_TICKS, FrameRange, TICKS, compute_frame, decode_frame, format_frame, parse_frame,
-    subtract_origin, subtract_pts, wrap_pts)
-from ..formats.stl import GSI
+    ALL_DAY, EARLY_TICKS, FrameRange, TICKS, compute_frame, compute_midnight, format_frame,
+    format_origin, parse_frame, subtract_origin, subtract_pts, wrap_pts)
+from ..formats.stl import GSI, TCP_PLACE, decode_tcp
 from ..request.request import ORIGIN_CHOICE, Request, Selection, Unclear
 from ..stream.packets import Packets, Range
 from ..stream.survey import ProgramMap, Survey
@@ -39,16 +39,21 @@ class Clock(NamedTuple):
 
     def get_selection(self, part: int | None) -> Selection | None:
         """Return the `Selection` to report for an estimated clock, or `None` for other clocks."""
-        evidence = self.evidence or Selection(ORIGIN_CHOICE, str(self.origin), ESTIMATED_NOTE)
+        evidence = self.evidence or Selection(ORIGIN_CHOICE, str(self.midnight), ESTIMATED_NOTE)
         return evidence._replace(part=part) if self.is_estimated else None
 
     @property
     def is_estimated(self) -> bool:
         return self.source == RECORDING
 
+    @property
+    def midnight(self) -> int:
+        """Return the PTS of 00:00:00:00."""
+        return compute_midnight(self.origin)
+
     def words(self) -> str:
         """Return the origin and its source as text."""
-        return f"origin {self.origin}, {SOURCES[self.source]}"
+        return f"origin {self.midnight}, {SOURCES[self.source]}"
 
     def question(self) -> str:
         """Return the question whether the time code belongs to the other picture. Return an empty
@@ -82,7 +87,6 @@ OTHER_STREAM_TYPES = {0x10: "MPEG-4 part 2", 0x1E: "MPEG-C", 0x1F: "SVC", 0x20: 
                       0x21: "JPEG 2000", 0x25: "HEVC sub-bitstream", 0x32: "JPEG XS", 0x33: "VVC",
                       0x35: "EVC", 0x42: "AVS", 0xD1: "Dirac", 0xD2: "AVS2", 0xD4: "AVS3",
                       0xEA: "VC-1"}
-TCP_PLACE = slice(256, 264)  # the bytes of the TCP in the GSI block
 MAX_PCR_DISTANCE = 25  # maximum number of frames from the last PTS to the end of the last subtitle
 MAX_SAMPLES = 1000  # maximum number of Teletext PTS to compare with the first picture
 # maximum number of pictures that are sent before a picture shown earlier
@@ -235,12 +239,11 @@ def read_start_frame(request: Request) -> int:
         frame = parse_frame(request.start or "")
         assert frame is not None  # the command line was checked
         return frame
-    code = read_first_bytes(request.stl_path, GSI)[TCP_PLACE].decode("latin-1")
-    is_code = code.isascii() and code.isdecimal() and len(code) == 8
-    first = decode_frame(int(code[at:at + 2]) for at in range(0, 8, 2)) if is_code else None
+    code = read_first_bytes(request.stl_path, GSI)[TCP_PLACE]
+    first = decode_tcp(code)
     if first is None:
         raise Unclear(f"the TCP in the GSI block of {request.stl} is not a time: "
-                      f"{escape_hidden(code)!r}")
+                      f"{escape_hidden(code.decode('latin-1'))!r}")
     return first
 
 
@@ -261,7 +264,7 @@ def compute_start_clock(request: Request, survey: Survey, packets: Packets) -> S
     return StartClock(Clock(shifted_pts, source, picture_offset=first.picture_offset),
                       [first.line(),
                        f"by {name}, the time of this picture is {format_frame(frame)}, so the "
-                       f"clock is --origin {shifted_pts}, {relation}"], frame)
+                       f"clock is {format_origin(shifted_pts)}, {relation}"], frame)
 
 
 def refuse_outside_recording(request: Request, start_clock: StartClock, begin: int, end: int,

@@ -3,6 +3,8 @@ from __future__ import annotations
 
 import array
 import bisect
+import contextlib
+import contextvars
 import heapq
 import operator
 import re
@@ -38,12 +40,12 @@ class FrameRange(NamedTuple):
 
 ALL_DAY = FrameRange()
 
+TIME_CODE = re.compile(r"\d\d:\d\d:\d\d:\d\d", re.ASCII)
 
-def parse_frame(time: str) -> int | None:
-    """Return the frame of the day for a time HH:MM:SS:FF, or `None` if it is not valid."""
-    if not re.fullmatch(r"\d\d:\d\d:\d\d:\d\d", time, re.ASCII):
-        return None
-    return decode_frame(map(int, time.split(":")))
+
+def parse_time_code(time: str) -> int | None:
+    """Return the number of frames for a time of day HH:MM:SS:FF, or `None` if it is not valid."""
+    return decode_frame(map(int, time.split(":"))) if TIME_CODE.fullmatch(time) else None
 
 
 def decode_frame(code: Iterable[int]) -> int | None:
@@ -55,15 +57,83 @@ def decode_frame(code: Iterable[int]) -> int | None:
     return ((hours * 60 + minutes) * 60 + seconds) * FRAMES_A_SECOND + frames
 
 
-def decode_time(code: bytes) -> str:
-    """Format four bytes of a TTI block as HH:MM:SS:FF, even if that is not a valid time of day."""
-    return ":".join(f"{part:02}" for part in code)
+def format_time_code(frames: int) -> str:
+    """Return a number of frames as HH:MM:SS:FF. A day is 24:00:00:00."""
+    seconds, frames = divmod(frames, FRAMES_A_SECOND)
+    return f"{seconds // 3600:02}:{seconds // 60 % 60:02}:{seconds % 60:02}:{frames:02}"
+
+
+# The day of a programme
+#
+# The program `subttx` counts frames from midnight. If a programme runs over midnight, it reads a
+# copy of the subtitle file in which all times are earlier (see `formats.midnight`). Then the frames
+# here are those of the copy. Times in messages and results, and the value of --origin, are those of
+# the subtitle file.
+
+_day_begin = contextvars.ContextVar("day_begin", default=0)  # time of frame 0, in frames
+
+
+@contextlib.contextmanager
+def begin_day_at(frames: int) -> Iterator[None]:
+    """In a `with` block, count frames from a time of day other than midnight."""
+    token = _day_begin.set(frames)
+    try:
+        yield
+    finally:
+        _day_begin.reset(token)
 
 
 def format_frame(frame: int) -> str:
     """Return the time HH:MM:SS:FF of a frame. The end of the day is 24:00:00:00."""
-    seconds, frames = divmod(frame, FRAMES_A_SECOND)
-    return f"{seconds // 3600:02}:{seconds // 60 % 60:02}:{seconds % 60:02}:{frames:02}"
+    begin = _day_begin.get()
+    return format_time_code((frame + begin) % FRAMES_OF_A_DAY if begin else frame)
+
+
+def parse_frame(time: str) -> int | None:
+    """Return the frame at a time HH:MM:SS:FF, or `None` if this is not a valid time of day."""
+    frames = parse_time_code(time)
+    return None if frames is None else find_frame_at(frames)
+
+
+def find_frame_at(frames: int) -> int:
+    """Return the frame at a time of day, given in frames since midnight."""
+    return (frames - _day_begin.get()) % FRAMES_OF_A_DAY
+
+
+def decode_time(code: bytes) -> str:
+    """Return four bytes of a TTI block as HH:MM:SS:FF, even if that is not a valid time of day."""
+    frame = decode_frame(code)
+    return ":".join(f"{part:02}" for part in code) if frame is None else format_frame(frame)
+
+
+def format_program_time(time: str) -> str:
+    """Return the time that the program `subttx` needs for a time of the subtitle file."""
+    frame = parse_frame(time)
+    return time if frame is None else format_time_code(frame)
+
+
+def restore_times(line: str) -> str:
+    """Return a line of the program `subttx` with the times of the subtitle file."""
+    def restore(match: re.Match[str]) -> str:
+        frame = parse_time_code(match[0])
+        return match[0] if frame is None else format_frame(frame)
+
+    return TIME_CODE.sub(restore, line) if _day_begin.get() else line
+
+
+def compute_midnight(origin: int) -> int:
+    """Return the PTS of 00:00:00:00 (the value of --origin) if frame 0 has the PTS `origin`."""
+    return wrap_pts(origin - TICKS * _day_begin.get())
+
+
+def format_origin(origin: int) -> str:
+    """Return the option --origin for a clock on which frame 0 has the PTS `origin`."""
+    return f"--origin {compute_midnight(origin)}"
+
+
+def compute_origin(midnight: int) -> int:
+    """Return the PTS of frame 0 if 00:00:00:00 has the PTS `midnight`."""
+    return wrap_pts(midnight + TICKS * _day_begin.get())
 
 
 def describe_duration(frames: int) -> str:

@@ -7,7 +7,7 @@ from typing import NamedTuple
 
 from ..common.markup import Markup, join_markup, markup
 from ..common.program import TOP
-from ..common.times import FRAMES_A_SECOND, parse_frame
+from ..common.times import FRAMES_A_SECOND, find_frame_at, parse_frame
 
 
 # Lines of `check --all`. Only this module parses them.
@@ -31,7 +31,6 @@ FAULT_LINE = re.compile(
     r"| row (?P<row>\d+) column (?P<column>\d+))?)?")
 EMPTY = 60  # there is no PES packet
 DISPLAY = 13  # fault of the display standard code (DSC)
-EMPTY_TIME, OUT_OF_ORDER = 21, 56  # empty or decreasing times in a subtitle file
 OFF_FRAME, ORDER, GAP = 61, 62, 73
 # Number of the fault in frames next to refused subtitles, where the expected page is unknown
 UNDECIDED = 78
@@ -147,7 +146,8 @@ def parse_fault_number(line: str) -> int | None:
 def parse_place_time(time: str) -> int:
     """Return the frame of a time in a line of `check`."""
     hours, minutes, seconds, frames = map(int, time.split(":"))
-    return ((hours * 60 + minutes) * 60 + seconds) * FRAMES_A_SECOND + frames
+    frame: int = find_frame_at(((hours * 60 + minutes) * 60 + seconds) * FRAMES_A_SECOND + frames)
+    return frame
 
 
 # Faults that only qc finds. They have names instead of numbers.

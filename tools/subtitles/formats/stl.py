@@ -10,7 +10,8 @@ from typing import Collection, Iterable, Iterator, NamedTuple, Sequence
 from ..common.command_line import Stop, WrongAnswer, print_stderr
 from ..common.files import DamagedFile, read_first_bytes
 from ..common.times import (
-    ALL_DAY, FRAMES_OF_A_DAY, FrameRange, count_until, decode_frame, decode_time, parse_frame)
+    ALL_DAY, FRAMES_OF_A_DAY, FrameRange, count_until, decode_frame, decode_time,
+    parse_time_code)
 from .listing import parse_fault_line
 from .teletext import ACCENTS, OPTION_BY_WORD, encode_line, decode_text
 
@@ -104,6 +105,7 @@ def encode_page_characters(text: bytes, option: str) -> bytes:
 CODE_PAGE = slice(0, 3)  # code page number (CPN)
 ORIGINAL, TRANSLATED = slice(16, 48), slice(80, 112)  # programme titles (OPT, TPT)
 CODE_PAGES = {"437", "850", "860", "863", "865"}
+TCP_PLACE = slice(256, 264)  # time code of the start of the programme (TCP)
 DISK_FORMAT = slice(3, 11)  # disk format code (DFC)
 # The first bytes of other files, and what they are
 OTHER_FILES = {b"\x1f\x8b": "gzip-compressed: unpack it", b"PK\3\4": "a zip archive: unpack it",
@@ -123,6 +125,14 @@ def describe_other_file(path: str) -> str:
     return next((text for begin, text in OTHER_FILES.items() if head.startswith(begin)),
                 "not an EBU STL file: it begins with neither a code page (CPN, such as 850) nor a "
                 "disk format code (DFC, STL25.01)")
+
+
+def decode_tcp(code: bytes) -> int | None:
+    """Return the frame of a TCP, eight digits, or `None` if it is not a time."""
+    is_code = code.isdigit() and len(code) == 8
+    frame: int | None = decode_frame(int(code[at:at + 2]) for at in range(0, 8, 2)) \
+        if is_code else None
+    return frame
 
 
 def read_titles(path: str) -> list[str]:
@@ -196,7 +206,7 @@ def decode_subtitles(data: bytes) -> list[Subtitle]:
 def parse_subtitle(index: int, line: str) -> Subtitle:
     """Parse a line of the output of `show`."""
     match = SHOW_LINE.fullmatch(line)
-    begin, end = (parse_frame(match[name]) if match else None for name in ("begin", "end"))
+    begin, end = (parse_time_code(match[name]) if match else None for name in ("begin", "end"))
     if not match or begin is None or end is None:
         raise WrongAnswer(f"`show` printed no subtitle: {line}")
     text = b"" if match["text"] == NO_TEXT else bytes.fromhex(match["text"])
@@ -322,11 +332,6 @@ class SubtitleFile:
         last_block_count = sum(self.block(number)[3] == LAST_BLOCK for number in
                                range(1, len(self.first_blocks)))
         return own, last_block_count
-
-    def find_previous_block(self, block: int) -> int | None:
-        """Return the first block of the previous subtitle, or `None` for the first subtitle."""
-        at = bisect.bisect_left(self.blocks, self.first_blocks[block])
-        return self.blocks[at - 1] if at else None
 
     def list_subtitles(self) -> Iterator[NamedSubtitle]:
         """Yield the expected subtitles."""

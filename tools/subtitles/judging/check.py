@@ -5,13 +5,12 @@ import bisect
 import collections
 import functools
 import os
-import re
 import shutil
 import subprocess
 from typing import BinaryIO, Callable, Collection, Iterator, NamedTuple
 
 from ..common.files import add_name_to_errors, read_chunks
-from ..common.times import FRAMES_OF_A_DAY, Spans
+from ..common.times import FRAMES_OF_A_DAY, Spans, TIME_CODE, restore_times
 from ..formats.listing import (
     ENDED, FaultLine, SKIPPED_PACKETS, REFUSED, parse_accepted_line, parse_count_line,
     parse_fault_line, parse_place_time, is_check_line, split_line, parse_fault_number,
@@ -29,9 +28,6 @@ class FaultEnd(NamedTuple):
 
 
 NO_END = FaultEnd(None, None)
-
-
-TIME_CODE = re.compile(r"\d\d:\d\d:\d\d:\d\d")
 
 
 class CheckOutput:
@@ -218,7 +214,7 @@ def run_check(command: list[str], output: CheckOutput,
         assert process.stdout
         try:
             for line in process.stdout:
-                output.read_line(line.rstrip("\n"))
+                output.read_line(restore_times(line.rstrip("\n")))
                 if output.frames is None:
                     report_line(output.last_line)
         except BaseException:
@@ -240,9 +236,8 @@ def check_file_alone(request: Request, program: str, names: OutputNames) -> Chec
                      CheckOutput(names.make_temporary_path("alone.txt")), lambda line: None)
 
 
-def print_file_check_command(request: Request, command_paths: CommandPaths,
+def print_file_check_command(request: Request, command_paths: CommandPaths, names: OutputNames,
                              listener: Listener) -> None:
     """Print the command that checks the subtitle file alone."""
-    listener.add_command(command_paths.program_command, "check", request.stl, NO_PES,
-                         *request.list_check_arguments(True),
-                         "--all")
+    listener.add_command(command_paths.program_command, "check", names.moved_stl or request.stl,
+                         NO_PES, *request.list_check_arguments(True), "--all")

@@ -7,10 +7,10 @@ from typing import Iterator, NamedTuple, Sequence
 from ..clock.start import describe_largest_offset, find_largest_offset
 from ..common.command_line import counted, was
 from ..common.shapes import Members
-from ..common.times import find_frame_of_day, format_frame, parse_frame
+from ..common.times import find_frame_of_day, format_frame, parse_frame, parse_time_code
 from ..formats.listing import (
-    BEGIN, CHARACTER, CONTENT, CONTROL, DISPLAY, EMPTY_TIME, END, FaultLine, GAP, TEXT_FAULTS,
-    NamedFault, OFF_FRAME, OUT_OF_ORDER, PARITY, SKIPPED_PACKETS, SILENT, STL_FAULTS,
+    BEGIN, CHARACTER, CONTENT, CONTROL, DISPLAY, END, FaultLine, GAP, TEXT_FAULTS,
+    NamedFault, OFF_FRAME, PARITY, SKIPPED_PACKETS, SILENT, STL_FAULTS,
     FAULTS_WITH_CAUSE, read_meanings, read_named_meanings, remove_markup)
 from ..formats.stl import NamedSubtitle, NEW_LINE, SubtitleFile, format_subtitle_name
 from ..formats.teletext import (
@@ -26,7 +26,7 @@ from .check import FaultEnd
 from .pages import SPACE, describe_code, format_page_text
 from .part import Part
 from .status import ERROR, WARNING
-from .subtitles import OptionAdvice, advise_on_midnight
+from .subtitles import OptionAdvice
 from .transmissions import PageHeader, describe_effect, describe_header_faults, find_page_headers
 from .verdict import Verdict
 
@@ -87,7 +87,7 @@ def find_code(rows: Rows | None, row: int, column: int) -> int | None:
     return rows[row - 1][column] & 0x7F
 
 
-HINTS_BY_NUMBER = {EMPTY_TIME, CHARACTER, OUT_OF_ORDER, OFF_FRAME, CONTROL, GAP, PARITY, SILENT}
+HINTS_BY_NUMBER = {CHARACTER, OFF_FRAME, CONTROL, GAP, PARITY, SILENT}
 HINTS_ON_PAGES = {DISPLAY, CONTENT}
 LENGTH_FAULTS = {32, 35}  # wrong lengths of PES packets or of their headers
 RANGE_FAULTS = {BEGIN, END}  # faults of a recording that begins late or ends early
@@ -119,8 +119,6 @@ def describe_hint(fault: FaultLine, part: Part, verdict: Verdict) -> str:
             describe_unrecorded(fault, part)
     if fault.number == CONTENT:
         return part.drawing_differences
-    if fault.number in (EMPTY_TIME, OUT_OF_ORDER):
-        return advise_on_midnight(fault, part.open_subtitle_file())
     if part.pes is None or part.origin is None:
         return ""
     if fault.number == OFF_FRAME:
@@ -306,7 +304,6 @@ class PartFaults:
             remedy = describe_open_option(self.subtitles) or remedy
         if fault.number == CONTENT:
             remedy = self.part.drawing_differences or remedy
-        remedy = advise_on_midnight(fault, self.subtitles) or remedy
         meaning = describe_header_faults(place.headers, self.request) or meaning
         return {
             "part": self.part.number, "line": fault.line, "number": fault.number,
@@ -317,7 +314,8 @@ class PartFaults:
             "byte": byte, "character": character, "text_offset": fault.at,
             "pes": place.pes if fault.pes is None else fault.pes,
             "pes_pts": place.pts, "pes_time": self.format_time(place.pts), "packet": fault.packet,
-            "frame": fault.frame, "time": fault.time, "row": fault.row, "column": fault.column,
+            "frame": count_frames(fault), "time": fault.time,
+            "row": fault.row, "column": fault.column,
             "expected": self.make_cell(due, fault),
             "decoded": self.make_cell(place.rows, fault) if fault.number == CONTENT else None,
             "last_time": end.time, "last_pes": end.pes, "meaning": meaning, "remedy": remedy,
@@ -364,6 +362,12 @@ def make_subtitle(subtitle: NamedSubtitle) -> Members:
             "end": subtitle.end}
 
 
+def count_frames(fault: FaultLine | NamedFault) -> int | None:
+    """Return the frame of a fault, counted from midnight, if it has one."""
+    frames: int | None = parse_time_code(fault.time) if fault.time else None
+    return frames
+
+
 def make_named_fault(verdict: Verdict, fault: NamedFault) -> Members:
     """Return the JSON value of a fault without a number, with details."""
     part = next((part for part in verdict.parts if part.number == fault.part), None)
@@ -375,7 +379,7 @@ def make_named_fault(verdict: Verdict, fault: NamedFault) -> Members:
     return {**dict.fromkeys(KEYS_WITHOUT_NUMBER), "part": fault.part, "line": fault.line,
             "name": fault.name, "severity": verdict.severity.classify(fault.name),
             "file": "pes" if fault.block is None else "stl", "block": fault.block,
-            "subtitle": subtitle and make_subtitle(subtitle), "frame": frame,
+            "subtitle": subtitle and make_subtitle(subtitle), "frame": count_frames(fault),
             "time": fault.time, "last_time": fault.until, "meaning": fault.text,
             "remedy": remove_markup(meaning.remedy) if meaning else ""}
 

@@ -10,7 +10,8 @@ from ..clock.start import TimedPart
 from ..common.checks import LOSSES, OUTSIDE, PICTURES
 from ..common.command_line import Stop, counted
 from ..common.files import sum_file
-from ..common.times import ALL_DAY, FRAMES_OF_A_DAY, FrameRange, format_frame, pts_of
+from ..common.times import (
+    ALL_DAY, FRAMES_OF_A_DAY, FrameRange, describe_duration, format_frame, parse_time_code, pts_of)
 from ..formats.layout import PLAIN, parse_layout, encode_text_characters
 from ..formats.listing import CONTENT, CONTROL, EMPTY, FAULTS_WITH_CAUSE, STL_FAULTS
 from ..formats.stl import Subtitle, SubtitleFile, decode_subtitles
@@ -100,8 +101,8 @@ def list_check_options(part: Part) -> list[str]:
 def check_part(part: Part, command_paths: CommandPaths, listener: Listener) -> None:
     """Run `check` on the PES packets of a part, and read its list of faults."""
     recording, words = part.judged_recording[0], [*list_check_options(part), "--all"]
-    listener.add_command(command_paths.program_command, "check", part.request.stl,
-                         recording.display_name, *words)
+    listener.add_command(command_paths.program_command, "check",
+                         part.names.moved_stl or part.request.stl, recording.display_name, *words)
     run_check([command_paths.program_path, "check", *words, "--", part.names.program_stl,
                recording.path],
               part.check_output, listener.printer.print_list_line)
@@ -136,6 +137,13 @@ def find_nearest_pauses(subtitles: Sequence[Subtitle], at: int) -> list[int]:
     return [*[end for end in ends if end < at][-1:], *[end for end in ends if end > at][:1]]
 
 
+def describe_moved_times(stl: str, names: OutputNames) -> str:
+    """Return the note that the program read a copy of a subtitle file that runs over midnight."""
+    return f"{stl} runs over midnight: check read {names.moved_stl}, a copy in which all times " \
+        f"are {describe_duration(parse_time_code(format_frame(0)) or 0)} earlier" + \
+        ("" if names.out else " (-o DIR keeps it)")
+
+
 class PairJudge:
     """Judges a pair step by step, and collects the results in `verdict`."""
 
@@ -158,7 +166,8 @@ class PairJudge:
         request, verdict = self.request, self.verdict
         refuse_files(request)
         verdict.severity = verdict.severity.limit_to_file(
-            request.stl, lambda: sum_file(request.stl_path, request.stl).sha256, verdict.date[:10])
+            request.stl, lambda: sum_file(request.original_path, request.stl).sha256,
+            verdict.date[:10])
         if request.language is not None:
             self.listener.add_selection(Selection(
                 OPTION_CHOICE, request.option, describe_option(request)))
@@ -204,7 +213,7 @@ class PairJudge:
         verdict which of the others are judged."""
         request, verdict = self.request, self.verdict
         if self.is_result_written:
-            verdict.stl = sum_file(request.stl_path, request.stl)
+            verdict.stl = sum_file(request.original_path, request.stl)
         answer = self.check_file_only()
         if has_valid_subtitles(answer.fault_numbers):
             answer = self.find_valid_subtitles(answer)
@@ -213,6 +222,8 @@ class PairJudge:
         if request.from_time is None and not request.is_reading and \
                 (title := advise_on_title(file)):
             self.listener.add_notes(title)
+        if request.moved_stl:
+            self.listener.add_notes(describe_moved_times(request.stl, self.names))
         return answer
 
     def check_hidden_rows(self) -> None:
@@ -257,7 +268,7 @@ class PairJudge:
     def judge_file_only(self, answer: CheckOutput, is_refused: bool) -> None:
         """Decide the verdict from the subtitle file only. `answer` has its faults, if `is_refused`
         is true. Otherwise there is no recording to judge."""
-        print_file_check_command(self.request, self.command_paths, self.listener)
+        print_file_check_command(self.request, self.command_paths, self.names, self.listener)
         answer.move_file(self.names.list_path)
         if is_refused:
             for line in answer.read_lines():

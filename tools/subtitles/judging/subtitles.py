@@ -8,7 +8,7 @@ from ..common.command_line import counted
 from ..common.times import FRAMES_A_SECOND, FRAMES_OF_A_DAY, TICKS, decode_frame, format_frame
 from ..formats.layout import Layout, PLAIN, TextFault, draw_text, make_page_rows
 from ..formats.listing import (
-    CHARACTER, EMPTY, EMPTY_TIME, FaultLine, Meaning, OUT_OF_ORDER, STL_FAULTS, TEXT_FAULTS,
+    CHARACTER, EMPTY, FaultLine, Meaning, STL_FAULTS, TEXT_FAULTS,
     UNDECIDED, read_meanings, remove_markup)
 from ..formats.stl import (
     NamedSubtitle, Subtitle, SubtitleFile, format_subtitle_name, decode_subtitles)
@@ -23,23 +23,6 @@ from .transmissions import ExpectedPages
 
 
 HOUR = 3600 * FRAMES_A_SECOND
-TCI, TCO = slice(5, 9), slice(9, 13)  # bytes of TCI and TCO in a TTI block
-AT_MIDNIGHT = "the file runs past midnight: split it there"
-
-
-def advise_on_midnight(fault: FaultLine, subtitles: SubtitleFile) -> str:
-    """Return the advice to split the file if the fault is caused by times that pass midnight.
-    Otherwise return an empty string."""
-    if fault.block is None or fault.number not in (EMPTY_TIME, OUT_OF_ORDER):
-        return ""
-    if fault.number == EMPTY_TIME:
-        block = subtitles.block(fault.block)
-        is_at_midnight = falls_at_midnight(block[TCI], block[TCO])
-    else:
-        before = subtitles.find_previous_block(fault.block)
-        is_at_midnight = before is not None and falls_at_midnight(
-            subtitles.block(before)[TCI], subtitles.block(fault.block)[TCI])
-    return AT_MIDNIGHT if is_at_midnight else ""
 
 
 def advise_on_title(subtitles: SubtitleFile) -> str:
@@ -50,14 +33,6 @@ def advise_on_title(subtitles: SubtitleFile) -> str:
         return ""
     return (f"the first subtitle is at 00:00:00:00, all others are from {format_frame(rest)} on: "
             f"if that is a title, which is not sent, give --from {format_frame(rest)}")
-
-
-def falls_at_midnight(earlier_code: bytes, later_code: bytes) -> bool:
-    """Return whether `earlier_code` is in the last hour of a day, and `later_code` in the first
-    hour."""
-    first, second = decode_frame(earlier_code), decode_frame(later_code)
-    return first is not None and second is not None and \
-        first >= FRAMES_OF_A_DAY - HOUR and second < HOUR
 
 
 class OptionAdvice:
@@ -243,7 +218,7 @@ def make_refused_subtitle(file: SubtitleFile, fault: FaultLine, advice: OptionAd
     advice_text = advice.advise(fault.block, fault.at) \
         if fault.number == CHARACTER and fault.at is not None else ""
     manual_text = remove_markup(known[fault.number].remedy) if fault.number in known else ""
-    do = advice_text or advise_on_midnight(fault, file) or manual_text
+    do = advice_text or manual_text
     return RefusedSubtitle(subtitle, fault, character or (f"byte {byte}" if byte else ""), do)
 
 

@@ -12,8 +12,9 @@ from ..clock.start import (
 from ..common.checks import LOSSES
 from ..common.command_line import Stop, counted, format_error, format_pid
 from ..common.times import (
-    FRAMES_A_SECOND, FRAMES_OF_A_DAY, TICKS, describe_duration, format_frame, pts_of,
-    subtract_origin, subtract_pts, subtract_pts_within, wrap_pts)
+    FRAMES_A_SECOND, FRAMES_OF_A_DAY, TICKS, compute_midnight, compute_origin, describe_duration,
+    format_frame, format_origin, pts_of, subtract_origin, subtract_pts, subtract_pts_within,
+    wrap_pts)
 from ..recording.recording import Recording
 from ..request.commands import Listener
 from ..request.request import (
@@ -73,7 +74,7 @@ def find_parts(search: PartSearch, recording: Recording, listener: Listener) -> 
 
 def get_given_clock(request: Request) -> Clock | None:
     """Return the clock from --origin, if given."""
-    return None if request.origin is None else Clock(request.origin, GIVEN)
+    return None if request.origin is None else Clock(compute_origin(request.origin), GIVEN)
 
 
 def find_start_clock(search: PartSearch, recording: Recording, listener: Listener) -> Clock | None:
@@ -126,7 +127,8 @@ def list_timed_parts(origin: OriginEstimate, full_range: TimedPart) -> list[Time
 def make_estimated_clock(part: PartOrigin) -> Clock:
     """Return the estimated clock of a part, with the matching cues as evidence."""
     return Clock(part.origin, RECORDING, evidence=Selection(
-        ORIGIN_CHOICE, str(part.origin), f"{CLOCK_PREFIX}{part.line}", part.matches, part.total))
+        ORIGIN_CHOICE, str(compute_midnight(part.origin)), f"{CLOCK_PREFIX}{part.line}",
+        part.matches, part.total))
 
 
 def add_delay(clock: Clock, origin: OriginEstimate) -> tuple[Clock, list[str]]:
@@ -162,7 +164,7 @@ def refuse_wrong_clock(search: PartSearch, recording: Recording, part: TimedPart
 def describe_wrong_clock(request: Request, clock: Clock, delay: int) -> str:
     """Describe how wrong a given clock is. With this clock, subtitles are `delay` frames late."""
     if clock.source == GIVEN:
-        return f"with --origin {clock.origin}, all subtitles would be " \
+        return f"with {format_origin(clock.origin)}, all subtitles would be " \
             f"{describe_duration(abs(delay))} {'late' if delay > 0 else 'early'}, so the " \
             "recording contains no subtitle at its expected time"
     given_frame = read_start_frame(request)

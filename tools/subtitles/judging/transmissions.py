@@ -10,7 +10,7 @@ from typing import Mapping, NamedTuple, Sequence
 
 from ..common.command_line import counted
 from ..common.files import make_temporary_folder
-from ..common.times import ALL_DAY, FrameRange, Span
+from ..common.times import ALL_DAY, FrameRange, Span, format_program_time
 from ..formats.listing import CHANGED
 from ..formats.stl import Subtitle, SubtitleList, read_stl, decode_subtitles, parse_subtitles
 from ..formats.teletext import (
@@ -271,8 +271,8 @@ def schedule_pages(program: str, stl: str, subtitles: list[Subtitle], page: Page
     with make_temporary_folder("subttx-qc-") as folder:
         path = os.path.join(folder, "due.pes")
         run_program(program, "schedule", "--page", page_name(*page), "--option", option,
-                    "--every", LONGEST_INTERVAL, *between.words(), *layout_arguments, "--", stl,
-                    path)
+                    "--every", LONGEST_INTERVAL, *map(format_program_time, between.words()),
+                    *layout_arguments, "--", stl, path)
         timeline = Timeline(Packets(PES), page, 0)
         for run, texts in survey_runs(program, path, page):
             timeline.receive_run(run, texts)

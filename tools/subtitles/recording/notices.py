@@ -11,8 +11,9 @@ from ..clock.start import NoFirstPicture, find_first_picture, read_start_frame
 from ..common.command_line import counted, format_pid, escape_hidden
 from ..common.files import read_first_bytes
 from ..common.times import (
-    FRAMES_OF_A_DAY, NO_FRAME, TICKS, compute_frame, compute_time, find_frames_of_day, format_frame,
-    pts_of, subtract_origin, subtract_pts, subtract_pts_within, wrap_pts)
+    FRAMES_OF_A_DAY, NO_FRAME, TICKS, compute_frame, compute_origin, compute_time,
+    find_frames_of_day, format_frame, pts_of, subtract_origin, subtract_pts, subtract_pts_within,
+    wrap_pts)
 from ..formats.listing import NEVER_SENT, NamedFault
 from ..formats.stl import SubtitleFile
 from ..formats.teletext import (
@@ -324,7 +325,7 @@ def find_origin(request: Request, survey: Survey, pid: int) -> int | None:
     if request.start is not None:
         with contextlib.suppress(NoFirstPicture, Unclear):
             return wrap_pts(find_first_picture(survey, pid).pts - TICKS * read_start_frame(request))
-    return request.origin
+    return None if request.origin is None else compute_origin(request.origin)
 
 
 def refuse_dead_source(request: Request, survey: Survey, packets: Packets,

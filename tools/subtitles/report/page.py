@@ -10,7 +10,7 @@ from ..common.command_line import counted
 from ..common.files import SummedFile
 from ..common.markup import BREAK, HEAD, Markup, NO_MARKUP, Value, join_markup, markup, read_style
 from ..common.program import describe_program
-from ..common.times import Span, format_frame, format_seconds, subtract_pts
+from ..common.times import Span, format_frame, format_origin, format_seconds, subtract_pts
 from ..formats.listing import (
     CHANGED, CONTENT, FAULTS_WITH_CAUSE, FaultLine, PARITY, STL_FAULTS, make_cell_markup,
     make_number_link, read_meanings)
@@ -23,7 +23,6 @@ from ..judging.part import Part, belongs_to_part, find_lost_spans
 from ..judging.sentence import FAULT_CLAUSES, rank_number
 from ..judging.status import (
     ACCEPTED, AS_SHOWN, LOST, NOT_JUDGED, NOT_READ, REFUSED, RELATIVE, VALID, WAIVED, WARNED)
-from ..judging.subtitles import advise_on_midnight
 from ..judging.verdict import SCOPE_READING, Verdict, count_fault_numbers, summarize_delays
 from ..request.commands import CommandPaths
 from ..recording.recording import Recording
@@ -117,7 +116,7 @@ def describe_given_clock(clock: Clock) -> str:
     """Return the sentence about a clock that the operator gave with --start or --origin."""
     source = "from the first picture (--start), 00:00:00:00 at PTS" \
         if clock.source in (START, TCP) else "given: --origin"
-    return f"Clock {source} {clock.origin}."
+    return f"Clock {source} {clock.midnight}."
 
 
 def make_folded_list(title: str, lines: Sequence[str]) -> Markup:
@@ -136,20 +135,18 @@ def make_advice(verdict: Verdict) -> Markup:
     """Return the manual's advice on the worst fault."""
     worst_line = verdict.worst_part.worst_fault_line if verdict.worst_part and \
         not verdict.worst_named_fault else None
-    advice = find_advice(verdict.worst_part,
-                         worst_line) if verdict.worst_part and worst_line else None
+    advice = find_advice(worst_line) if worst_line else None
     return markup('<details><summary>What {} {} means, and what to do</summary><dl><dt>Meaning</dt>'
                   "<dd>{}</dd><dt>Remedy</dt><dd>{}</dd></dl></details>", worst_line.number,
                   worst_line.name, *advice) if worst_line and advice else NO_MARKUP
 
 
-def find_advice(part: Part, fault: FaultLine) -> tuple[Markup, Markup] | None:
+def find_advice(fault: FaultLine) -> tuple[Markup, Markup] | None:
     """Return the manual's meaning and remedy for a fault, or `None` if the manual has none."""
     meaning = read_meanings().get(fault.number)
     if meaning is None:
         return None
-    remedy = advise_on_midnight(fault, part.open_subtitle_file()) or meaning.remedy
-    return make_cell_markup(meaning.meaning), make_cell_markup(remedy)
+    return make_cell_markup(meaning.meaning), make_cell_markup(meaning.remedy)
 
 
 class PartView:
@@ -250,7 +247,7 @@ class PartView:
         for number, count in sorted(answer.counts_by_number.items()):
             first = answer.first_faults[number]
             frame = self.find_fault_frame(first)
-            advice = find_advice(self.part, first)
+            advice = find_advice(first)
             more = NO_MARKUP if advice is None else markup(
                 "<dl><dt>Meaning</dt><dd>{}</dd><dt>Remedy</dt><dd>{}</dd></dl>", *advice)
             fault_items = join_markup((markup("<li>{}{}</li>", make_number_link(fault.line),
@@ -340,7 +337,7 @@ def format_judging_options(verdict: Verdict, part: Part) -> str:
     """Return the options with which a part of the recording was judged."""
     request = verdict.request
     words = [f"--page {page_name(*request.page)}", f"--every {request.every}",
-             f"--origin {part.origin or 0}", f"--option {request.option}"]
+             format_origin(part.origin or 0), f"--option {request.option}"]
     words += ["--complete"] * request.is_complete
     words += [f"--within {request.within}"] * (request.within > 0)
     words += [f"--pes {part.pes_argument}"] if part.pes else []

@@ -69,7 +69,8 @@ def quote_command(*args: str) -> str:
 
 PART_ENDINGS = ("cut.pes", "txt", "html")
 KEPT_PES, KEPT_TS = "recording.pes", "recording.ts"  # suffixes of a kept recording
-PAIR_ENDINGS = (*PART_ENDINGS, KEPT_PES, KEPT_TS, "json")
+MOVED_STL = "midnight.stl"  # suffix of the copy of a subtitle file that runs over midnight
+PAIR_ENDINGS = (*PART_ENDINGS, KEPT_PES, KEPT_TS, MOVED_STL, "json")
 LOCK = "lock"  # suffix of the lock file of a pair that is being judged
 INDEX = "index"  # name of the page with all pairs of a folder
 STATE = "state.json"  # file with the state of a service
@@ -173,6 +174,7 @@ class OutputNames:
         self.name, self.folder, self.out = name, folder, out
         self.staging_folder = staging_folder or out
         self.program_stl = ""  # path for the program, which accepts only UTF-8
+        self.moved_stl: str | None = None  # path of the copy with moved times, if there is one
         # path of a copy of standard input
         self.recording_path = self.make_temporary_path("recording")
         self.list_path = self.make_temporary_path("txt")
@@ -195,11 +197,13 @@ class OutputNames:
         """Return the paths of the result files of a part."""
         part = OutputNames(make_part_name(self.name, number), self.folder, self.out,
                            self.staging_folder)
-        part.program_stl = self.program_stl
+        part.program_stl, part.moved_stl = self.program_stl, self.moved_stl
         return part
 
-    def set_subtitle_file(self, stl: str) -> None:
+    def set_subtitle_file(self, stl: str, is_moved: bool = False) -> None:
+        """Set the path of the subtitle file. It may be a copy with moved times."""
         self.program_stl = self.make_utf_8_path(stl, "given.stl")
+        self.moved_stl = self.make_display_path(MOVED_STL) if is_moved else None
 
     def make_utf_8_path(self, name: str, ending: str) -> str:
         """Return a path in UTF-8, which the program needs. If necessary, make a symbolic link."""

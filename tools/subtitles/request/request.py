@@ -19,8 +19,10 @@ from ..common.files import read_first_bytes, make_safe_name
 from ..common.shapes import (
     CHECKSUM, COUNT, Flag, Integer, ListOf, Maybe, Member, OneOf, PID, PTS, Record, Shape, TIME,
     Text)
-from ..common.times import FRAMES_OF_A_DAY, FrameRange, format_frame, parse_frame
+from ..common.times import (
+    FRAMES_OF_A_DAY, FrameRange, begin_day_at, format_frame, format_program_time, parse_frame)
 from ..formats.layout import find_layout_fault
+from ..formats.midnight import find_day_begin, move_times
 from ..formats.stl import read_stl
 from ..formats.teletext import OPTION_WORDS, choose_language_option, page_name
 
@@ -310,6 +312,13 @@ class Profile(NamedTuple):
 
 LC = slice(14, 16)  # bytes of the language code (LC) in the GSI block
 COPY_NAME = "subtitles.stl"  # file name of the copy in the temporary folder
+MOVED_NAME = "moved.stl"  # file name of the copy with moved times
+
+
+def parse_range(from_time: str | None, to_time: str | None) -> FrameRange:
+    """Return the frames between the values of --from and --to."""
+    begin, end = parse_frame(from_time or ""), parse_frame(to_time or "")
+    return FrameRange(begin or 0, FRAMES_OF_A_DAY if end is None else end)
 
 
 @dataclasses.dataclass
@@ -342,11 +351,17 @@ class Request:
     late: Lateness | None = None  # usual delays of the inserter
     profile: Profile | None = None  # the other fields contain its values
     kept_stl: str | None = None  # path of the copy, if the subtitle file is a pipe
+    moved_stl: str | None = None  # path of the copy with moved times, if it runs over midnight
     language: str | None = None  # language code by which `option` was chosen, if any
     is_reading: bool = False  # whether `stl` is read from the recording
 
     @property
     def stl_path(self) -> str:
+        """Return the path of the file to judge: the subtitle file, or its copy with moved times."""
+        return self.moved_stl or self.original_path
+
+    @property
+    def original_path(self) -> str:
         """Return the path of the subtitle file. If it is a pipe, return the path of its copy."""
         return self.kept_stl or self.stl
 
@@ -363,8 +378,7 @@ class Request:
     @property
     def between(self) -> FrameRange:
         """Return the judged range. Only subtitles that begin in it are judged."""
-        begin, end = parse_frame(self.from_time or ""), parse_frame(self.to_time or "")
-        return FrameRange(begin or 0, FRAMES_OF_A_DAY if end is None else end)
+        return parse_range(self.from_time, self.to_time)
 
     def limit_to_range(self, begin: int, end: int) -> Request:
         """Return this request limited to the subtitles that begin from frame `begin` up to, but not
@@ -404,7 +418,7 @@ class Request:
         """Return the program's arguments for the given options, without `--pace none`."""
         request = dataclasses.replace(
             self, pace_word=None if self.pace_word == NONE else self.pace_word)
-        return [word for option in options for word in
+        return [format_program_time(word) for option in options for word in
                 option.format_arguments(option.get_value(request), option.check_default)]
 
 
@@ -456,6 +470,20 @@ def keep_stl(request: Request, folder: str) -> None:
             file.write(data)
     if request.option == AUTO or request.language is not None:
         choose_option(request)
+
+
+def begin_programme_day(request: Request, folder: str) -> contextlib.AbstractContextManager[None]:
+    """Return a context manager in which frames are counted in the day of the subtitle file. If the
+    file runs over midnight, write a copy with moved times into a folder."""
+    data, path = b"", os.path.join(folder, MOVED_NAME)
+    with contextlib.suppress(Stop, OSError):  # the error is reported later
+        data = read_stl(request.original_path)
+    day_begin = find_day_begin(data)
+    if day_begin:
+        with open(path, "wb") as file:
+            file.write(move_times(data, day_begin))
+        request.moved_stl = path
+    return begin_day_at(day_begin)
 
 
 def choose_option(request: Request) -> None:

@@ -130,7 +130,8 @@ REQUEST = Record(
 
 CLOCK_OF_PART = Record(
     "clock", "",
-    Member("origin", PTS, "The PTS of 00:00:00:00."),
+    Member("origin", PTS, "The PTS of 00:00:00:00.",
+           lambda clock: clock.midnight),
     Member("source", OneOf(*SOURCES), "recording (estimated), given (--origin), start (--start "
            "TIME), tcp (--start tcp) or first_pes (00:00:00:00 is the first PES packet)."),
     Member("delay_frames", Maybe(Integer(-FRAMES_OF_A_DAY, FRAMES_OF_A_DAY)), "The number of "
@@ -154,7 +155,8 @@ JUDGED_PART = Record(
     "part", "",
     Member("part", PART, getter=lambda of: of.part.number),
     Member("stl", Text(), getter=lambda of: of.part.request.stl),
-    Member("origin", Maybe(PTS), getter=lambda of: of.part.origin),
+    Member("origin", Maybe(PTS),
+           getter=lambda of: of.part.clock and of.part.clock.midnight),
     Member("from", Maybe(TIME), getter=lambda of: of.part.format_time_codes()[0]),
     Member("to", Maybe(TIME), getter=lambda of: of.part.format_time_codes()[1]),
     Member("verdict", OneOf(ACCEPTED, VALID, "refused", NOT_JUDGED), "`not judged` means that "

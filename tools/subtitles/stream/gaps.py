@@ -6,7 +6,7 @@ import statistics
 from typing import Iterable, Iterator, NamedTuple, Sequence
 
 from ..common.command_line import counted, format_pid, was
-from ..common.times import TICKS, format_frame, subtract_pts, wrap_pts
+from ..common.times import TICKS, format_time_code, subtract_pts, wrap_pts
 from .packets import PCRStep, PTSPair, Packets
 from .survey import Survey
 
@@ -112,7 +112,7 @@ def describe_loss_place(place: LossPlace, first: int | None) -> str:
     """Describe a loss: its PTS and its missing packets. `first` is the recording's first PTS."""
     known = [pts for pts in (place.before, place.after) if pts is not None]
     names = " and ".join(map(str, known))
-    times = " and ".join(format_frame(wrap_pts(pts - (first or 0)) // TICKS) for pts in known)
+    times = " and ".join(format_time_code(wrap_pts(pts - (first or 0)) // TICKS) for pts in known)
     position = "between" if len(known) == 2 else "before" if place.before is None else "after"
     return (f"{position} PTS {names} ({times} after the first PTS): " if known
             else "") + describe_loss(place)

@@ -1,0 +1,184 @@
+"""Test programmes that run over midnight: when their day begins, and how they are judged."""
+from __future__ import annotations
+
+import shlex
+from typing import Callable, Mapping, NamedTuple, Sequence
+
+from developing.stl import make_gsi_block, make_subtitle_blocks
+from subtitles.common.times import (
+    CLOCK, FRAMES_OF_A_DAY, TICKS, begin_day_at, compute_origin, decode_time, format_frame,
+    format_origin, format_program_time, parse_frame, restore_times)
+from subtitles.formats.midnight import find_day_begin, move_times
+from subtitles.formats.stl import TCP_PLACE
+from .bench import Case
+from .judged import JudgedPair, judge_files
+from .transmissions import (
+    CLOSING, HEADER, Change, SentPes, join_pes_packets, make_numbered_row, schedule_pages,
+    write_subtitle_file)
+
+NOON = FRAMES_OF_A_DAY // 2
+MIDNIGHT = FRAMES_OF_A_DAY
+
+
+def make_stl(*times: str, first: bytes = b"00000000") -> bytes:
+    """Return a file with subtitles from each TCI to its TCO, such as `22:00:00:00 22:00:02:00`.
+    `first` is the TCP."""
+    codes = [text.split() for text in times]
+    blocks = [make_subtitle_blocks(number, 0, 0, 22, 2, b"Number %d" % number)
+              for number in range(1, len(codes) + 1)]
+    for number, pair in enumerate(codes):
+        code = bytes(int(part) for time in pair for part in time.split(":"))
+        blocks[number] = blocks[number][:5] + code + blocks[number][13:]
+    gsi = make_gsi_block(b"Late film", len(blocks), len(blocks))
+    return gsi[:TCP_PLACE.start] + first + gsi[TCP_PLACE.stop:] + b"".join(blocks)
+
+
+EVENING, NIGHT = "22:00:00:00 22:00:02:00", "01:00:00:00 01:00:02:00"
+# Subtitles, and the time at which their day begins
+DAYS: Mapping[str, tuple[Sequence[str], str]] = {
+    "no subtitle": ([], "00:00:00:00"),
+    "a pause at midnight": ([EVENING, NIGHT], "12:00:00:00"),
+    "a subtitle over midnight": (["23:59:58:00 00:00:02:00", NIGHT], "12:00:00:00"),
+    "the last subtitle over midnight": ([EVENING, "23:59:58:00 00:00:02:00"], "12:00:00:00"),
+    "a TCO at midnight": ([EVENING, "23:59:58:00 00:00:00:00"], "12:00:00:00"),
+    "a step back by 20 hours": (["20:00:00:00 20:00:02:00", "00:00:00:00 00:00:02:00"],
+                                "12:00:00:00"),
+    "a step back by a frame less": (["19:59:59:24 20:00:02:00", "00:00:00:00 00:00:02:00"],
+                                    "00:00:00:00"),
+    "a step back by five seconds": (["10:00:10:00 10:00:12:00", "10:00:05:00 10:00:07:00"],
+                                    "00:00:00:00"),
+    "and one over midnight": ([EVENING, "21:59:55:00 21:59:57:00", NIGHT], "12:00:00:00"),
+    "over midnight twice": ([EVENING, NIGHT, EVENING, NIGHT], "00:00:00:00"),
+    "longer than a day": ([EVENING, NIGHT, "22:00:00:00 22:00:01:00"], "00:00:00:00"),
+    "a title at 00:00:00:00": (["00:00:00:00 00:00:01:00", EVENING, NIGHT], "00:00:00:00"),
+    "from 06:00 to 05:00": (["06:00:00:00 06:00:02:00", EVENING, NIGHT,
+                             "04:59:58:00 05:00:00:00"], "05:30:00:00"),
+    "a whole day": (["06:00:00:00 06:00:02:00", EVENING, NIGHT, "05:59:58:00 05:59:59:24"],
+                    "06:00:00:00"),
+    "a TCO before its TCI": (["23:59:50:00 00:00:02:00", "23:59:55:00 23:59:57:00"],
+                             "00:00:00:00"),
+    "an invalid time": ([EVENING, "24:00:00:00 00:00:02:00", NIGHT], "12:00:00:00"),
+}
+
+
+class Times(Case):
+    def test_finds_the_day_of_a_file(self) -> None:
+        for name, (times, expected) in DAYS.items():
+            self.check(name, format_frame(find_day_begin(make_stl(*times))), expected)
+
+    def test_moves_all_valid_times(self) -> None:
+        data = make_stl(EVENING, "23:59:58:00 00:00:02:10", "24:00:00:00 01:00:60:00",
+                        first=b"12000005")
+        moved = move_times(data, NOON)
+        self.check("times", moved[1024:], make_stl(
+            "10:00:00:00 10:00:02:00", "11:59:58:00 12:00:02:10", "24:00:00:00 01:00:60:00")[1024:])
+        self.check("TCP", (data[TCP_PLACE], moved[TCP_PLACE]), (b"12000005", b"00000005"))
+        self.check("back", move_times(moved, NOON), data)
+
+    def test_prints_the_times_of_the_subtitle_file(self) -> None:
+        with begin_day_at(NOON):
+            for frame, time in ((0, "12:00:00:00"), (NOON - 1, "23:59:59:24"),
+                                (NOON, "00:00:00:00"), (MIDNIGHT - 1, "11:59:59:24")):
+                self.check(time, (format_frame(frame), parse_frame(time)), (time, frame))
+            self.check("a TCI of the copy", decode_time(bytes((10, 0, 2, 0))), "22:00:02:00")
+            self.check("a line of check", restore_times("trusted frames 11:59:59:24 12:00:00:00"),
+                       "trusted frames 23:59:59:24 00:00:00:00")
+            self.check("an option of check", [format_program_time(word) for word in (
+                "--to", "00:00:02:00", "24:00:00:00")], ["--to", "12:00:02:00", "24:00:00:00"])
+            self.check("a clock", format_origin(compute_origin(CLOCK - 1)), f"--origin {CLOCK - 1}")
+            self.check("the PTS of frame 0", compute_origin(CLOCK - 1), TICKS * NOON - 1)
+        self.check("afterwards", (format_frame(MIDNIGHT), parse_frame("12:00:00:00")),
+                   ("24:00:00:00", NOON))
+
+
+class Programme(NamedTuple):
+    """Times of subtitles in frames from midnight, so that those of the evening are negative."""
+
+    times: Sequence[tuple[int, int]]
+    change: Callable[[SentPes], SentPes] = list
+    arguments: Sequence[str] = ()
+
+
+OVER = [(-200, -150), (-50, 30), (60, 100), (160, 200)]
+PAUSE = [(-200, -150), (-120, -60), (60, 100), (160, 200)]
+WRONG = [HEADER, make_numbered_row(22, b"Wrong"), CLOSING]
+
+
+def send_at(frame: int, packets: list[bytes]) -> Change:
+    """Return a function that replaces the packets sent in a frame."""
+    return lambda sent: sorted([item for item in sent if item[0] != TICKS * (MIDNIGHT + frame)]
+                               + [(TICKS * (MIDNIGHT + frame), packets)])
+
+
+def delete_between(first: int, last: int) -> Change:
+    """Return a function that deletes the packets sent between two frames."""
+    return lambda sent: [(pts, packets) for pts, packets in sent
+                         if not first < pts // TICKS - MIDNIGHT < last]
+
+
+# Programmes, and the beginning of the sentence about each
+PROGRAMMES: Mapping[str, tuple[Programme, str]] = {
+    "a subtitle over midnight": (Programme(OVER), "Accepted: all 4 subtitles have the right text"),
+    "a pause": (Programme(PAUSE), "Accepted: all 4 subtitles have the right text"),
+    "from the evening to the night": (Programme(OVER, list, (
+        "--from", "23:59:56:00", "--to", "00:00:05:00")), "Accepted: all 2 subtitles"),
+    "from midnight on": (Programme(OVER, list, ("--from", "00:00:00:00")),
+                         "Accepted: all 2 subtitles"),
+    "late": (Programme(OVER, delete_between(59, 74)), "Refused: subtitle 3 at 00:00:02:10, "
+             "\"Number 3\", appeared 25 frames late"),
+    "not erased at midnight": (Programme([(-200, -150), (-50, 0), (60, 100), (160, 200)],
+                                         delete_between(-1, 24)),
+                               "Refused: subtitle 2 at 23:59:58:00, \"Number 2\", was not erased "
+                               "(it disappears 25 frames later)"),
+    "erased before midnight": (Programme(OVER, send_at(-10, [HEADER, CLOSING])),
+                               "Refused: subtitle 2 at 23:59:58:00, \"Number 2\", was erased "
+                               "before its TCO (by a header without rows, at 23:59:59:15)"),
+    "a text in the pause": (Programme(PAUSE, send_at(0, WRONG)),
+                            "Refused: another text was sent in a pause, at 00:00:00:00"),
+    "a missing repeat": (Programme(PAUSE, delete_between(-60, 60), ("--every", "100")),
+                         "Refused: from 00:00:01:15 on, the page had no header for up to 120 "),
+}
+
+
+class Programmes(Case):
+    origin = CLOCK - TICKS * MIDNIGHT  # the PTS wraps at midnight
+
+    def judge(self, programme: Programme) -> JudgedPair:
+        subtitles = [(begin, end, b"Number %d" % number)
+                     for number, (begin, end) in enumerate(programme.times, 1)]
+        noon = write_subtitle_file(self, [(NOON + begin, NOON + end, text)
+                                          for begin, end, text in subtitles], "noon.stl")
+        sent = schedule_pages(self, noon, origin=TICKS * NOON)
+        stl = self.write("film.stl", make_gsi_block(b"", 4, 4) + b"".join(
+            make_subtitle_blocks(number, begin % MIDNIGHT, end % MIDNIGHT, 22, 2, text)
+            for number, (begin, end, text) in enumerate(subtitles, 1)))
+        pes = join_pes_packets([(pts + self.origin, packets)
+                                for pts, packets in programme.change(sent)])
+        return judge_files(self, stl, self.write("film.pes", pes), "--origin", str(self.origin),
+                           "--no-complete", "-o", self.path("out"), *programme.arguments)
+
+    def test_judges_each_programme_as_it_is(self) -> None:
+        for name, (programme, sentence) in PROGRAMMES.items():
+            judged = self.judge(programme)
+            self.check(name, judged.result["sentence"][:len(sentence)], sentence)
+
+    def test_a_waiver_names_the_time_and_the_checksum_of_the_file(self) -> None:
+        late = PROGRAMMES["late"][0]
+        checksum = self.judge(late).result["inputs"]["stl"]["sha256"]
+        for name, time, word in ((f"sha256:{checksum}", "00:00:02:10", "waived"),
+                                 ("film.stl", "00:00:02:10", "waived"),
+                                 ("film.stl", "12:00:02:10", "refused")):
+            path = self.write("severity", f"72 warning at {time} in {name} until 9999-12-31 "
+                              'by "NN": late\n'.encode())
+            judged = self.judge(late._replace(arguments=("--severity", path)))
+            self.check(f"{name} {time}", judged.result["verdict"], word)
+
+    def test_prints_a_check_command_that_a_user_can_run(self) -> None:
+        judged = self.judge(Programme(OVER))
+        command = shlex.split(judged.verdict.commands[-1])
+        self.check("its file", command[2], self.path("out/one.midnight.stl"))
+        status, lines = self.program(*command[1:])
+        self.check("its result", (status, lines[-1]), (0, judged.result["line"].split(";")[0]))
+        self.check("the note", judged.result["notes"], [
+            f"{self.path('film.stl')} runs over midnight: check read {command[2]}, a copy in which "
+            "all times are 12 h earlier"])

@@ -1,0 +1,57 @@
+"""Subtitle files that run over midnight: move all times, so that they lie within one day.
+
+The program `subttx` judges the subtitles of one day. It reads a copy of the file in which all times
+are earlier, as a rule by 12 hours, on a clock that is later by as much. So each cue keeps its PTS.
+"""
+from __future__ import annotations
+
+import contextlib
+
+from ..common.files import DamagedFile
+from ..common.times import FRAMES_A_SECOND, FRAMES_OF_A_DAY, decode_frame
+from .stl import GSI, TCP_PLACE, TTI, decode_tcp, get_subtitle_times, read_stored_subtitles
+from .stl_writer import encode_time_code
+
+HOUR = 3600 * FRAMES_A_SECOND
+# A step back by at least this number of frames is one over midnight. A shorter one is an error.
+MIN_STEP_BACK = 20 * HOUR
+NOON = 12 * HOUR
+TIMES = slice(5, 9), slice(9, 13)  # bytes of TCI and TCO in a TTI block
+
+
+def find_day_begin(data: bytes) -> int:
+    """Return the time of day, in frames, at which the day of a subtitle file begins. This is
+    midnight (0), unless the times go back exactly once by 20 hours or more: from a TCI to the next,
+    or from the last TCI to its TCO. Then it is noon, or a time that no subtitle contains."""
+    begins, ends, midnight = list[int](), list[int](), 0
+    with contextlib.suppress(DamagedFile):
+        for subtitle in read_stored_subtitles(data):
+            begin, end = get_subtitle_times(subtitle)
+            if begin is None or end is None:
+                continue
+            if begins and begins[-1] % FRAMES_OF_A_DAY - begin >= MIN_STEP_BACK:
+                midnight += FRAMES_OF_A_DAY
+            begins.append(midnight + begin)
+            ends.append(midnight + end)
+    if begins and begins[-1] - ends[-1] >= MIN_STEP_BACK:
+        ends[-1] += FRAMES_OF_A_DAY
+    first, last = min(begins, default=0), max([*begins, *ends], default=0) - FRAMES_OF_A_DAY
+    if not 0 <= last < first:
+        return 0
+    return NOON if last + HOUR <= NOON <= first - HOUR else (last + 1 + first) // 2
+
+
+def move_times(data: bytes, day_begin: int) -> bytes:
+    """Return a copy of a subtitle file in which all valid times are earlier, by the time of day at
+    which the file's day begins."""
+    moved = bytearray(data)
+    for at in range(GSI, len(data) - TTI + 1, TTI):
+        for place in (slice(at + 5, at + 9), slice(at + 9, at + 13)):  # TCI and TCO
+            frame = decode_frame(data[place])
+            if frame is not None:
+                moved[place] = encode_time_code((frame - day_begin) % FRAMES_OF_A_DAY)
+    first = decode_tcp(data[TCP_PLACE])
+    if first is not None:
+        code = encode_time_code((first - day_begin) % FRAMES_OF_A_DAY)
+        moved[TCP_PLACE] = b"%02d%02d%02d%02d" % tuple(code)
+    return bytes(moved)
