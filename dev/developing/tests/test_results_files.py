@@ -336,6 +336,7 @@ class CollectedResults(Case):
         self.assertRaises(Stop, collect)
         self.write("in/a.json", b"[]")
         self.write("in/x.json", b"[]")
+        self.write("in/state.json", b'{\n "date": "2026-11-30T10:00:00Z"}')  # of a service
         self.write("in/one.json", json.dumps(make_result("accepted")).encode())
         status, out, errors = collect()
         self.must("accepted", status == 0 and "1 pair: 1 accepted" in out and

@@ -17,12 +17,12 @@ from ..common.markup import BREAK, HEAD, Markup, NO_MARKUP, Value, join_markup, 
 from ..judging.status import (
     ACCEPTED, AS_SHOWN, LOST, NOT_JUDGED, NOT_READ, REFUSED, RELATIVE, VALID, WAIVED, WARNED,
     WITH_FAULTS, combine_statuses)
-from ..request.commands import make_index_path
+from ..request.commands import STATE, make_index_path
 from ..results.files import (
     ENDING, NO_CLOCK, Row, TestCase, sort_rows, make_junit_file, read_result, read_results,
     write_file, make_row, make_table_lines, make_unjudged)
 from ..results.schema import FORMAT
-from .single import now, refuse_folder_files
+from .single import is_own_file, now, refuse_folder_files
 from .state import State, write_state
 
 
@@ -161,7 +161,8 @@ def collect(args: argparse.Namespace) -> int:
     rows, paths = [], []
     for path, result in read_results(folder, is_refused=True):
         if result is None:
-            print_stderr(f"{path} is not the JSON result of a pair and is skipped")
+            if os.path.basename(path) != STATE or not is_own_file(path):
+                print_stderr(f"{path} is not the JSON result of a pair and is skipped")
             continue
         name = os.path.basename(path).removesuffix(ENDING)
         rows.append(make_row(result, name))
