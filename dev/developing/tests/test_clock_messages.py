@@ -426,6 +426,25 @@ class FirstPictures(unittest.TestCase):
         for lines, is_whole, words in rows:
             self.assertIn(words, self.said(lines, is_whole), (lines, is_whole))
 
+    def test_does_not_take_a_picture_before_an_early_jump(self) -> None:
+        request = make_example_request("a.stl", "a.ts", "--start", "00:00:00:02")
+        packets = Packets(TELETEXT, [PacketRun(0, 1, 7 * TICKS, 0, "h", "")])
+        for passed, number, is_refused in ((0, 20, True), (0, 30, True), (0, 31, False),
+                                           (19, 20, False), (18, 20, True)):
+            lines = [*list_programme_lines((VIDEO, MPEG_2)), f"video {VIDEO} {passed}",
+                     f"picture {VIDEO} 0", f"steps {VIDEO} {TICKS} 2 {TICKS} 2",
+                     f"steps {VIDEO} {TICKS} {number - 5} {11 * TICKS} {number}",
+                     f"steps {VIDEO} {TICKS} 40 {TICKS} 40",
+                     *(f"lead {TELETEXT} {at} 0 {VIDEO} {at}" for at in (30, 500))]
+            name = f"{passed} {number}"
+            try:
+                compute_start_clock(request, survey_lines(lines), packets)
+                self.assertFalse(is_refused, name)
+            except NoFirstPicture as reason:
+                self.assertEqual((str(reason), is_refused), (
+                    "the decoding times of PID 0x200 jump before the first PES packet of PID "
+                    "0x101", True), name)
+
     def test_counts_frames_without_a_pts(self) -> None:
         frame, field = TICKS, TICKS // 2
         long = [frame * item for item in range(260)]

@@ -12,6 +12,7 @@ from ..common.times import (
 from ..formats.stl import GSI, TCP_PLACE, decode_tcp
 from ..request.request import ORIGIN_CHOICE, Request, Selection, Unclear
 from ..stream.packets import Packets, Range
+from ..stream.steps import find_unusual_steps
 from ..stream.survey import ProgramMap, Survey
 
 
@@ -250,6 +251,7 @@ def read_start_frame(request: Request) -> int:
 def compute_start_clock(request: Request, survey: Survey, packets: Packets) -> StartClock:
     """Return the clock that `--start` sets, moved to the nearest PTS of Teletext."""
     first, frame = find_first_picture(survey, packets.pid), read_start_frame(request)
+    refuse_early_jump(survey, packets.pid, first)
     after = find_frame_offset(packets, first.pts, request.within)
     if after * 2 == TICKS:
         raise Unclear(f"{first.line()}. The Teletext PTS are half a frame later, so it is "
@@ -265,6 +267,18 @@ def compute_start_clock(request: Request, survey: Survey, packets: Packets) -> S
                       [first.line(),
                        f"by {name}, the time of this picture is {format_frame(frame)}, so the "
                        f"clock is {format_origin(shifted_pts)}, {relation}"], frame)
+
+
+def refuse_early_jump(survey: Survey, teletext: int, first: FirstPicture) -> None:
+    """Raise `NoFirstPicture` if the decoding times jump between the first picture and the first
+    Teletext PES packet that can be compared with a picture. Then it is unknown on which side of the
+    jump the Teletext PTS belong to the pictures."""
+    leads = survey.leads.get((teletext, first.pid), [])
+    unusual = find_unusual_steps(survey.steps.get(first.pid, []), leads[-1].number) if leads else []
+    if any(step.is_sure and first.skipped + 1 < step.number <= leads[0].number
+           for step in unusual):
+        raise NoFirstPicture(f"the decoding times of {format_pid(first.pid)} jump before the first "
+                             f"PES packet of {format_pid(teletext)}")
 
 
 def refuse_outside_recording(request: Request, start_clock: StartClock, begin: int, end: int,
