@@ -9,7 +9,7 @@ from subtitles.common.times import (
     CLOCK, FRAMES_OF_A_DAY, TICKS, begin_day_at, compute_origin, decode_time, format_frame,
     format_origin, format_program_time, parse_frame, restore_times)
 from subtitles.formats.midnight import find_day_begin, move_times
-from subtitles.formats.stl import TCP_PLACE
+from subtitles.formats.stl import TCP_PLACE, get_subtitle_times, read_stored_subtitles
 from .bench import Case
 from .judged import JudgedPair, judge_files
 from .transmissions import (
@@ -143,7 +143,8 @@ PROGRAMMES: Mapping[str, tuple[Programme, str]] = {
 class Programmes(Case):
     origin = CLOCK - TICKS * MIDNIGHT  # the PTS wraps at midnight
 
-    def judge(self, programme: Programme) -> JudgedPair:
+    def write_programme(self, programme: Programme) -> tuple[str, str]:
+        """Write the subtitle file and the recording of a programme."""
         subtitles = [(begin, end, b"Number %d" % number)
                      for number, (begin, end) in enumerate(programme.times, 1)]
         noon = write_subtitle_file(self, [(NOON + begin, NOON + end, text)
@@ -152,9 +153,11 @@ class Programmes(Case):
         stl = self.write("film.stl", make_gsi_block(b"", 4, 4) + b"".join(
             make_subtitle_blocks(number, begin % MIDNIGHT, end % MIDNIGHT, 22, 2, text)
             for number, (begin, end, text) in enumerate(subtitles, 1)))
-        pes = join_pes_packets([(pts + self.origin, packets)
-                                for pts, packets in programme.change(sent)])
-        return judge_files(self, stl, self.write("film.pes", pes), "--origin", str(self.origin),
+        return stl, self.write("film.pes", join_pes_packets([
+            (pts + self.origin, packets) for pts, packets in programme.change(sent)]))
+
+    def judge(self, programme: Programme) -> JudgedPair:
+        return judge_files(self, *self.write_programme(programme), "--origin", str(self.origin),
                            "--no-complete", "-o", self.path("out"), *programme.arguments)
 
     def test_judges_each_programme_as_it_is(self) -> None:
@@ -182,3 +185,14 @@ class Programmes(Case):
         self.check("the note", judged.result["notes"], [
             f"{self.path('film.stl')} runs over midnight: check read {command[2]}, a copy in which "
             "all times are 12 h earlier"])
+
+    def test_reads_a_recording_into_one_file(self) -> None:
+        _, pes = self.write_programme(Programme(OVER))
+        call = self.tool("read", pes, "--origin", str(self.origin), "--no-complete", "--page",
+                         "888", "-o", self.path("out"))
+        self.check("verdict", call.out.decode().splitlines()[-1].split(":")[0], "as shown")
+        subtitles = read_stored_subtitles(self.read("out/888.stl"))
+        self.check("times", [get_subtitle_times(subtitle) for subtitle in subtitles],
+                   [(begin % MIDNIGHT, end % MIDNIGHT) for begin, end in OVER])
+        self.check("judged", judge_files(self, self.path("out/888.stl"), pes, "--origin",
+                                         str(self.origin), "--no-complete").word, "accepted")

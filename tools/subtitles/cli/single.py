@@ -489,7 +489,7 @@ class OutputFiles:
                                 is_raw=True))
         if self.verdict.request.is_reading and self.verdict.is_judged and self.verdict.stl:
             lists.append(Output(self.names.make_final_path("stl"), lambda: read_chunks(
-                self.verdict.request.stl_path), True, is_raw=True))
+                self.verdict.request.original_path), True, is_raw=True))
         return lists
 
     def make_pair_junit_file(self) -> Iterator[bytes]:

@@ -83,10 +83,14 @@ def begin_day_at(frames: int) -> Iterator[None]:
         _day_begin.reset(token)
 
 
+def change_day_begin(frames: int) -> None:
+    """Count frames from another time of day, until the innermost block of `begin_day_at` ends."""
+    _day_begin.set(frames)
+
+
 def format_frame(frame: int) -> str:
     """Return the time HH:MM:SS:FF of a frame. The end of the day is 24:00:00:00."""
-    begin = _day_begin.get()
-    return format_time_code((frame + begin) % FRAMES_OF_A_DAY if begin else frame)
+    return format_time_code(find_time_at(frame) if _day_begin.get() else frame)
 
 
 def parse_frame(time: str) -> int | None:
@@ -95,9 +99,14 @@ def parse_frame(time: str) -> int | None:
     return None if frames is None else find_frame_at(frames)
 
 
-def find_frame_at(frames: int) -> int:
+def find_frame_at(time: int) -> int:
     """Return the frame at a time of day, given in frames since midnight."""
-    return (frames - _day_begin.get()) % FRAMES_OF_A_DAY
+    return (time - _day_begin.get()) % FRAMES_OF_A_DAY
+
+
+def find_time_at(frame: int) -> int:
+    """Return the time of day of a frame, in frames since midnight."""
+    return (frame + _day_begin.get()) % FRAMES_OF_A_DAY
 
 
 def decode_time(code: bytes) -> str:

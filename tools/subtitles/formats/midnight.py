@@ -35,10 +35,17 @@ def find_day_begin(data: bytes) -> int:
             ends.append(midnight + end)
     if begins and begins[-1] - ends[-1] >= MIN_STEP_BACK:
         ends[-1] += FRAMES_OF_A_DAY
-    first, last = min(begins, default=0), max([*begins, *ends], default=0) - FRAMES_OF_A_DAY
-    if not 0 <= last < first:
+    return choose_day_begin(min(begins, default=0), max([*begins, *ends], default=0))
+
+
+def choose_day_begin(first: int, last: int) -> int:
+    """Return the time of day at which a day begins that contains the frames from `first` to `last`,
+    which are counted from the first midnight. Return 0 if the first day contains them, or if they
+    last longer than a day."""
+    end = last - FRAMES_OF_A_DAY
+    if not 0 <= end < first < FRAMES_OF_A_DAY:
         return 0
-    return NOON if last + HOUR <= NOON <= first - HOUR else (last + 1 + first) // 2
+    return NOON if end + HOUR <= NOON <= first - HOUR else (end + 1 + first) // 2
 
 
 def move_times(data: bytes, day_begin: int) -> bytes:

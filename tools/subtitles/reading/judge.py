@@ -18,7 +18,7 @@ from ..judging.status import ACCEPTED
 from ..judging.timing import PartClocks, PartSearch
 from ..recording.recording import Recording
 from ..request.commands import CommandPaths, Listener, OutputNames
-from ..request.request import PES_CHOICE, Selection
+from ..request.request import PES_CHOICE, Selection, write_moved_copy
 from ..stream.packets import Range
 from .dates import find_date
 from .received import CUT_TEXTS, Reading, ShownPage, make_stl, read_pages
@@ -69,10 +69,13 @@ class ReadingJudge(PairJudge):
         verdict.named_faults += reading.faults
         verdict.unchecked += reading.unchecked
         request.option = reading.option.word
-        with open(request.stl_path, "wb") as file:
-            file.write(make_stl(reading, os.path.basename(recording.name), verdict.languages,
-                                find_date(recording.path, recording.survey.size or 0)))
-        self.names.set_subtitle_file(request.stl_path)
+        data = make_stl(reading, os.path.basename(recording.name), verdict.languages,
+                        find_date(recording.path, recording.survey.size or 0))
+        with open(request.original_path, "wb") as file:
+            file.write(data)
+        if reading.day_begin:
+            write_moved_copy(request, data, reading.day_begin, self.names.folder)
+        self.names.set_subtitle_file(request.stl_path, request.moved_stl is not None)
 
     def find_clock(self) -> Clock | None:
         """Return the clock from --origin or --start. Return `None` if neither is given."""

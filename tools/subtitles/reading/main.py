@@ -13,6 +13,7 @@ from ..cli.single import (
 from ..common.command_line import Stop, ToolParser, UsageError, decode_page
 from ..common.files import (
     Inputs, STANDARD, STANDARD_OUTPUTS, make_safe_name, make_temporary_folder, read_stamp)
+from ..common.times import begin_day_at
 from ..formats.teletext import Page, page_name
 from ..judging.status import combine_statuses
 from ..recording.recording import Recording
@@ -155,10 +156,11 @@ class PageReader:
         names = self.make_names(request)
         files = OutputFiles(self.call, verdict, self.command_paths, names, self.stamps)
         verdict.files_at_start = {**describe_inputs(request), "stl": None}
-        judge_pair(ReadingJudge(
-            verdict, self.command_paths, names, listener, self.make_recording(request, listener),
-            self.recording, files.needs_sums()), files)
-        report_pair(verdict, self.printer, files)
+        with begin_day_at(0):  # a recording over midnight changes this
+            judge_pair(ReadingJudge(
+                verdict, self.command_paths, names, listener, self.make_recording(
+                    request, listener), self.recording, files.needs_sums()), files)
+            report_pair(verdict, self.printer, files)
         return verdict
 
 

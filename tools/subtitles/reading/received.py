@@ -11,8 +11,11 @@ from typing import Callable, Iterator, NamedTuple, Sequence
 from ..clock.start import Clock, FIRST_PES
 from ..common.checks import CLOCK, OPTION, OUTSIDE
 from ..common.command_line import counted, format_pid
-from ..common.times import TICKS, compute_time, format_frame, subtract_pts, wrap_pts
+from ..common.times import (
+    TICKS, change_day_begin, compute_frame, compute_origin, compute_time, find_time_at,
+    format_frame, subtract_pts, wrap_pts)
 from ..formats.listing import ENDS_EARLY, NOT_IN_FILE, NamedFault, SUB_PAGES, TIME_GOES_BACK
+from ..formats.midnight import choose_day_begin
 from ..formats.stl import TTI
 from ..formats.stl_writer import (
     READ_PUBLISHER, StoredPage, make_gsi_block, make_subtitle_blocks, store_page)
@@ -60,6 +63,7 @@ class Reading(NamedTuple):
     pages: list[ShownPage]
     faults: list[NamedFault]  # each forbids the verdict `as shown`
     unchecked: list[Unchecked]
+    day_begin: int  # time of day of frame 0: midnight (0), unless the recording runs over midnight
 
     @property
     def first(self) -> int:
@@ -114,6 +118,16 @@ def choose_origin(packets: Packets, pes: Range, inside: Range | None) -> int:
     header, first = packets.get_pts(pes[0]), next(packets.pts(inside))
     assert header is not None
     return wrap_pts(header - TICKS * max(subtract_pts(first, header) // TICKS, 0))
+
+
+def find_recorded_day(packets: Packets, pes: Range, origin: int) -> int:
+    """Return the time of day at which the day of a recording begins, if 00:00:00:00 has the PTS
+    `origin`."""
+    runs = [run for run in packets.list_runs_between(*pes) if run.pts is not None]
+    first, last = runs[0].pts, runs[-1].last
+    assert first is not None and last is not None
+    frame = compute_frame(first, origin)
+    return choose_day_begin(frame, frame + wrap_pts(last - first) // TICKS + 1)
 
 
 def find_header_bits(packets: Packets, pes: Range) -> int:
@@ -199,6 +213,9 @@ def read_pages(packets: Packets, request: Request, clock: Clock | None,
     clock = clock or Clock(choose_origin(packets, pes, request.pes), FIRST_PES)
     back = find_step_back(packets, pes)
     pes = pes if back is None else (pes[0], back - 1)
+    day_begin = find_recorded_day(packets, pes, clock.origin)
+    change_day_begin(day_begin)
+    clock = clock._replace(origin=compute_origin(clock.origin))
     timeline = Timeline(packets, request.page, clock.origin, request.within, pes)
     if not timeline.pages:
         raise Unclear("no header of the page has a time between 00:00:00:00 and 24:00:00:00 on "
@@ -217,7 +234,7 @@ def read_pages(packets: Packets, request: Request, clock: Clock | None,
              if page.rows != BLANK_PAGE]
     reading = Reading(pes, clock, timeline, sent.options[0], pages, faults, [
         *unchecked, *find_undecided_option(sent, pages),
-        *find_beginning(packets, pes, request.pes, clock.origin)])
+        *find_beginning(packets, pes, request.pes, clock.origin)], day_begin)
     faults += [NamedFault(NOT_IN_FILE, f"{page.stored}: {reading.format_text(page)}",
                           format_frame(page.begin), format_frame(page.end - 1))
                for page in pages if isinstance(page.stored, str)]
@@ -285,8 +302,9 @@ def make_stl(reading: Reading, title: str, languages: Sequence[str], date: bytes
     blocks = []
     for number, page in enumerate(reading.written_pages, 1):
         assert isinstance(page.stored, StoredPage)
-        blocks.append(make_subtitle_blocks(number, page.begin, page.end, *page.stored))
+        blocks.append(make_subtitle_blocks(number, find_time_at(page.begin),
+                                           find_time_at(page.end), *page.stored))
     size = sum(map(len, blocks)) // TTI
     return make_gsi_block(title.encode("cp850", "replace")[:MAX_TITLE], size, len(blocks),
-                          reading.first, choose_language(languages, reading.option),
+                          find_time_at(reading.first), choose_language(languages, reading.option),
                           READ_PUBLISHER, date) + b"".join(blocks)

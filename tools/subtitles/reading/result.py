@@ -8,7 +8,7 @@ from ..clock.start import FIRST_PES, GIVEN
 from ..common.checks import CLOCK, OPTION, OUTSIDE, describe_kinds
 from ..common.command_line import counted, format_pid
 from ..common.shapes import Members
-from ..common.times import format_frame
+from ..common.times import format_frame, format_origin
 from ..judging.part import Part
 from ..judging.status import AS_SHOWN, Decision, NOT_READ, WITH_FAULTS, decide_reading
 from ..judging.subtitles import SubtitleCounts
@@ -59,7 +59,7 @@ class ReadingVerdict(Verdict):
         return f"Page {self.request.page_name} on {where} " \
             f"({' '.join(self.languages) or 'not announced'}), {self.request.option}: " \
             f"{counted(len(self.reading.pages), 'subtitle')}, {self.certain_count} certain. " \
-            f"Times are {times} (--origin {clock.origin}). " \
+            f"Times are {times} ({format_origin(clock.origin)}). " \
             f"{describe_kinds({*self.unchecked_kinds} - {CLOCK})}".rstrip()
 
     @property

@@ -475,15 +475,20 @@ def keep_stl(request: Request, folder: str) -> None:
 def begin_programme_day(request: Request, folder: str) -> contextlib.AbstractContextManager[None]:
     """Return a context manager in which frames are counted in the day of the subtitle file. If the
     file runs over midnight, write a copy with moved times into a folder."""
-    data, path = b"", os.path.join(folder, MOVED_NAME)
+    data = b""
     with contextlib.suppress(Stop, OSError):  # the error is reported later
         data = read_stl(request.original_path)
     day_begin = find_day_begin(data)
     if day_begin:
-        with open(path, "wb") as file:
-            file.write(move_times(data, day_begin))
-        request.moved_stl = path
+        write_moved_copy(request, data, day_begin, folder)
     return begin_day_at(day_begin)
+
+
+def write_moved_copy(request: Request, data: bytes, day_begin: int, folder: str) -> None:
+    """Write the copy of a subtitle file that the program reads, with moved times, into a folder."""
+    request.moved_stl = os.path.join(folder, MOVED_NAME)
+    with open(request.moved_stl, "wb") as file:
+        file.write(move_times(data, day_begin))
 
 
 def choose_option(request: Request) -> None:
