@@ -206,7 +206,7 @@ class Programs(CallCase):
                              status)
             self.assertIn(known["sentence"], case[0].text or "", status)
             self.assertNotIn("ccepted", self.text("one.csv") + self.text("one.xml"), status)
-            self.assertIn(f"<title>{last} ", self.text("out/hello.html"), status)
+            self.assertIn(f"<dd>{last}</dd>", self.text("out/hello.html"), status)
         self.assertEqual(self.judge(program, "--strict").status, 0)
         self.assertEqual(self.judge(program, "--relative").printed, self.judge(program).printed)
         self.assertEqual(self.judge(program, "--quiet").printed, self.judge(program).printed[-2:])

@@ -125,7 +125,7 @@ class LastLines(Case):
             self.must(f"{delays} {within}", len(said) == 2 + is_printed, said)
         accepted = [make_part(0, 9, 0)]
         for some, page, where in (
-                (parts, None, ". See refusals.md#n72."), (accepted, "a.html", "."),
+                (parts, None, ". See docs/manual/refusals.md#n72."), (accepted, "a.html", "."),
                 (parts, "out/one.html", ". See out/one.html."), (accepted, None, ".")):
             heard = LineRecorder()
             print_verdict(self.verdict(some), heard, page)

@@ -460,7 +460,7 @@ class CausesByHand(unittest.TestCase):
                                  if name in together)
             self.assertEqual((list_cause_counts(several), format_cause_counts(several),
                               count_causes(several)), (
-                expected, f"{counted(len(together), 'subtitle')} with faults: {expected}" *
+                expected, f"{counted(len(together), 'subtitle')} with a wrong page: {expected}" *
                 bool(together),
                 {name: together.count(name) for name in CAUSE_NAMES}), count)
 

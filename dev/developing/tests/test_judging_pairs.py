@@ -201,7 +201,7 @@ class Sentences(StoryCase):
             self.check(name, {member: cause[member] for member in expected}, expected)
             self.check(f"{name}: count", judged.result["cause_counts"]["another subtitle's text"],
                        1)
-            self.must(f"{name}: line", "1 subtitle with faults: 1 another subtitle's text"
+            self.must(f"{name}: line", "1 subtitle with a wrong page: 1 another subtitle's text"
                       in judged.said, judged.said)
 
     def test_names_no_cause_if_pes_packets_cannot_be_read(self) -> None:

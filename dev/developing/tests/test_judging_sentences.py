@@ -192,7 +192,8 @@ class LeadingFaults(ProgrammeCase):
                   and "has the wrong text" in reported.result["sentence"]
                   and "; also 67 Control. " in reported.result["sentence"], reported.result)
         page = self.read("out/one.html").decode()
-        self.must("report", f'id="verdict">{lead}<' in page and "<title>" in page)
+        self.check("the report's rows", re.findall(r'<tr><td>(Subtitle|67) ', page), [
+            "Subtitle", "67"])
 
     def test_the_table_of_a_batch_leads_with_the_visible_fault(self) -> None:
         self.write("list", f"{self.path('one.stl')} {self.path('one.pes')} --origin 0\n".encode())
@@ -452,7 +453,7 @@ class VisibleRows(Case):
                         f"Refused: {words}; 3 faults in all"), judged.result["sentence"])
                     self.must(f"{text!r}: lines", judged.result["worst_fault"] == judged.said[-1] ==
                               "refused not shown block 1" and judged.said[-2].endswith(
-                                  " See refusals.md#not-shown."), judged.said)
+                                  " See docs/manual/refusals.md#not-shown."), judged.said)
                     self.must(f"{text!r}: faults", [
                         (item["name"], item["number"], item["block"], item["subtitle"]["position"])
                         for item in judged.result["faults"]] == [

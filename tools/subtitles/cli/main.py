@@ -73,7 +73,7 @@ CALL_OPTIONS = (
            field="limit", read=read_limit),
     Option("--settled", "S", "treat a file as complete after S seconds without change", (WATCH,),
            "5", field="settled", default=5, read=read_seconds),
-    Option("--quiet", None, "print only the last two lines", (ALONE, PAIR),
+    Option("--quiet", None, "print only the last two lines of standard output", (ALONE, PAIR),
            field="is_quiet", default=False))
 OPTION_MODES = {one.name: one.modes for one in (*OPTIONS, *CALL_OPTIONS)}
 NO_RECORDING = "no recording was given; to check the subtitle file alone, add --file-only"

@@ -370,9 +370,9 @@ def format_reference(verdict: Verdict, page: str | None) -> str:
     if page:
         return f" See {page}."
     if verdict.worst_named_fault:
-        return f" See refusals.md#{verdict.worst_named_fault.name.replace(' ', '-')}."
+        return f" See docs/manual/refusals.md#{verdict.worst_named_fault.name.replace(' ', '-')}."
     fault = verdict.worst_part.worst_fault_line if verdict.worst_part else None
-    return f" See refusals.md#n{fault.number}." if fault else ""
+    return f" See docs/manual/refusals.md#n{fault.number}." if fault else ""
 
 
 class Output(NamedTuple):

@@ -139,7 +139,7 @@ class CauseFinder(PageTransmissions):
                                            self.describe_unreceived(subtitle.begin, sent_frame))
         name, frames = (LATE, sent_frame - subtitle.begin) if sent_frame > subtitle.begin else (
             EARLY, subtitle.begin - sent_frame)
-        words = self.describe_incomplete_frames(sent_frame) if name == LATE and \
+        words = self.describe_wrong_frames(sent_frame) if name == LATE and \
             frames <= self.timeline.within else ""
         if name == LATE and self.was_received_while_closed(place):
             words = self.describe_closed_page()
@@ -160,11 +160,11 @@ class CauseFinder(PageTransmissions):
             first -= 1
         return first
 
-    def describe_incomplete_frames(self, sent_frame: int) -> str:
-        """Describe for how many frames the page was incomplete before frame `sent_frame`. The
-        number is larger than the delay if the page was already incomplete before the TCI."""
+    def describe_wrong_frames(self, sent_frame: int) -> str:
+        """Describe for how many frames the page was wrong before frame `sent_frame`. The number is
+        larger than the delay if the page was already wrong before the TCI."""
         first = self.find_first_wrong_frame(sent_frame - 1)
-        return f"the page is incomplete for {counted(sent_frame - first, 'frame')} in a row, " \
+        return f"the page is wrong for {counted(sent_frame - first, 'frame')} in a row, " \
             f"from {format_frame(first)} on"
 
     def classify_missing_page(self, place: int) -> Cause:
@@ -651,7 +651,7 @@ def format_cause_counts(several: list[Causes]) -> str:
     count = sum(len(item.cause_by_index) for item in several)
     pause_count = sum(len(item.pause_texts) for item in several)
     causes = list_cause_counts(several, (TEXT_IN_PAUSE,))
-    return "; ".join([f"{counted(count, 'subtitle')} with faults: {causes}"] * (count > 0)
+    return "; ".join([f"{counted(count, 'subtitle')} with a wrong page: {causes}"] * (count > 0)
                      + [f"{counted(pause_count, 'pause')} with another text"] * (pause_count > 0))
 
 

@@ -12,8 +12,8 @@ from ..common.times import format_frame
 from ..formats.listing import (
     BEGIN, CHARACTER_SET, CLOCK_JUMP, CONTENT, CONTROL, END, ENDS_EARLY, ENDS_READING, FaultLine,
     GAP, INCOMPLETE, LOSSES, LOST_PACKETS, NamedFault, NEVER_SENT, NOT_IN_FILE, NOT_SHOWN,
-    OFF_FRAME, ORDER, PARITY, PICTURES_LEFT, STL_FAULTS, SUB_PAGES, TIME_GOES_BACK, UNDECIDED,
-    FAULTS_WITH_CAUSE)
+    OFF_FRAME, ORDER, PARITY, PICTURES_LEFT, SILENT, STL_FAULTS, SUB_PAGES, TIME_GOES_BACK,
+    UNDECIDED, FAULTS_WITH_CAUSE)
 from ..formats.stl import Subtitle
 from ..formats.teletext import OPTION_BY_WORD
 from .causes import (
@@ -401,6 +401,8 @@ def describe_first_fault(facts: Facts) -> str:
                            block if fault.block is not None else "")
     if facts.hint and fault.number in HINTS_ON_ALL:
         words, place = f"from {place} on, {facts.hint}", ""
+    elif facts.hint and fault.number == SILENT:
+        words, place = facts.hint, ""
     elif facts.hint:
         words = facts.hint if fault.number in HINTS_FOR_CLAUSE else f"{words}: {facts.hint}"
     place = place and f"{'at' if fault.time else 'in'} {place.removesuffix(',')}, "

@@ -211,8 +211,10 @@ class Recording:
             return pids[0]
         if not pids:
             refuse_unsent_page(self.request, self.survey, self.times)
-            explanation = "; ".join([f"{self.name} has no header of page {page}",
-                                     *self.list_unreadable_reasons()])
+            reasons = self.list_unreadable_reasons()
+            if not by_pid and not reasons:
+                raise Unclear(f"{self.name} contains no Teletext")
+            explanation = "; ".join([f"{self.name} has no header of page {page}", *reasons])
             raise Unclear(self.append_contents(explanation),
                           *self.suggest_other_pages(by_pid.values()))
         raise Unclear(self.append_contents(f"page {page} is sent on {len(pids)} PIDs of "

@@ -191,12 +191,10 @@ class CueList:
     def make_cause_table(self, fault_rows: Iterable[WrongRow]) -> Markup:
         """Return a table with a row for each cause, and for each number of other faults."""
         rows = sorted([*self.list_cause_rows(), *fault_rows], key=lambda row: row.rank)
-        count = len(self.causes.cause_by_index) if self.causes else 0
         return markup(
-            '<table class="groups"><caption>What is wrong{}</caption><thead><tr><th scope="col">'
-            'Reason</th><th scope="col">How much</th><th scope="col">First, into the recording</th>'
-            "</tr></thead><tbody>{}</tbody></table>",
-            f" with {counted(count, 'subtitle')}" if count else "", join_markup(
+            '<table class="groups"><caption>Reasons, worst first</caption><thead><tr><th '
+            'scope="col">Reason</th><th scope="col">How much</th><th scope="col">First, into the '
+            "recording</th></tr></thead><tbody>{}</tbody></table>", join_markup(
                 markup('<tr><td>{}{}</td><td><a href="#{}">{}</a></td><td>{}</td></tr>',
                        row.text[0].upper(), row.text[1:], row.anchor, row.count,
                        "" if row.frame is None else self.format_offset(row.frame))
