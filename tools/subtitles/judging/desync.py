@@ -85,9 +85,9 @@ def has_own_clock(several: Sequence[Departure], sent: Sequence[int],
                   changes: Sequence[int]) -> bool:
     """Return whether the Teletext clock does not jump where pictures leave, and may come back.
 
-    If pictures leave by whole frames, it is sure if a subtitle changes at its expected time after
-    the jump, or if the PTS never go back and are closer together than the jump is long. If they
-    leave by a fraction of a frame, it is sure if no PTS is a fraction of a frame off.
+    If pictures leave by a frame or more, it is sure if a subtitle changes at its expected time after
+    the jump, or if the PTS never go back and are closer together than the jump is long. If they do
+    not leave by whole frames, it is sure if no PTS is a fraction of a frame off.
     """
     begin, ticks = several[0].pts, several[0].ticks or 0
     length = subtract_pts(begin, several[1].pts) if len(several) > 1 else None
@@ -95,12 +95,12 @@ def has_own_clock(several: Sequence[Departure], sent: Sequence[int],
               < subtract_pts(begin, pts) < (length or 0) + NEAR_TICKS]
     near = sent[places[0]:places[-1] + 1] if places else []
     within = {pts for pts in near if 0 <= subtract_pts(begin, pts) < (length or NEAR_TICKS)}
+    later = [subtract_pts(begin, pts) for pts in changes] if abs(ticks) >= TICKS else []
+    if any(time >= 0 and (length is None or time < length) for time in later):
+        return True
     if measure_fraction(ticks) >= ALIKE_TICKS:
         return bool(within) and all(
             measure_fraction(subtract_pts(near[0], pts)) < ALIKE_TICKS // 2 for pts in near)
-    later = [subtract_pts(begin, pts) for pts in changes]
-    if any(time >= 0 and (length is None or time < length) for time in later):
-        return True
     steps = [step for step in map(subtract_pts, near, near[1:]) if step]
     return len(within) >= MIN_WITHIN and min(steps) >= 0 and statistics.median(steps) < abs(ticks)
 
