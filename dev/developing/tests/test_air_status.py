@@ -12,6 +12,7 @@ from typing import Any, Callable
 from unittest import mock
 
 from subtitles.air import judge, main as air_main
+from subtitles.air.status import name_feeds
 from subtitles.cli import batch, main as qc_main
 from subtitles.cli.single import now as date
 from subtitles.cli.state import BUG_LOG, State, write_state
@@ -56,10 +57,16 @@ class Status(Case):
         self.check("metrics", [line.replace(f'feed="{name}"', "") for line in
                                self.read("metrics").decode().splitlines()
                                if not line.startswith("# ")], [
-            "subttx_air_date_timestamp_seconds{} 0", 'subttx_air_alarm{,alarm="disk"} 1',
+            'subttx_air_alarm{,alarm="disk"} 1',
             'subttx_air_alarm{,alarm="bug"} 0', 'subttx_air_free_bytes{,folder="results"} 5',
             "subttx_air_waiting{} 2", "subttx_air_late{} 0",
             'subttx_air_results_total{,verdict="refused"} 1', "subttx_air_status{} 2"])
+
+    def test_gives_each_feed_its_own_name(self) -> None:
+        self.check_rows(name_feeds, {
+            "channels": ((["/a/news/results", "/a/film/results/"],), ["news", "film"]),
+            "watched folders": ((["/a/out"],), ["out"]),
+            "two of one name": ((["/a/out", "/b/out"],), ["/a/out", "/b/out"])})
 
 
 class Bugs(Case):

@@ -5,8 +5,7 @@ import contextlib
 import os
 from typing import Any, Collection, Sequence
 
-from ..cli.single import now as date
-from ..cli.state import State
+from ..cli.state import State, format_date_or_none
 from ..common.command_line import Stop
 from ..formats.teletext import Page, page_name
 from ..stream.survey import survey
@@ -102,8 +101,3 @@ class Monitor(State):
             "last_header": {page_name(*page): format_date_or_none(header)
                             for page, header in self.headers.items()},
             "schedule_faults": self.schedule_faults}
-
-
-def format_date_or_none(time: float) -> str | None:
-    """Format a time in UTC. Return `None` for 0, which means never."""
-    return date(time) if time else None

@@ -10,8 +10,8 @@ from datetime import datetime
 from typing import Any, Iterator
 
 from ..common.command_line import format_error, print_stdout
-from ..common.files import open_result
 from ..request.commands import STATE
+from ..results.files import write_file
 
 OK, WARNING, CRITICAL, UNKNOWN = range(4)  # statuses of Nagios and Icinga
 WORDS = ("OK", "WARNING", "CRITICAL", "UNKNOWN")
@@ -38,8 +38,7 @@ def check_state(state: dict[str, Any], age: float, max_age: float) -> tuple[int,
 def make_metrics(state: dict[str, Any]) -> Iterator[tuple[str, dict[str, str], float]]:
     """Yield the name, the labels and the value of each metric of a state."""
     for name in ("date", "last_byte"):
-        seconds = read_date(state.get(name))
-        if seconds is not None:
+        if seconds := read_date(state.get(name)):
             yield f"{name}_timestamp_seconds", {}, seconds
     for page, date in state.get("last_header", {}).items():
         yield "last_header_timestamp_seconds", {"page": page}, read_date(date) or 0.0
@@ -74,13 +73,18 @@ def escape(word: str) -> str:
     return re.sub(r'[\\"]', r"\\\g<0>", word).replace("\n", r"\n")
 
 
+def name_feeds(outs: list[str]) -> list[str]:
+    """Return a name for each folder, such as `news` for `news/results`. If two have the same name,
+    return all paths, since Prometheus rejects a file with two lines about one metric."""
+    paths = [os.path.abspath(out) for out in outs]
+    names = [os.path.basename(path.removesuffix("/results")) for path in paths]
+    return names if len({*names}) == len(names) else paths
+
+
 def print_status(outs: list[str], max_age: float, metrics: str | None) -> int:
     """Print a line for each folder of results, and write the metrics. Return the worst status."""
     statuses, lines, now = [], list[tuple[str, dict[str, str], float]](), time.time()
-    for out in outs:
-        name = os.path.basename(os.path.dirname(os.path.abspath(out))) \
-            if os.path.basename(os.path.abspath(out)) == "results" else os.path.basename(
-                os.path.abspath(out))
+    for out, name in zip(outs, name_feeds(outs)):
         try:
             with open(os.path.join(out, STATE), encoding="utf-8") as file:
                 state = json.load(file)
@@ -93,7 +97,5 @@ def print_status(outs: list[str], max_age: float, metrics: str | None) -> int:
         lines.append(("status", {"feed": name}, status))
         statuses.append(status)
         print_stdout(f"SUBTTX {WORDS[status]}: {name}: {text}")
-    if metrics:
-        with open_result(metrics) as target:
-            target.write(format_metrics(lines).encode())
+    write_file(metrics, lambda: [format_metrics(lines).encode()])
     return next(status for status in (CRITICAL, UNKNOWN, WARNING, OK) if status in statuses)

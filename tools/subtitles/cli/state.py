@@ -60,6 +60,11 @@ class State:
             "last_result": self.last_result, "verdicts": dict(self.verdicts)}
 
 
+def format_date_or_none(time: float) -> str | None:
+    """Format a time in UTC. Return `None` for 0, which means never."""
+    return date(time) if time else None
+
+
 def count_free_bytes(folder: str) -> int:
     """Return the number of free bytes on the disk of a folder, or 0 if there is no such folder."""
     with contextlib.suppress(OSError):
