@@ -56,6 +56,10 @@ LENGTHS = {
     "a title long before": ([(0, 50), (10 * HOUR, 10 * HOUR + 250)], "", 2.0),
     "an end before its begin": ([(0, 250), (500, 400)], "", 10.0),
     "over midnight": ([(24 * HOUR - 250, 24 * HOUR - 200), (0, 250)], "", 20.0),
+    "up to a time after midnight": ([(24 * HOUR - 250, 24 * HOUR - 200), (0, 250), (500, 750)],
+                                    "--to 00:00:20:00", 20.0),
+    "from midnight on": ([(24 * HOUR - 250, 24 * HOUR - 200), (0, 250), (500, 750)],
+                         "--from 00:00:00:00", 30.0),
 }
 
 

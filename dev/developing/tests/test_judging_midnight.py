@@ -1,19 +1,24 @@
 """Test programmes that run over midnight: when their day begins, and how they are judged."""
 from __future__ import annotations
 
+import itertools
 import shlex
 from typing import Callable, Mapping, NamedTuple, Sequence
 
+from developing.pes import make_pes_packet
 from developing.stl import make_gsi_block, make_subtitle_blocks
+from subtitles.air.judge import Judge
 from subtitles.common.times import (
     CLOCK, FRAMES_OF_A_DAY, TICKS, begin_day_at, compute_origin, decode_time, format_frame,
     format_origin, format_program_time, parse_frame, restore_times)
 from subtitles.formats.midnight import find_day_begin, move_times
 from subtitles.formats.stl import TCP_PLACE, get_subtitle_times, read_stored_subtitles
+from .air import AirCase, DAY, LENGTH
 from .bench import Case
 from .judged import JudgedPair, judge_files
+from .streams import multiplex_frames
 from .transmissions import (
-    CLOSING, HEADER, Change, SentPes, join_pes_packets, make_numbered_row, schedule_pages,
+    CLOSING, HEADER, Change, SentPes, join_pes_packets, make_numbered_row, packets, schedule_pages,
     write_subtitle_file)
 
 NOON = FRAMES_OF_A_DAY // 2
@@ -140,8 +145,11 @@ PROGRAMMES: Mapping[str, tuple[Programme, str]] = {
 }
 
 
-class Programmes(Case):
-    origin = CLOCK - TICKS * MIDNIGHT  # the PTS wraps at midnight
+ORIGIN = CLOCK - TICKS * MIDNIGHT  # the PTS wraps at midnight
+
+
+class MidnightCase(Case):
+    """A test case that writes programmes over midnight."""
 
     def write_programme(self, programme: Programme) -> tuple[str, str]:
         """Write the subtitle file and the recording of a programme."""
@@ -154,10 +162,12 @@ class Programmes(Case):
             make_subtitle_blocks(number, begin % MIDNIGHT, end % MIDNIGHT, 22, 2, text)
             for number, (begin, end, text) in enumerate(subtitles, 1)))
         return stl, self.write("film.pes", join_pes_packets([
-            (pts + self.origin, packets) for pts, packets in programme.change(sent)]))
+            (pts + ORIGIN, packets) for pts, packets in programme.change(sent)]))
 
+
+class Programmes(MidnightCase):
     def judge(self, programme: Programme) -> JudgedPair:
-        return judge_files(self, *self.write_programme(programme), "--origin", str(self.origin),
+        return judge_files(self, *self.write_programme(programme), "--origin", str(ORIGIN),
                            "--no-complete", "-o", self.path("out"), *programme.arguments)
 
     def test_judges_each_programme_as_it_is(self) -> None:
@@ -188,11 +198,29 @@ class Programmes(Case):
 
     def test_reads_a_recording_into_one_file(self) -> None:
         _, pes = self.write_programme(Programme(OVER))
-        call = self.tool("read", pes, "--origin", str(self.origin), "--no-complete", "--page",
+        call = self.tool("read", pes, "--origin", str(ORIGIN), "--no-complete", "--page",
                          "888", "-o", self.path("out"))
         self.check("verdict", call.out.decode().splitlines()[-1].split(":")[0], "as shown")
         subtitles = read_stored_subtitles(self.read("out/888.stl"))
         self.check("times", [get_subtitle_times(subtitle) for subtitle in subtitles],
                    [(begin % MIDNIGHT, end % MIDNIGHT) for begin, end in OVER])
         self.check("judged", judge_files(self, self.path("out/888.stl"), pes, "--origin",
-                                         str(self.origin), "--no-complete").word, "accepted")
+                                         str(ORIGIN), "--no-complete").word, "accepted")
+
+
+class OnAir(AirCase, MidnightCase):
+    def test_judges_a_programme_when_it_has_ended(self) -> None:
+        self.write_schedule(f"2026-12-01T08:00:20Z film.stl --no-complete --origin {ORIGIN}")
+        for name in ("a subtitle over midnight", "late"):
+            programme, sentence = PROGRAMMES[name]
+            self.write_programme(programme)
+            later = make_pes_packet(TICKS * 225, [HEADER, CLOSING])  # after the last subtitle
+            stream = multiplex_frames([*packets(self.read("film.pes")), later],
+                                      CLOCK - TICKS * 700, 1250, rounds=1)
+            self.delete_all("segments", "out")
+            judge = Judge(self.args("-p", self.bench.program), "tools/qc")
+            for now in range(0, 50, LENGTH):
+                self.put_segment(now, now + LENGTH, b"".join(itertools.islice(stream, 250)))
+                judge.look(DAY + now + LENGTH)
+            self.check(name, self.result("20261201T080020Z-film")["sentence"][:len(sentence)],
+                       sentence)
