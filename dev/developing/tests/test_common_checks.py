@@ -7,7 +7,7 @@ from typing import Sequence
 
 from subtitles.common.checks import (
     CHECK_KINDS, CHECKS, CLOCK, CheckState, FAILED, HOLE, JUMP, KINDS, LISTED, LOSSES, MADE,
-    NO_VIDEO, OPTION, PHRASES, SEAM, UNREAD, decide_check, describe_kinds, parse_required_kinds)
+    NO_VIDEO, OPTION, PHRASES, UNREAD, decide_check, describe_kinds, parse_required_kinds)
 from subtitles.judging.sentence import Facts, write_sentence
 from subtitles.judging.status import ACCEPTED, NOT_JUDGED, REFUSED, RELATIVE
 from subtitles.judging.unchecked import MISSING_TEXTS, Unchecked, list_check_entries
@@ -46,7 +46,7 @@ class Checks(Case):
                 self.check(f"{name} {state} {kind} {number}", listed, [
                     Unchecked(kinds[0], MISSING_TEXTS[name], 1)] * is_new)
         self.check("nothing is known", [item.kind for item in list_check_entries([], [(1, {})])],
-                   [UNREAD, LOSSES, CLOCK, SEAM, OPTION])
+                   [UNREAD, LOSSES, CLOCK, OPTION])
 
     def test_names_unmade_checks(self) -> None:
         drift = "whether the video and the subtitles drift apart"
@@ -67,7 +67,7 @@ class Checks(Case):
         self.check_rows(parse_required_kinds, {
             "all": (("all",), CHECK_KINDS), "one": (("clock",), (CLOCK,)),
             "in order": (("losses, no_video,losses",), (NO_VIDEO, LOSSES)),
-            "all and one": (("seam,all",), CHECK_KINDS)})
+            "all and one": (("clock,all",), CHECK_KINDS)})
         for text in ("", "row_0", "clock,", "video"):
             with self.assertRaises(argparse.ArgumentTypeError, msg=text):
                 parse_required_kinds(text)
@@ -81,7 +81,7 @@ class RequiredChecks(ProgrammeCase):
             "not required": ((), "accepted", None), "required": (("--require", "no_video"),
                                                                  "not judged", reason),
             "a profile": (("--profile", profile), "not judged", reason),
-            "made": (("--require", "clock,video_unread,seam"), "accepted", None),
+            "made": (("--require", "clock,video_unread,option"), "accepted", None),
             "all": (("--require", "all"), "not judged", reason),
             "strict": (("--strict",), "accepted", None)}
         for name, (words, verdict, why) in rows.items():

@@ -15,9 +15,8 @@ STEADY = "video_steady"  # the delay changes steadily
 PICTURE_KINDS = (NO_VIDEO, UNREAD, HOLE, JUMP, IRREGULAR, STEADY)
 LOSSES = "losses"  # losses that can't be detected
 CLOCK = "clock"  # a delay that all subtitles of the pair or of a part share
-SEAM = "seam"  # what lies on both sides of midnight
 OPTION = "option"  # the characters of a page that was read, if no national option is certain
-CHECK_KINDS = (*PICTURE_KINDS, LOSSES, CLOCK, SEAM, OPTION)
+CHECK_KINDS = (*PICTURE_KINDS, LOSSES, CLOCK, OPTION)
 # Kinds that only JSON results and reports list, since each call has them or asked for them
 NO_RECORDING = "no_recording"  # only the subtitle file was judged
 NOT_READ = "not_read"  # the recording was not read, since the subtitle file was refused
@@ -31,12 +30,12 @@ DRIFT = "whether the video and the subtitles drift apart"
 PHRASES = {NO_VIDEO: "the pictures, since there is no video", UNREAD: DRIFT,
            **dict.fromkeys((HOLE, JUMP, IRREGULAR, STEADY), f"{DRIFT}, at each place"),
            LOSSES: "losses that leave no trace", CLOCK: "a delay that all subtitles share",
-           SEAM: "the frames around midnight", OPTION: "the national option"}
+           OPTION: "the national option"}
 
 ALL = "all"  # value of --require: all of `CHECK_KINDS`
 PICTURES = "pictures"
 # The kinds of the entries about each check, first the kind if nothing is known about the check
-CHECKS = {PICTURES: (UNREAD, *PICTURE_KINDS), LOSSES: (LOSSES,), CLOCK: (CLOCK,), SEAM: (SEAM,),
+CHECKS = {PICTURES: (UNREAD, *PICTURE_KINDS), LOSSES: (LOSSES,), CLOCK: (CLOCK,),
           OPTION: (OPTION,)}
 MADE, FAILED, LISTED = "made", "failed", "listed"
 

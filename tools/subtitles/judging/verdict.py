@@ -8,7 +8,7 @@ from typing import Callable, Collection, Iterable, Iterator, Mapping, NamedTuple
 
 from ..clock.start import ESTIMATED_LATER_NOTE, ESTIMATED_NOTE, advise_on_clock
 from ..common.checks import (
-    CHECK_KINDS, CLOCK, CheckState, LOSSES, OPTION, PICTURES, SEAM, find_missing_kinds)
+    CHECK_KINDS, CLOCK, CheckState, LOSSES, OPTION, PICTURES, find_missing_kinds)
 from ..common.command_line import (
     RESOURCE, classify_error, format_error, format_frame_range, was)
 from ..common.files import SummedFile
@@ -254,7 +254,7 @@ class Verdict:
         return {PICTURES: CheckState(PICTURES in names, has_left),
                 LOSSES: CheckState(LOSSES in names, is_lost),
                 CLOCK: CheckState(part.clock is not None and not part.clock.is_estimated),
-                SEAM: CheckState(True), OPTION: CheckState(True)}
+                OPTION: CheckState(True)}
 
     def list_unchecked(self) -> list[Unchecked]:
         """Return the checks of the judged parts that were not made everywhere."""
