@@ -281,6 +281,9 @@ class StoredRows(unittest.TestCase):
 ROWS_BY_HAND: list[tuple[str, str, list[tuple[int, str, int | None, int | None, str | None]]]] = [
     ("100-150 a", "0:- 100:a 150:-", []), ("100-150 a", "0:- 103:a 150:-", [
         (0, "late", 3, None, "a")]),
+    # The first text is wrong, and the second is early.
+    ("100-150 a;150-200 b", "0:- 100:x 147:b 200:-", [
+        (0, "wrong text", None, None, "x"), (1, "early", 3, None, "b")]),
     # All subtitles are moved, or one is sent at the time of another subtitle.
     ("100-200 a;200-300 b", "0:- 200:a 300:b 400:-", [(0, "late", 100, None, "a"),
                                                       (1, "late", 100, None, "b")]),

@@ -324,9 +324,15 @@ class PageTransmissions:
                 self.find_transmission(sent) != self.timeline.frames[number]:
             return place
         is_due = frame < self.subtitles[place].end
-        if is_due and not (sent > place and self.was_sent_by_cue(place)):
+        if is_due and not (sent > place and (self.was_sent_by_cue(place)
+                                             or self.was_replaced_at_cue(place))):
             return place
         return sent
+
+    def was_replaced_at_cue(self, place: int) -> bool:
+        """Return whether a page that belongs to no subtitle is decoded at the TCI of a subtitle."""
+        number = self.timeline.find_page_number_at(self.subtitles[place].begin)
+        return number >= 0 and self.is_unknown_page(number, place)
 
     def was_sent_by_cue(self, place: int) -> bool:
         """Return whether the page of a subtitle was sent before or at its TCI, or at most the
