@@ -55,7 +55,8 @@ DAYS: Mapping[str, tuple[Sequence[str], str]] = {
     "and one over midnight": ([EVENING, "21:59:55:00 21:59:57:00", NIGHT], "12:00:00:00"),
     "over midnight twice": ([EVENING, NIGHT, EVENING, NIGHT], "00:00:00:00"),
     "longer than a day": ([EVENING, NIGHT, "22:00:00:00 22:00:01:00"], "00:00:00:00"),
-    "a title at 00:00:00:00": (["00:00:00:00 00:00:01:00", EVENING, NIGHT], "00:00:00:00"),
+    "a title at 00:00:00:00": (["00:00:00:00 00:00:01:00", EVENING, NIGHT], "12:00:00:00"),
+    "another subtitle at 00:00:00:00": ([EVENING, "00:00:00:00 00:00:01:00"], "12:00:00:00"),
     "from 06:00 to 05:00": (["06:00:00:00 06:00:02:00", EVENING, NIGHT,
                              "04:59:58:00 05:00:00:00"], "05:30:00:00"),
     "a whole day": (["06:00:00:00 06:00:02:00", EVENING, NIGHT, "05:59:58:00 05:59:59:24"],
@@ -79,6 +80,9 @@ class Times(Case):
             "10:00:00:00 10:00:02:00", "11:59:58:00 12:00:02:10", "24:00:00:00 01:00:60:00")[1024:])
         self.check("TCP", (data[TCP_PLACE], moved[TCP_PLACE]), (b"12000005", b"00000005"))
         self.check("back", move_times(moved, NOON), data)
+        title = "00:00:00:00 00:00:01:00"
+        self.check("a title stays", move_times(make_stl(title, EVENING, title), NOON, True)[1024:],
+                   make_stl(title, "10:00:00:00 10:00:02:00", "12:00:00:00 12:00:01:00")[1024:])
 
     def test_prints_the_times_of_the_subtitle_file(self) -> None:
         with begin_day_at(NOON):
@@ -129,6 +133,8 @@ PROGRAMMES: Mapping[str, tuple[Programme, str]] = {
         "--from", "23:59:56:00", "--to", "00:00:05:00")), "Accepted: all 2 subtitles"),
     "from midnight on": (Programme(OVER, list, ("--from", "00:00:00:00")),
                          "Accepted: all 2 subtitles"),
+    "after a title": (Programme([(0, 25), *OVER], list, ("--from", "23:59:52:00")),
+                      "Accepted: all 4 subtitles"),
     "late": (Programme(OVER, delete_between(59, 74)), "Refused: subtitle 3 at 00:00:02:10, "
              "\"Number 3\", appeared 25 frames late"),
     "not erased at midnight": (Programme([(-200, -150), (-50, 0), (60, 100), (160, 200)],
@@ -156,7 +162,8 @@ class MidnightCase(Case):
         subtitles = [(begin, end, b"Number %d" % number)
                      for number, (begin, end) in enumerate(programme.times, 1)]
         noon = write_subtitle_file(self, [(NOON + begin, NOON + end, text)
-                                          for begin, end, text in subtitles], "noon.stl")
+                                          for begin, end, text in subtitles if begin or programme.times[0][1] > 25],
+                                   "noon.stl")
         sent = schedule_pages(self, noon, origin=TICKS * NOON)
         stl = self.write("film.stl", make_gsi_block(b"", 4, 4) + b"".join(
             make_subtitle_blocks(number, begin % MIDNIGHT, end % MIDNIGHT, 22, 2, text)
@@ -197,15 +204,19 @@ class Programmes(MidnightCase):
             "all times are 12 h earlier"])
 
     def test_reads_a_recording_into_one_file(self) -> None:
-        _, pes = self.write_programme(Programme(OVER))
-        call = self.tool("read", pes, "--origin", str(ORIGIN), "--no-complete", "--page",
-                         "888", "-o", self.path("out"))
-        self.check("verdict", call.out.decode().splitlines()[-1].split(":")[0], "as shown")
-        subtitles = read_stored_subtitles(self.read("out/888.stl"))
-        self.check("times", [get_subtitle_times(subtitle) for subtitle in subtitles],
-                   [(begin % MIDNIGHT, end % MIDNIGHT) for begin, end in OVER])
-        self.check("judged", judge_files(self, self.path("out/888.stl"), pes, "--origin",
-                                         str(ORIGIN), "--no-complete").word, "accepted")
+        blank = [(TICKS * (MIDNIGHT - 210), [HEADER, CLOSING])]
+        for name, times in (("over midnight", OVER), ("from midnight on", [(0, 50), (60, 100)])):
+            _, pes = self.write_programme(Programme(times, lambda sent: [*blank, *sent]))
+            call = self.tool("read", pes, "--origin", str(ORIGIN), "--no-complete", "--page",
+                             "888", "-o", self.path("out"))
+            self.check(name, call.out.decode().splitlines()[-1].split(":")[0], "as shown")
+            subtitles = read_stored_subtitles(self.read("out/888.stl"))
+            self.check(f"{name}: times", [get_subtitle_times(subtitle) for subtitle in subtitles],
+                       [(begin % MIDNIGHT, end % MIDNIGHT) for begin, end in times])
+            origin = ORIGIN if times[0][0] < 0 else 0  # that of the day of the first subtitle
+            self.check(f"{name}: judged", judge_files(
+                self, self.path("out/888.stl"), pes, "--origin", str(origin), "--no-complete").word,
+                "accepted")
 
 
 class OnAir(AirCase, MidnightCase):

@@ -84,7 +84,7 @@ def read_content(path: str, _version: tuple[int, int], *limits: str | None) -> C
     day_begin = find_day_begin(data)
     with begin_day_at(day_begin), contextlib.suppress(DamagedFile, Stop):
         between = parse_range(*limits)
-        for subtitle in read_stored_subtitles(move_times(data, day_begin)):
+        for subtitle in read_stored_subtitles(move_times(data, day_begin, True)):
             begin, end = get_subtitle_times(subtitle)
             if begin is None or end is None or not between.includes(begin):
                 continue

@@ -22,12 +22,13 @@ TIMES = slice(5, 9), slice(9, 13)  # bytes of TCI and TCO in a TTI block
 def find_day_begin(data: bytes) -> int:
     """Return the time of day, in frames, at which the day of a subtitle file begins. This is
     midnight (0), unless the times go back exactly once by 20 hours or more: from a TCI to the next,
-    or from the last TCI to its TCO. Then it is noon, or a time that no subtitle contains."""
+    or from the last TCI to its TCO. Then it is noon, or a time that no subtitle contains. A first
+    subtitle at 00:00:00:00 does not count, since it is a title that is not sent."""
     begins, ends, midnight = list[int](), list[int](), 0
     with contextlib.suppress(DamagedFile):
         for subtitle in read_stored_subtitles(data):
             begin, end = get_subtitle_times(subtitle)
-            if begin is None or end is None:
+            if begin is None or end is None or not begins and not begin:  # or a title
                 continue
             if begins and begins[-1] % FRAMES_OF_A_DAY - begin >= MIN_STEP_BACK:
                 midnight += FRAMES_OF_A_DAY
@@ -48,14 +49,16 @@ def choose_day_begin(first: int, last: int) -> int:
     return NOON if end + HOUR <= NOON <= first - HOUR else (end + 1 + first) // 2
 
 
-def move_times(data: bytes, day_begin: int) -> bytes:
+def move_times(data: bytes, day_begin: int, may_have_title: bool = False) -> bytes:
     """Return a copy of a subtitle file in which all valid times are earlier, by the time of day at
-    which the file's day begins."""
-    moved = bytearray(data)
+    which the file's day begins. If `may_have_title`, a first subtitle at 00:00:00:00 stays there,
+    so it is at the beginning of this day."""
+    moved, is_title = bytearray(data), may_have_title
     for at in range(GSI, len(data) - TTI + 1, TTI):
+        is_title = is_title and data[at + 5:at + 9] == encode_time_code(0)
         for place in (slice(at + 5, at + 9), slice(at + 9, at + 13)):  # TCI and TCO
             frame = decode_frame(data[place])
-            if frame is not None:
+            if frame is not None and not is_title:
                 moved[place] = encode_time_code((frame - day_begin) % FRAMES_OF_A_DAY)
     first = decode_tcp(data[TCP_PLACE])
     if first is not None:

@@ -9,6 +9,7 @@ from typing import Iterator
 from ..clock.start import Clock, GIVEN, NoFirstPicture, TimedPart, compute_start_clock
 from ..common.times import FRAMES_OF_A_DAY, Spans, format_frame
 from ..formats.listing import CHARACTER_SET, CLOCK_JUMP, NamedFault
+from ..formats.midnight import move_times
 from ..formats.stl import Subtitle
 from ..formats.stl_writer import StoredPage
 from ..judging.cues import Cue, CueJudge
@@ -74,7 +75,7 @@ class ReadingJudge(PairJudge):
         with open(request.original_path, "wb") as file:
             file.write(data)
         if reading.day_begin:
-            write_moved_copy(request, data, reading.day_begin, self.names.folder)
+            write_moved_copy(request, move_times(data, reading.day_begin), self.names.folder)
         self.names.set_subtitle_file(request.stl_path, request.moved_stl is not None)
 
     def find_clock(self) -> Clock | None:

@@ -480,15 +480,15 @@ def begin_programme_day(request: Request, folder: str) -> contextlib.AbstractCon
         data = read_stl(request.original_path)
     day_begin = find_day_begin(data)
     if day_begin:
-        write_moved_copy(request, data, day_begin, folder)
+        write_moved_copy(request, move_times(data, day_begin, True), folder)
     return begin_day_at(day_begin)
 
 
-def write_moved_copy(request: Request, data: bytes, day_begin: int, folder: str) -> None:
-    """Write the copy of a subtitle file that the program reads, with moved times, into a folder."""
+def write_moved_copy(request: Request, data: bytes, folder: str) -> None:
+    """Write the copy of a subtitle file with moved times, which the program reads, to a folder."""
     request.moved_stl = os.path.join(folder, MOVED_NAME)
     with open(request.moved_stl, "wb") as file:
-        file.write(move_times(data, day_begin))
+        file.write(data)
 
 
 def choose_option(request: Request) -> None:
