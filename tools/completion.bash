@@ -22,8 +22,8 @@ _subttx_value() {
         --packet-size) _subttx_words '188 192 204' "$2" ;;
         --at | --breaks | --every | --every-seconds | --flip | --free | --from | --jobs | \
             --late | --layout | --length | --limit | --line | --lose | --margin | --on-result | \
-            --origin | --pace | --page | --pause | --pes | --pid | --settled | --skip | \
-            --start | --to | --within)
+            --origin | --pace | --page | --pause | --pes | --pid | --reference-start | \
+            --settled | --skip | --start | --to | --within)
             COMPREPLY=()
             ;;
 # end

@@ -12,9 +12,9 @@ recording  reading a recording from a file or a pipe, choosing the PID, and warn
 judging    judging a pair: running `check` on its parts, causes of faults, and the verdict
 results    result files: JSON, CSV and JUnit
 report     the HTML page about a verdict
-cli        the commands of qc: judging a pair, many pairs, or a folder
+reading    reading the subtitles that a recording carries
+cli        the commands of qc: judging a pair, many pairs, or a folder; and of tools/read
 air        recording and judging programmes on air, for tools/air
-reading    reading the subtitles that a recording carries, for tools/read
 
 To find                                See
 how a pair is judged, step by step     cli/single.py, then `PairJudge.judge` of judging/pair.py

@@ -15,7 +15,7 @@ from .bench import Case, SECONDS
 
 # Packages of the tools. Each may import only packages before it.
 ORDER = ["common", "formats", "request", "stream", "clock", "recording", "judging", "results",
-         "report", "cli", "air", "reading"]
+         "report", "reading", "cli", "air"]
 LONGEST_LINE = 100
 MAIN = "subtitles.cli.main"  # module that imports other modules on demand
 TABLE_FILE = os.path.join("developing", "signs.py")  # file with a table of long lines

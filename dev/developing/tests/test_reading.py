@@ -17,7 +17,7 @@ from subtitles.formats.teletext import (
     CROATIAN, ENGLISH, FRENCH, GERMAN, OPTIONS, NationalOption, SentOption)
 from subtitles.judging.cues import CERTAIN, NOT_CERTAIN
 from subtitles.judging.status import (
-    AS_SHOWN, CheckSummary, Grounds, NOT_READ, Severity, WITH_FAULTS, decide_reading)
+    AS_SHOWN, CheckSummary, DIFFERS, Grounds, NOT_READ, SAME, Severity, WITH_FAULTS, decide_reading)
 from subtitles.reading.dates import find_date
 from subtitles.reading.received import (
     ShownPage, choose_header_option, choose_language, find_likely_errors, find_undecided_option,
@@ -467,3 +467,59 @@ class WrittenFiles(Case):
             page = file.read()
         self.check("the report", page.count("<td>certain</td>"), len(result["subtitles"]) - 1)
         self.check("no page", self.tool("read", sent, "--json", "1.json").status, 64)
+
+
+class TwoRecordings(Case):
+    TEXT, BLANK = [HEADER, ROW, CLOSING], [HEADER, CLOSING]
+
+    def write_stream(self, name: str, frames: list[tuple[int, list[bytes]]], delay: int = 0) -> str:
+        """Write a transport stream with pictures and the given transmissions, `delay` frames later
+        than the pictures."""
+        sent = b"".join(make_pes_packet(TICKS * (frame + delay) + 90_000, item)
+                        for frame, item in frames)
+        return self.write(name, add_pictures(sent, 90_000).data)
+
+    def compare(self, *args: str) -> tuple[int, str]:
+        call = self.tool("qc", "--reference", *args, "--every", "100", "-o", "out")
+        lines = call.out.decode().splitlines()
+        with open(self.path("out/b.json"), encoding="utf-8") as file:
+            self.check(f"{args}: the schema", find_misfit(json.load(file)), None)
+        return call.status, lines[-1].partition(":")[0] if lines else ""
+
+    def test_compares_what_both_recordings_cover(self) -> None:
+        text, blank, other = self.TEXT, self.BLANK, [HEADER, make_numbered_row(21, b"No"), CLOSING]
+        frames = [(0, blank), (25, text), (50, blank), (75, other), (100, blank), (125, text),
+                  (150, blank), (175, blank)]
+        self.write_stream("a.ts", frames)
+        for name, sent, delay, status in (
+                ("more packets", sorted([*frames, (160, blank)]), 0, 0), ("later", frames, 2, 1),
+                ("one subtitle later", [*frames[:3], (76, other), *frames[4:]], 0, 1),
+                ("one less", [*frames[:3], *frames[5:]], 0, 1),
+                ("one more", [*frames[:7], (160, text), (175, blank)], 0, 1),
+                ("another text", [*frames[:3], (75, text), *frames[4:]], 0, 1),
+                ("a later end", [*frames, (200, text), (225, blank)], 0, 0),
+                ("an earlier end", frames[:5], 0, 0), ("an end in a subtitle", frames[:4], 0, 0),
+                ("another text at the end", [*frames[:3], (75, text)], 0, 1),
+                ("an earlier beginning", [(-10, text), *frames], 0, 0),
+                ("a later beginning", frames[1:], 0, 0),
+                ("no text", [(0, blank), (175, blank)], 0, 1)):
+            self.write_stream("b.ts", sent, delay)
+            expected = (status, f"{SAME} as a.ts" if status == 0 else DIFFERS)
+            self.check(name, self.compare("a.ts", "b.ts", "--start", "10:00:00:00",
+                                          "--reference-start", "10:00:00:00"), expected)
+        self.write_stream("b.ts", frames, 2)
+        self.check("no clock", self.compare("a.ts", "b.ts"), (3, "relative, same as a.ts"))
+        self.write_stream("a.ts", [(0, text), (300, blank)])
+        self.check("a reference with faults", self.compare("a.ts", "b.ts")[0], 2)
+
+    def test_rejects_arguments_that_two_recordings_do_not_take(self) -> None:
+        self.write_stream("a.ts", [(0, self.BLANK), (25, self.TEXT), (50, self.BLANK)])
+        self.write_stream("b.ts", [(0, self.BLANK), (25, self.TEXT), (60, self.BLANK)])
+        for name, args, status in (
+                ("one clock", ("b.ts", "--start", "10:00:00:00"), 64),
+                ("two clocks", ("b.ts", "--same-start", "--start", "10:00:00:00"), 64),
+                ("a layout", ("b.ts", "--layout", "up"), 64), ("no other recording", (), 64),
+                ("the same bytes", ("a.ts",), 2), ("three files", ("b.ts", "a.ts"), 64)):
+            call = self.tool("qc", "--reference", "a.ts", *args)
+            self.must(name, call.status == status and len(call.told) == 1, call)
+        self.check("no reference", self.tool("qc", "a.ts", "b.ts").status, 2)

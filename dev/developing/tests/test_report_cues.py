@@ -11,8 +11,8 @@ from subtitles.formats.stl import NamedSubtitle, Subtitle, SubtitleFile
 from subtitles.judging.causes import Cause, LATE, NEVER, NOT_RECEIVED, UNKNOWN_CAUSE, WRONG_TEXT
 from subtitles.judging.cues import Cue, CueJudge, CueVerdict, add_decoded_page
 from subtitles.judging.status import (
-    ACCEPTED, AS_SHOWN, LOST, NOT_JUDGED, NOT_READ, REFUSED, RELATIVE, VALID, WAIVED, WARNED,
-    WITH_FAULTS)
+    ACCEPTED, AS_SHOWN, DIFFERS, LOST, NOT_JUDGED, NOT_READ, REFUSED, RELATIVE, SAME, VALID, WAIVED,
+    WARNED, WITH_FAULTS)
 from subtitles.judging.transmissions import ExpectedPages
 from subtitles.report.blocks import mark_field, mark_text, mark_times, show_byte
 from subtitles.report.cue_list import CueList, CueRow, mark_difference, format_signed
@@ -230,10 +230,11 @@ class TextMarkup(Case):
 
     def test_gives_each_verdict_a_class_and_a_shape(self) -> None:
         words = (ACCEPTED, VALID, WAIVED, RELATIVE, REFUSED, LOST, WARNED, NOT_JUDGED)
-        for reading, pair in ((AS_SHOWN, ACCEPTED), (NOT_READ, NOT_JUDGED), (WITH_FAULTS, REFUSED)):
+        for reading, pair in ((AS_SHOWN, ACCEPTED), (NOT_READ, NOT_JUDGED), (WITH_FAULTS, REFUSED),
+                              (SAME, ACCEPTED), (DIFFERS, REFUSED)):
             self.check(reading, [draw_verdict(word)[0] for word in (reading, pair)],
                        [draw_verdict(pair)[0]] * 2)
-        self.must("all", set(SHAPES) == {*words, AS_SHOWN, NOT_READ})
+        self.must("all", set(SHAPES) == {*words, AS_SHOWN, NOT_READ, SAME})
         self.must("classes", len({kind for kind, _ in SHAPES.values()}) == len(words))
         self.must("shapes", len({markup_text(drawn) for _, drawn in SHAPES.values()}) == len(words))
 

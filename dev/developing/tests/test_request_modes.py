@@ -41,7 +41,8 @@ CALLS: dict[Mode, list[str]] = {
     WATCH: ["--watch", "in"],
     COLLECT: ["--collect", "in"], MEASURE: ["--measure", "a.stl", "a.ts"]}
 # A valid value for each option that takes a value.
-VALUES = {"--page": "801", "--every": "25", "--within": "1", "--option": "german", "--origin": "7",
+VALUES = {"--reference": "b.ts", "--reference-start": "10:00:00:00", "--page": "801",
+          "--every": "25", "--within": "1", "--option": "german", "--origin": "7",
           "--start": "tcp", "--breaks": "1", "--pes": "2-9", "--pid": "0x101", "--severity": "file",
           "-o": "out", "--json": "x", "--csv": "x", "--junit": "x", "-p": "none",
           "--require": "losses", "--line": "2", "--jobs": "2", "--limit": "9", "--settled": "1",
@@ -232,7 +233,7 @@ WRONG_USAGE: dict[str, list[list[str]]] = {
             ["judge", "schedule", "segments", "-o", "out", "--pagee", "888"],
             ["status", "out", "--max-age", "-1"]],
     "read": [[], [PES, "--start", "tcp"], [PES, "--start", "10:00:00:00", "--origin", "0"],
-             [PES, "--against", STL]],
+             [PES, "--page", "8FF"]],
     "poke": [[], [STL, "x"], [STL, "1=0"], [STL, "1=@3"], [STL, "-c", "-1"], [STL, "-c", "x"],
              [STL, "1=00", "--colour"], [STL, "9" * 5000 + "=00"]],
     "qc": [[], [STL], ["--file-only"], ["--file-only", STL, PES], [STL, PES, PES],
@@ -261,7 +262,7 @@ WRONG_USAGE: dict[str, list[list[str]]] = {
 }
 WRONG_FILES: dict[str, list[list[str]]] = {
     "air": [["judge", "schedule", "segments", "-o", "out"]],
-    "read": [["none.ts"], [PES, "--against", "none.stl", "--origin", "0"]],
+    "read": [["none.ts"], [STL, "--origin", "0"]],
     "poke": [["none.stl"], [STL, "1152=00"], [STL, "0=@1150+3"], [TOP]],
     "qc": [["--file-only", "none.stl"], [STL, "none.pes"], [STL, PES, "--severity", "none"],
            [STL, PES, "-p", "none"],

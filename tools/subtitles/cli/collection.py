@@ -15,8 +15,8 @@ from ..common.command_line import (
 from ..common.files import Inputs, NO_INPUTS, STANDARD_OUTPUTS, refuse_output_name, open_result
 from ..common.markup import BREAK, HEAD, Markup, NO_MARKUP, Value, join_markup, markup
 from ..judging.status import (
-    ACCEPTED, AS_SHOWN, LOST, NOT_JUDGED, NOT_READ, REFUSED, RELATIVE, VALID, WAIVED, WARNED,
-    WITH_FAULTS, combine_statuses)
+    ACCEPTED, AS_SHOWN, DIFFERS, LOST, NOT_JUDGED, NOT_READ, REFUSED, RELATIVE, SAME, VALID, WAIVED,
+    WARNED, WITH_FAULTS, combine_statuses)
 from ..request.commands import STATE, make_index_path
 from ..results.files import (
     ENDING, NO_CLOCK, Row, TestCase, sort_rows, make_junit_file, read_result, read_results,
@@ -45,8 +45,8 @@ th { background: var(--shade); font-weight: 600; }
 caption { text-align: left; color: var(--soft); font-size: 13px; }
 .pairs thead th { position: sticky; top: 0; overflow-wrap: normal; }
 td.verdict { font-weight: 600; white-space: nowrap; border-left: 4px solid; }
-.accepted .verdict, .as-shown .verdict { color: var(--good); }
-.refused .verdict, .shown-with-faults .verdict { color: var(--bad); }
+.accepted .verdict, .as-shown .verdict, .same .verdict { color: var(--good); }
+.refused .verdict, .shown-with-faults .verdict, .differs .verdict { color: var(--bad); }
 .waived .verdict { color: var(--soft); } .lost .verdict { color: var(--lost); }
 .warned .verdict, .relative .verdict, .not-judged .verdict, .not-read .verdict,
 .estimated { color: var(--amber); }
@@ -62,7 +62,8 @@ fieldset { border: 1px solid var(--line); display: flex; flex-wrap: wrap; gap: 4
 """)
 VERDICT_SIGNS = {ACCEPTED: "\u2713", VALID: "\u25a1", WAIVED: "\u2212", REFUSED: "\u2715",
                  LOST: "\u29d6", WARNED: "!", NOT_JUDGED: "?", RELATIVE: "\u223c",
-                 AS_SHOWN: "\u2713", WITH_FAULTS: "\u2715", NOT_READ: "?"}
+                 AS_SHOWN: "\u2713", WITH_FAULTS: "\u2715", NOT_READ: "?", SAME: "\u2713",
+                 DIFFERS: "\u2715"}
 PAGE_HEADS = ("Verdict", "Pair", "What is wrong", "Faults", "Files")
 MAX_CAUSES = 6
 MAX_PAGE_PAIRS = 5000  # a page with 100,000 pairs would have 38 MB
@@ -114,7 +115,8 @@ def make_cause_totals(rows: Sequence[Row]) -> Markup:
 def make_sort_key(row: Row) -> tuple[int, str]:
     """Return a key that sorts refused pairs first, then pairs that were not judged, then waived and
     relative pairs and subtitle files without a recording, and accepted pairs last."""
-    ranks = {NOT_JUDGED: 1, NOT_READ: 1, WAIVED: 2, RELATIVE: 2, VALID: 2, ACCEPTED: 3, AS_SHOWN: 3}
+    ranks = {NOT_JUDGED: 1, NOT_READ: 1, WAIVED: 2, RELATIVE: 2, VALID: 2, ACCEPTED: 3, AS_SHOWN: 3,
+             SAME: 3}
     return ranks.get(row.verdict, 0), row.name
 
 

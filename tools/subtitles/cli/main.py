@@ -12,7 +12,8 @@ from ..common.command_line import Stop, ToolParser, UsageError
 from ..common.files import OutputIsInput, make_safe_name
 from ..request.lines import describe_mode_conflict, needs_recording, read_options
 from ..request.request import (
-    ALONE, BATCH, COLLECT, MEASURE, Mode, OPTIONS, Option, PAIR, WATCH, add_options, find_conflict)
+    ALONE, BATCH, COLLECT, MEASURE, Mode, OPTIONS, Option, PAIR, WATCH, add_options, check_time,
+    find_conflict)
 from ..results import files
 
 
@@ -49,6 +50,12 @@ MODE_OPTIONS = (
            "recordings, given as pairs or as a list of pairs", (MEASURE,), field="measure",
            nargs="+"))
 CALL_OPTIONS = (
+    Option("--reference", "RECORDING", "judge by [another recording](#two-recordings), not by a "
+           "subtitle file", (PAIR,), field="reference"),
+    Option("--reference-start", "TIME", "take TIME as the time code of the first picture of the "
+           "reference", (PAIR,), field="reference_start", read=check_time),
+    Option("--same-start", None, "the first pictures of both recordings have the same time",
+           (PAIR,), field="is_same_start", default=False),
     Option("--file-only", None, "judge the subtitle file alone, or each subtitle file in FOLDER",
            (ALONE, BATCH), field="is_file_only", default=False),
     Option("-o", "DIR", "write the report, the list of faults and the JSON result to DIR", CALLS,
@@ -85,6 +92,8 @@ def find_mode(args: argparse.Namespace) -> Mode:
     values = {BATCH: args.batch, COLLECT: args.collect, WATCH: args.watch,
               MEASURE: args.measure}
     given_modes = [mode for mode, value in values.items() if value is not None]
+    if args.reference is not None and not given_modes and not args.is_file_only:
+        return PAIR
     if len(given_modes) > 1:
         raise UsageError(f"{given_modes[0].text} and {given_modes[1].text} can't be given together")
     if given_modes and args.stl is not None:
@@ -212,6 +221,12 @@ def dispatch(text: str, program_name: str, line: list[str]) -> int:
     if mode is not BATCH and (conflict := find_conflict(typed)):
         raise UsageError(conflict)
     args = read_options(make_parser(text), line, {}, {}, is_typed=True)
+    if args.reference is not None:
+        from . import reference  # only loaded if needed
+        reference.refuse_options(args, list_given_options(make_parser(text), line))
+        return reference.judge_reference(args, program_name)
+    if args.reference_start or args.is_same_start:
+        raise UsageError("--reference-start and --same-start need --reference")
     if args.is_kept and args.out is None:
         raise UsageError("--keep needs -o DIR, the folder for the recording")
     args.out = args.out and make_safe_name(args.out)

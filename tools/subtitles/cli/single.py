@@ -11,7 +11,7 @@ import re
 import signal
 import stat
 import time
-from typing import Callable, Iterator, Mapping, NamedTuple, TypeVar
+from typing import Callable, Iterator, Mapping, NamedTuple, Protocol, TypeVar
 
 from ..common.command_line import (
     BUG, ProgramInterrupted, RESOURCE, SIGNAL, Stop, classify_error, counted, discard_output,
@@ -27,8 +27,8 @@ from ..formats.stl_writer import PUB, READ_PUBLISHER
 from ..judging.causes import format_cause_counts
 from ..judging.faults import list_hints
 from ..judging.pair import PairJudge
-from ..judging.status import ACCEPTED, AS_SHOWN, NOT_JUDGED, RELATIVE, Severity, VALID
-from ..judging.verdict import FailedOutput, Unjudged, Verdict
+from ..judging.status import ACCEPTED, AS_SHOWN, NOT_JUDGED, RELATIVE, SAME, Severity, VALID
+from ..judging.verdict import FailedOutput, SCOPE_FILE, SCOPE_PAIR, Unjudged, Verdict
 from ..recording.recording import Recording
 from ..request.commands import (
     CommandPaths, Listener, LOCK, MOVED_STL, OutputNames, PartFiles, Progress, Printer, STATE,
@@ -270,7 +270,23 @@ def refuse_outputs(call: PairOptions, request: Request, out: str | None, name: s
         refuse_pair_files(out, name, inputs)
 
 
-def judge_pair(pair: PairJudge, files: OutputFiles) -> None:
+class PairSteps(Protocol):
+    """What `judge_pair` needs of a judge, such as `PairJudge`."""
+
+    verdict: Verdict
+
+    @property
+    def recording(self) -> Recording | None:
+        ...
+
+    def judge(self) -> None:
+        ...
+
+    def stop(self, now: str) -> str:
+        ...
+
+
+def judge_pair(pair: PairSteps, files: OutputFiles) -> None:
     """Judge a pair and write its output files. The verdict says why a pair is not judged."""
     verdict, start_time = pair.verdict, time.monotonic()
     try:
@@ -364,7 +380,7 @@ def print_verdict(verdict: Verdict, printer: Printer, page: str | None = None) -
 def format_reference(verdict: Verdict, page: str | None) -> str:
     """Return a sentence that refers the reader to the report or, if there is no report, to the
     manual's section about the worst fault. Return an empty string if there is no fault."""
-    if verdict.word in (ACCEPTED, VALID, AS_SHOWN) or \
+    if verdict.word in (ACCEPTED, VALID, AS_SHOWN, SAME) or \
             verdict.word == RELATIVE and not verdict.fault_count:
         return ""
     if page:
@@ -487,7 +503,8 @@ class OutputFiles:
         if self.call.is_kept and recording and ending:
             lists.append(Output(self.names.make_final_path(ending), recording.read_kept_data, True,
                                 is_raw=True))
-        if self.verdict.request.is_reading and self.verdict.is_judged and self.verdict.stl:
+        if self.verdict.scope not in (SCOPE_PAIR, SCOPE_FILE) and self.verdict.is_judged and \
+                self.verdict.stl:
             lists.append(Output(self.names.make_final_path("stl"), lambda: read_chunks(
                 self.verdict.request.original_path), True, is_raw=True))
         return lists

@@ -107,6 +107,10 @@ AS_SHOWN, WITH_FAULTS, NOT_READ = "as shown", "shown with faults", "not read"
 READING_STATUSES = {AS_SHOWN: 0, WITH_FAULTS: 1, NOT_READ: OTHER_STATUS}
 POSSIBLE_READINGS = [*READING_STATUSES.items(), (NOT_READ, USAGE_STATUS), (NOT_READ, BUG_STATUS)]
 NO_VERDICTS = (NOT_JUDGED, NOT_READ)
+# The verdicts on a recording that was judged by another recording. Others are `relative` and `not
+# judged`.
+SAME, DIFFERS = "same", "differs"
+COMPARISON_STATUSES = {SAME: 0, DIFFERS: 1}
 
 NOT_ANSWERED = "check gave no verdict"
 NOT_CHECKED = "required but not checked"
@@ -163,7 +167,7 @@ class Decision(NamedTuple):
         if self.not_judged_kind:
             return STATUSES_BY_KIND[self.not_judged_kind]
         return 0 if self.word == RELATIVE and self.is_relative_allowed else \
-            (STATUSES | READING_STATUSES)[self.word]
+            (STATUSES | READING_STATUSES | COMPARISON_STATUSES)[self.word]
 
 
 def decide_part(summary: CheckSummary) -> str:
@@ -220,13 +224,30 @@ def decide_reading(grounds: Grounds, is_cut: bool, untrusted_frames: int) -> Dec
     not erased. `check` then does not accept it, but trusts each of its frames, and the main theorem
     holds for trusted frames as well. All other faults forbid `as shown`, even if they are warnings.
     """
+    found = decide_with_cut(grounds, is_cut, untrusted_frames)
+    if found.word == NOT_JUDGED:
+        return found._replace(word=NOT_READ)
+    return Decision(AS_SHOWN if found.word == ACCEPTED else WITH_FAULTS)
+
+
+def decide_comparison(grounds: Grounds, is_cut: bool, untrusted_frames: int) -> Decision:
+    """Return the verdict on a recording that was judged by another recording. The arguments are
+    those of `decide_reading`, for the frames that both recordings cover."""
+    found = decide_with_cut(grounds, is_cut, untrusted_frames)
+    if found.word in (NOT_JUDGED, RELATIVE):
+        return found
+    return Decision(SAME if found.word == ACCEPTED else DIFFERS)
+
+
+def decide_with_cut(grounds: Grounds, is_cut: bool, untrusted_frames: int) -> Decision:
+    """Return the verdict of `decide`, but `refused` for all losses and waived faults, and
+    `accepted` if the only fault is 74, because the recording ends while the page is shown."""
     if is_cut and not untrusted_frames and [is_only_cut(part) for part in grounds.parts] == [True]:
         grounds = grounds._replace(parts=[CheckSummary(0, True, is_read=grounds.parts[0].is_read)])
     found = decide(grounds)
-    if found.word == NOT_JUDGED:
-        return found._replace(word=NOT_READ)
-    is_accepted = found.word == ACCEPTED and not any(grounds.judged_losses)
-    return Decision(AS_SHOWN if is_accepted else WITH_FAULTS)
+    has_fault = any(decide_part(part) == REFUSED for part in grounds.parts) or \
+        any(grounds.judged_losses) or bool(grounds.named_faults)
+    return Decision(REFUSED) if has_fault and found.word != NOT_JUDGED else found
 
 
 def is_only_cut(part: CheckSummary) -> bool:

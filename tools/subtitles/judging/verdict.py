@@ -33,8 +33,10 @@ from .unchecked import Unchecked, list_check_entries, summarize_pictures
 from .waivers import Waiver
 
 
-# What was judged: a recording by a subtitle file, a subtitle file alone, or a recording alone
-SCOPES = SCOPE_PAIR, SCOPE_FILE, SCOPE_READING = "pair", "file", "reading"
+# What was judged: a recording by a subtitle file, a subtitle file alone, a recording alone, or a
+# recording by another recording
+SCOPES = SCOPE_PAIR, SCOPE_FILE, SCOPE_READING, SCOPE_REFERENCE = (
+    "pair", "file", "reading", "reference")
 # Faults that may delay a page. Without them, and with --within 0, each page is complete at its TCI.
 DELAYING_FAULTS = {*range(30, 33), 44, 45, 60, 62, 63, 71, 72, 74, 77}
 

@@ -280,8 +280,10 @@ class CueList:
         """Return the caption of the cue list, which explains its columns."""
         subtitle_rows = [row for row in self.rows if not row.is_pause]
         row_classes = collections.Counter(row.row_class for row in subtitle_rows)
+        is_reading = self.part.doubts is not None
         counts = ", ".join(f"{row_classes[row_class]:,} {word}" for word, row_class in
-                           ROW_CLASSES.items() if row_classes[row_class])
+                           ROW_CLASSES.items() if row_classes[row_class]
+                           and (word in (CERTAIN, NOT_CERTAIN)) == is_reading)
         words = f"{counted(len(subtitle_rows), 'subtitle')}: {counts}. Expected: TCI and TCO."
         if self.part.recording:
             words += " Received: the first frame at whose end a receiver has the page, and the " \

@@ -22,7 +22,7 @@ from ..judging.faults import describe_hint
 from ..judging.part import Part, belongs_to_part, find_lost_spans
 from ..judging.sentence import FAULT_CLAUSES, rank_number
 from ..judging.status import (
-    ACCEPTED, AS_SHOWN, LOST, NOT_JUDGED, NOT_READ, REFUSED, RELATIVE, VALID, WAIVED, WARNED)
+    ACCEPTED, AS_SHOWN, LOST, NOT_JUDGED, NOT_READ, REFUSED, RELATIVE, SAME, VALID, WAIVED, WARNED)
 from ..judging.verdict import SCOPE_READING, Verdict, count_fault_numbers, summarize_delays
 from ..request.commands import CommandPaths
 from ..recording.recording import Recording
@@ -52,7 +52,7 @@ SHAPES = {
                                   '40 46 28"/>')),
     NOT_JUDGED: ("unjudged", markup('<path d="M31 4L58 31L31 58L4 31z"/><path d="M23 25Q23 17 31 '
                                     '17Q39 17 39 24Q39 29 31 32V37M31 41V46"/>'))}
-SHAPES |= {AS_SHOWN: SHAPES[ACCEPTED], NOT_READ: SHAPES[NOT_JUDGED]}
+SHAPES |= {AS_SHOWN: SHAPES[ACCEPTED], SAME: SHAPES[ACCEPTED], NOT_READ: SHAPES[NOT_JUDGED]}
 MAX_LINES = 5  # number of places to show; a longer list is folded
 LOST_TITLE = "TS packets are missing from the recording, which could not be checked there"
 NAMED_FAULTS_TITLE = "Faults without a number"
@@ -86,7 +86,7 @@ def make_verdict_box(verdict: Verdict) -> Markup:
                   for item in (verdict.unjudged_reason or "").splitlines()[1:]]
         parts += [markup('<p>Type <code class="long">{}</code></p>', item)
                   for item in verdict.suggestions]
-    elif verdict.word not in (ACCEPTED, VALID, AS_SHOWN):
+    elif verdict.word not in (ACCEPTED, VALID, AS_SHOWN, SAME):
         parts.append(make_advice(verdict))
     notes = [*verdict.notes, *(item.format_warning() for item in verdict.warnings), *dict.fromkeys(
         part.drawing_differences for part in verdict.parts if part.drawing_differences)]

@@ -248,8 +248,8 @@ OPTIONS: tuple[Option, ...] = (
 ACCEPTED = "acceptance"
 GROUPS = {
     "input": ("--page", "--option", "--pid", "--breaks", "--pes", "--from", "--to", "--layout",
-              "--open", "--profile", "-p"),
-    "clock": ("--origin", "--start", "--relative", "--late"),
+              "--open", "--profile", "--reference", "-p"),
+    "clock": ("--origin", "--start", "--reference-start", "--same-start", "--relative", "--late"),
     ACCEPTED: (),
     "output": ("-o", "--keep", "--json", "--csv", "--junit", "--quiet"),
     "many pairs": ("--batch", "--collect", "--watch", "--measure", "--resume", "--line", "--jobs",

@@ -23,9 +23,10 @@ from ..judging.cues import (
 from ..judging.faults import make_faults
 from ..judging.part import Part
 from ..judging.status import (
-    ACCEPTED, NO_VERDICTS, NOT_JUDGED, POSSIBLE_READINGS, POSSIBLE_RESULTS, READING_STATUSES,
-    REFUSED, RELATIVE, STATUSES, VALID)
-from ..judging.verdict import SCOPE_FILE, SCOPE_PAIR, SCOPE_READING, SCOPES, Verdict
+    ACCEPTED, COMPARISON_STATUSES, NO_VERDICTS, NOT_JUDGED, POSSIBLE_READINGS, POSSIBLE_RESULTS,
+    READING_STATUSES, REFUSED, RELATIVE, STATUSES, VALID)
+from ..judging.verdict import (
+    SCOPE_FILE, SCOPE_PAIR, SCOPE_READING, SCOPE_REFERENCE, SCOPES, Verdict)
 from ..judging.waivers import WAIVABLE
 from ..request.request import CHOICES, list_request_members
 
@@ -41,7 +42,8 @@ KIND = make_named_shape("kind", OneOf(*KINDS))
 KIND_NOTE = "The kind of that reason: `usage` (wrong arguments, also in a list), `input` (a file " \
     "is missing or wrong), `undecided`, `resource` (device, memory, time or another process), " \
     "`signal` or `bug`."
-WORD = make_named_shape("word", OneOf(*STATUSES, *READING_STATUSES))
+WORD = make_named_shape("word", OneOf(
+    *STATUSES, *READING_STATUSES, *COMPARISON_STATUSES))
 
 FILE_AT_START = Record(
     "file_at_start", "",
@@ -365,8 +367,10 @@ JOINT_RULES = Rules([
      TEXT if word in (REFUSED, WAIVED) else Maybe(TEXT),
      "reason": TEXT if word in NO_VERDICTS else NOTHING,
      "not_judged_kind": OneOf(*list_kinds(status)) if word in NO_VERDICTS else NOTHING,
-     "scope": OneOf(SCOPE_READING) if word in READING_STATUSES else OneOf(SCOPE_PAIR, SCOPE_FILE)}
-    for word, status in [*POSSIBLE_RESULTS, *POSSIBLE_READINGS]])
+     "scope": OneOf(SCOPE_READING) if word in READING_STATUSES else
+     OneOf(SCOPE_REFERENCE) if word in COMPARISON_STATUSES else
+     OneOf(SCOPE_PAIR, SCOPE_FILE, *[SCOPE_REFERENCE] * (word in (RELATIVE, NOT_JUDGED)))}
+    for word, status in [*POSSIBLE_RESULTS, *POSSIBLE_READINGS, *COMPARISON_STATUSES.items()]])
 # Without a clock no pair is accepted or waived. Only a subtitle file without a recording is valid,
 # and it is never accepted. The verdict `relative` has status 0 only with --relative.
 IS_FILE: dict[str, Shape | Rules] = {"recording": NOTHING}
@@ -376,7 +380,7 @@ RELATIVE_RULES = Rules([{"relative": OneOf(True)}])
 TIME_RULES = Rules([
     {"verdict": OneOf(*(word for word in STATUSES
                         if word not in (ACCEPTED, VALID, WAIVED, RELATIVE)),
-                      *READING_STATUSES)},
+                      *READING_STATUSES, *COMPARISON_STATUSES)},
     {"verdict": OneOf(ACCEPTED), "request": Rules(HAS_CLOCK)},
     {"verdict": OneOf(WAIVED), "request": Rules([*HAS_CLOCK, IS_FILE])},
     {"verdict": OneOf(VALID), "request": Rules([IS_FILE])},
@@ -428,7 +432,8 @@ VERDICT = Record(
     Member("not_judged_kind", Maybe(KIND), KIND_NOTE,
            lambda known: known.verdict.not_judged_kind),
     Member("scope", OneOf(*SCOPES), "What was judged: `pair` (a recording by a subtitle file), "
-           "`file` (a subtitle file alone) or `reading` (a recording alone).",
+           "`file` (a subtitle file alone), `reading` (a recording alone) or `reference` (a "
+           "recording by another).",
            lambda known: known.verdict.scope),
     Member("reading", Maybe(READING), "Null unless a recording was judged alone.",
            lambda known: known.verdict.describe_reading()),

@@ -6,23 +6,23 @@ import contextlib
 import os
 from typing import Any, Iterator, NamedTuple, Sequence
 
-from ..cli.main import CALL_OPTIONS, report_failures
-from ..cli.single import (
-    OutputFiles, PairOptions, judge_pair, lock_pair, make_verdict, refuse_file, refuse_outputs,
-    refuse_pair_files, remove_results, report_pair)
 from ..common.command_line import Stop, ToolParser, UsageError, decode_page
 from ..common.files import (
     Inputs, STANDARD, STANDARD_OUTPUTS, make_safe_name, make_temporary_folder, read_stamp)
 from ..common.times import begin_day_at
 from ..formats.teletext import Page, page_name
 from ..judging.status import combine_statuses
+from ..reading.judge import ReadingJudge
+from ..reading.result import ReadingVerdict
 from ..recording.recording import Recording
 from ..request.commands import CommandPaths, Listener, OutputNames, Printer, Progress
 from ..request.request import OPTIONS, Option, Request, Unclear, add_options, make_file_request
 from ..results.files import describe_inputs
 from ..stream.survey import SUBTITLE_KINDS, Survey
-from .judge import ReadingJudge
-from .result import ReadingVerdict
+from .main import CALL_OPTIONS, report_failures
+from .single import (
+    OutputFiles, PairOptions, judge_pair, lock_pair, make_verdict, refuse_file, refuse_outputs,
+    refuse_pair_files, remove_results, report_pair)
 
 
 OWN_OPTIONS = ("--page", "--pid", "--pes", "--origin", "--start", "--every", "--within",
