@@ -32,6 +32,8 @@ LINES = {
                                  f"line 1: 0001-01-01T00:00:00+23:00 {NO_TIME}"),
     "an end before it": ("2026-12-01T08:00:00Z/2026-12-01T07:00:00Z news.stl", "line 1: "
                          "2026-12-01T08:00:00Z/2026-12-01T07:00:00Z ends before it begins"),
+    "an end at its begin": ("2026-12-01T08:00:00Z/2026-12-01T08:00:00Z news.stl", "line 1: "
+                            "2026-12-01T08:00:00Z/2026-12-01T08:00:00Z ends before it begins"),
     "a time alone": ("2026-12-01T08:00:00Z", "line 1: it has no subtitle file: write the air "
                      "time, then the subtitle file"),
     "a wrong option": ("2026-12-01T08:00:00Z news.stl --colour",
@@ -39,6 +41,9 @@ LINES = {
     "a place in a recording": ("2026-12-01T08:00:00Z news.stl --start 10:00:00:00",
                                "line 1: --start and --pes depend on where the programme is in the "
                                "segments, which is not known: remove them"),
+    "PES packets of a recording": ("2026-12-01T08:00:00Z news.stl --pes 0-9",
+                                   "line 1: --start and --pes depend on where the programme is in "
+                                   "the segments, which is not known: remove them"),
     "a quote": ("2026-12-01T08:00:00Z 'news.stl", "line 1: a quote is not closed"),
 }
 # Times in the nights in which the clocks in Berlin change, and the names of their results.

@@ -179,6 +179,11 @@ class Recorded(AirCase):
     def recorder(self, length: float = 10, kept: float = 1000, free: int = 0) -> Recorder:
         return Recorder(self.path("segments"), Limits(length, kept, free))
 
+    def test_never_deletes_the_last_segment_of_an_earlier_recorder(self) -> None:
+        self.put_segments(0, 20)  # two segments
+        recorder = self.recorder()
+        self.check("deleted", [recorder.delete_first() for _ in range(3)], [True, False, False])
+
     def read_segments(self) -> list[tuple[float, bytes]]:
         return [(round(begin - DAY, 3), self.read(f"segments/{name}"))
                 for begin, name in list_segment_names(self.path("segments"))]

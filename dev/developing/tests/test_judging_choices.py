@@ -143,7 +143,7 @@ class Choices(Case):
         manual = read(os.path.join(TOP, "docs", "manual", "qc.md")) or ""
         rule = manual.partition('<a id="what-qc-chooses">')[2].partition("<a id=")[0]
         rule = " ".join(rule.split())
-        words = {"pid": "the announced PID", "origin": "a clock",
+        words = {"pid": "the PID that carries the page", "origin": "a clock",
                  "pes": "the PES packets of the programme", "pace": "a pace",
                  "option": "`--option`"}
         for what in CHOICES:

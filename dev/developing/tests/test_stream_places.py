@@ -240,7 +240,7 @@ class PaceOptions(Case):
         for item in request:
             words = REQUEST.to_json(item)
             known = {"request": words, "files_at_start": describe_inputs(item),
-                     "program": PROGRAM.to_json(program)}
+                     "program": PROGRAM.to_json(program), "waivers": []}
             self.must(f"{item.pace}", [is_current(known, other, program) for other in request] ==
                       [other == item for other in request])
             del words["pace"]
