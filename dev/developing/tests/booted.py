@@ -13,6 +13,7 @@ SYSTEMD = "/lib/systemd/systemd"
 # Starts systemd in a control group of its own. At the end of standard input, also if the test was
 # killed, kills it and removes the group.
 START = r"""
+trap '' HUP INT TERM
 mkdir cgroup upper root && mount -t cgroup2 none cgroup || exit
 group=$PWD/cgroup/subttx-test-$$
 mkdir "$group" || exit
@@ -30,7 +31,6 @@ BOOT = r"""
 mount -t tmpfs none upper
 mkdir upper/upper upper/work
 mount -t overlay -o lowerdir=/,upperdir=upper/upper,workdir=upper/work none root
-mount --bind "$1" "root$1"
 cd root
 rm -rf etc/fstab etc/systemd/system lib/systemd/system/*.wants
 mkdir etc/systemd/system
@@ -41,6 +41,8 @@ mount -t cgroup2 none sys/fs/cgroup || { mount -t tmpfs none sys/fs && mkdir sys
     mount -t cgroup2 none sys/fs/cgroup; }
 for folder in run tmp dev; do mount -t tmpfs -o mode=755 none $folder; done
 chmod 1777 tmp
+mkdir -p ".$1"
+mount --bind "$1" ".$1"
 for name in null zero full random urandom tty; do
     touch dev/$name
     mount --bind /dev/$name dev/$name

@@ -19,7 +19,7 @@ MANUAL = os.path.join(TOP, "docs", "manual")
 RECORD_UNIT, JUDGE_UNIT = "subttx-air-record@.service", "subttx-air-judge@.service"
 WATCH_UNIT = "subttx-watch@.service"
 STATE = "/var/lib/"  # the folder of StateDirectory=
-FOLDER_IN = "/srv/in"  # the watched folder
+FEED, FOLDER_IN = "/srv/feed.ts", "/srv/in"  # what is recorded, and the watched folder
 COPIED_UNIT = "subttx-air-judge.service"  # a unit that the manual of version 3.0.0 had
 # For each unit, the argument that precedes the folder to which its command writes.
 UNITS = {RECORD_UNIT: "record", JUDGE_UNIT: "-o", WATCH_UNIT: "-o"}
@@ -102,11 +102,12 @@ class RunningUnits(Case):
         self.system = BootedSystem(self.folder)
         self.addCleanup(self.system.stop)
         with open(os.path.join(MANUAL, "subttx-channel.conf"), encoding="utf-8") as file:
-            text = re.sub("^RECEIVER=.*", f"RECEIVER=tail -c +1 -f {EXAMPLES}/recording.ts",
-                          file.read(), flags=re.M)
+            text = re.sub("^RECEIVER=.*", f"RECEIVER=tail -c +1 -f {FEED}", file.read(),
+                          flags=re.M)
         text = re.sub("^IN=.*", f"IN={FOLDER_IN}", text, flags=re.M)
         os.mkdir(self.system.path("/etc/subttx"))
         os.mkdir(self.system.path(FOLDER_IN))
+        shutil.copy(os.path.join(EXAMPLES, "recording.ts"), self.system.path(FEED))
         self.put("/etc/subttx/one.conf", text.replace("NAME", "one"))
         self.put("/etc/subttx/wrong.conf", re.sub(
             "^(RECORD|JUDGE|WATCH)=.*", r"\g<0> --no-such-option", text, flags=re.M))
