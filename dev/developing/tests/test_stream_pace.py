@@ -409,8 +409,7 @@ class Losses(ProgrammeCase):
                           line.startswith("refused 45") for line in judged.listed), judged.listed)
         judged = self.judge_stream(remove_pid_packets(multiplex, first, 16))
         self.must("how long", judged.sentence ==
-                  "Refused: at 10:00:26:11, there was no PES packet for as many frames as --pace "
-                  "allows: no PES packet for 16 frames from 10:00:26:10 on.",
+                  "Refused: there was no PES packet for 16 frames from 10:00:26:10 on.",
                   judged.verdict.sentence)
 
     def test_reports_losses_with_two_pes_packets_a_frame(self) -> None:

@@ -402,7 +402,7 @@ def describe_first_fault(facts: Facts) -> str:
     if facts.hint and fault.number in HINTS_ON_ALL:
         words, place = f"from {place} on, {facts.hint}", ""
     elif facts.hint and fault.number == SILENT:
-        words, place = facts.hint, ""
+        words, place = f"there was {facts.hint}", ""
     elif facts.hint:
         words = facts.hint if fault.number in HINTS_FOR_CLAUSE else f"{words}: {facts.hint}"
     place = place and f"{'at' if fault.time else 'in'} {place.removesuffix(',')}, "
