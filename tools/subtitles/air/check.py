@@ -90,13 +90,13 @@ class BeginCheck(NamedTuple):
         """Add a note to the verdict if the programme began within the margins of its air time.
         Raise `Unclear` if it began later, or if the pair is refused and the recording may lack the
         beginning of the programme."""
-        if not verdict.parts or verdict.word == NOT_JUDGED:
+        part = verdict.parts[0] if verdict.parts and verdict.word != NOT_JUDGED else None
+        # The subtitle file itself is refused if there is no alignment.
+        if part is None or part.alignment is None or part.pes is None:
             return
-        part, date = verdict.parts[0], single.now(self.air_time)
+        date = single.now(self.air_time)
         words = f"{self.late:g} s of {date}" if self.early == self.late else \
             f"{self.early:g} s before and {self.late:g} s after {date}"
-        if part.alignment is None or part.pes is None:  # the subtitle file itself is refused
-            return
         pid, _ = part.stream or (0, 0)
         missing_seconds = count_seconds_before_first(part)
         if verdict.word not in CORRECT_VERDICTS and missing_seconds > 0 and \

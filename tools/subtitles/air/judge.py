@@ -81,13 +81,13 @@ class Judge:
         waiting = self.waiting()
         self.monitor.waiting = len(waiting)
         self.monitor.late = [item.name for item in waiting if self.is_late(item, now)]
-        begins = [item.begin - item.early for item in waiting if item.begin - item.early < now]
         self.monitor.pages_on_air = {
             item.request.page for item in waiting if item.begin + item.late <= now
             <= self.window(item, self.read_delivery(item, now)).last}
         self.monitor.look(self.segments, self.out, now, self.program,
                           {item.request.page for item in self.schedule.programmes},
-                          min([now - 2 * self.args.margin, *begins]))
+                          min([now - 2 * self.args.margin,
+                               *(item.begin - item.early for item in waiting)]))
         write_state(self.out, self.monitor.make_contents())
 
     def read_schedule(self, now: float) -> None:
@@ -155,8 +155,7 @@ class Judge:
         others = [(item, self.read_delivery(item, now)) for item in self.schedule.programmes
                   if item.request.page == programme.request.page
                   and 0 < abs(item.begin - programme.begin) < 2 * self.args.margin]
-        waiting = self.waiting()
-        missing = [item for item, other in others if other.fault and item in waiting]
+        missing = [item for item, other in others if other.fault and item in self.waiting()]
         times = [(item.begin - programme.begin) / 2 for item, other in others
                  if item in missing or other.content == delivery.content]
         return programme._replace(

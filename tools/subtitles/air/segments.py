@@ -73,9 +73,8 @@ def list_segment_names(folder: str) -> list[TimedName]:
 def find_deleted(folder: str) -> float:
     """Return the time before which `record` has deleted all segments, or minus infinity. The names
     of other recorders do not show whether the oldest segment was the first."""
-    for begin, name in list_segment_names(folder)[:1]:
-        return begin if name == make_segment_name(begin) else -math.inf
-    return -math.inf
+    begin, name = [*list_segment_names(folder), (0.0, "")][0]
+    return begin if name == make_segment_name(begin) else -math.inf
 
 
 def find_segments(folder: str, begin: float, end: float) -> list[Segment]:
@@ -97,9 +96,8 @@ def compare_times(folder: str, names: Iterable[TimedName]) -> list[tuple[Segment
         path = os.path.join(folder, name)
         with contextlib.suppress(FileNotFoundError):
             info = os.stat(path)
-            end = max(begin, info.st_mtime)
-            found.append((Segment(path, info.st_size, begin, end, name.endswith(NEW)),
-                          info.st_mtime))
+            found.append((Segment(path, info.st_size, begin, max(begin, info.st_mtime),
+                                  name.endswith(NEW)), info.st_mtime))
     before = [-math.inf, *(write for _, write in found)]
     after = [*(segment.begin for segment, _ in found[1:]), math.inf]
     return [(segment, write, segment.begin <= write + CLOCK_TOLERANCE and (
