@@ -108,6 +108,7 @@ class Programme(NamedTuple):
     arguments: Sequence[str] = ()
 
 
+TITLE = 0, 25  # a subtitle that is not sent
 OVER = [(-200, -150), (-50, 30), (60, 100), (160, 200)]
 PAUSE = [(-200, -150), (-120, -60), (60, 100), (160, 200)]
 WRONG = [HEADER, make_numbered_row(22, b"Wrong"), CLOSING]
@@ -133,7 +134,7 @@ PROGRAMMES: Mapping[str, tuple[Programme, str]] = {
         "--from", "23:59:56:00", "--to", "00:00:05:00")), "Accepted: all 2 subtitles"),
     "from midnight on": (Programme(OVER, list, ("--from", "00:00:00:00")),
                          "Accepted: all 2 subtitles"),
-    "after a title": (Programme([(0, 25), *OVER], list, ("--from", "23:59:52:00")),
+    "after a title": (Programme([TITLE, *OVER], list, ("--from", "23:59:52:00")),
                       "Accepted: all 4 subtitles"),
     "late": (Programme(OVER, delete_between(59, 74)), "Refused: subtitle 3 at 00:00:02:10, "
              "\"Number 3\", appeared 25 frames late"),
@@ -161,9 +162,9 @@ class MidnightCase(Case):
         """Write the subtitle file and the recording of a programme."""
         subtitles = [(begin, end, b"Number %d" % number)
                      for number, (begin, end) in enumerate(programme.times, 1)]
-        noon = write_subtitle_file(self, [(NOON + begin, NOON + end, text)
-                                          for begin, end, text in subtitles if begin or programme.times[0][1] > 25],
-                                   "noon.stl")
+        noon = write_subtitle_file(self, [
+            (NOON + begin, NOON + end, text) for begin, end, text in subtitles
+            if (begin, end) != TITLE], "noon.stl")
         sent = schedule_pages(self, noon, origin=TICKS * NOON)
         stl = self.write("film.stl", make_gsi_block(b"", 4, 4) + b"".join(
             make_subtitle_blocks(number, begin % MIDNIGHT, end % MIDNIGHT, 22, 2, text)
