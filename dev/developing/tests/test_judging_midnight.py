@@ -2,6 +2,7 @@
 from __future__ import annotations
 
 import itertools
+import os
 import shlex
 from typing import Callable, Mapping, NamedTuple, Sequence
 
@@ -194,10 +195,22 @@ class Programmes(MidnightCase):
             judged = self.judge(late._replace(arguments=("--severity", path)))
             self.check(f"{name} {time}", judged.result["verdict"], word)
 
+    def test_judges_into_the_folder_of_the_files_again(self) -> None:
+        stl, _ = self.write_programme(Programme(OVER))
+        os.rename(stl, self.path("late film.v2.stl"))
+        os.rename(self.path("film.pes"), self.path("late film.v2.pes"))
+        os.unlink(self.path("noon.stl"))
+        os.unlink(self.path("planned.pes"))
+        for name in ("first", "again"):
+            call = self.tool("qc", "--batch", self.folder, "-o", self.folder, "--no-complete",
+                             "--relative")
+            self.check(name, (call.status, call.out.decode().splitlines()[-1]),
+                       (0, "1 pair: 1 relative"))
+
     def test_prints_a_check_command_that_a_user_can_run(self) -> None:
         judged = self.judge(Programme(OVER))
         command = shlex.split(judged.verdict.commands[-1])
-        self.check("its file", command[2], self.path("out/one.midnight.stl"))
+        self.check("its file", command[2], self.path("out/one.midnight.copy"))
         status, lines = self.program(*command[1:])
         self.check("its result", (status, lines[-1]), (0, judged.result["line"].split(";")[0]))
         self.check("the note", judged.result["notes"], [

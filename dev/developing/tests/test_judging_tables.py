@@ -303,7 +303,7 @@ class NamesOfFiles(Case):
                 pass
         result = [os.path.basename(path) for path in list_pair_files(out, "one")]
         self.must("own", sorted(result) == sorted([*own, "one.cut.pes", "one.recording.pes",
-                                                   "one.recording.ts", "one.midnight.stl",
+                                                   "one.recording.ts", "one.midnight.copy",
                                                    "one.txt", "one.html", "one.json"]), result)
         for name in ("a[1]", "a*", "a?"):
             path = self.write(f"out/{name}.1.txt", b"")

@@ -75,7 +75,7 @@ def is_own_file(path: str) -> bool:
     """Return whether these tools wrote a file. Examine the file's first bytes, or for a copy of an
     input the time at which it was written."""
     stem, ending = os.path.splitext(path)
-    if ending in (".pes", ".ts") or path.endswith(f".{MOVED_STL}"):
+    if ending in (".pes", ".ts", ".copy"):
         return is_kept_copy(path, f"{os.path.splitext(stem)[0]}.json")
     data = read_first_bytes(path, PREFIX_BYTES, is_followed=False)
     if not data or ending == f".{LOCK}":

@@ -69,7 +69,8 @@ def quote_command(*args: str) -> str:
 
 PART_ENDINGS = ("cut.pes", "txt", "html")
 KEPT_PES, KEPT_TS = "recording.pes", "recording.ts"  # suffixes of a kept recording
-MOVED_STL = "midnight.stl"  # suffix of the copy of a subtitle file that runs over midnight
+# suffix of the copy of a subtitle file that runs over midnight; a batch takes .stl for an input
+MOVED_STL = "midnight.copy"
 PAIR_ENDINGS = (*PART_ENDINGS, KEPT_PES, KEPT_TS, MOVED_STL, "json")
 LOCK = "lock"  # suffix of the lock file of a pair that is being judged
 INDEX = "index"  # name of the page with all pairs of a folder
