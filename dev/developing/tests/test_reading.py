@@ -279,8 +279,8 @@ class WholeCalls(Case):
             shown = result["subtitles"]
             self.check(name, (call.status, [row["cut"] for row in shown], self.list_verdicts()),
                        (0, cuts, [CERTAIN if cut is None else NOT_CERTAIN for cut in cuts]))
-            self.check(f"{name}: a note", "the page was blank all the time" in result["notes"],
-                       not cuts)
+            self.check(f"{name}: a note", ("the page was blank all the time" in result["notes"],
+                                           result["hints"]), (not cuts, []))
 
     def test_names_what_it_can_not_vouch_for(self) -> None:
         text, blank = [HEADER, ROW, CLOSING], [HEADER, CLOSING]

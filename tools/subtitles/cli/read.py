@@ -196,6 +196,8 @@ def read_command(args: argparse.Namespace, program_name: str) -> int:
                 statuses.append(verdict.status)
                 if len(pages) > 1 or not verdict.is_judged:
                     lines.append(f"{sent.name} {verdict.last_line}")
+                if verdict.is_stopped:
+                    break
             for text in lines:
                 reader.printer.print_line(text)
     return combine_statuses(statuses)

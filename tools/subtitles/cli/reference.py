@@ -9,6 +9,7 @@ from typing import Sequence
 from ..common.command_line import Stop, UsageError
 from ..common.files import (
     Inputs, STANDARD, STANDARD_OUTPUTS, make_safe_name, make_temporary_folder, sum_file)
+from ..common.times import begin_day_at
 from ..judging.status import AS_SHOWN
 from ..reading.judge import ReadingJudge
 from ..reading.reference import ReferenceJudge, ReferenceVerdict
@@ -77,8 +78,9 @@ def judge_reference(args: argparse.Namespace, program_name: str) -> int:
                 remove_results(call.out, names.name)
             verdict.files_at_start = {**describe_inputs(request), "stl": None}
             judge = ReferenceJudge(verdict, paths, names, listener, files.needs_sums())
-            judge_pair(TwoRecordings(judge, args), files)
-            report_pair(verdict, printer, files)
+            with begin_day_at(0):  # reading a recording over midnight changes this
+                judge_pair(TwoRecordings(judge, args), files)
+                report_pair(verdict, printer, files)
     return verdict.status
 
 
@@ -119,5 +121,7 @@ class TwoRecordings:
                      False).judge()
         if verdict.word != AS_SHOWN or not verdict.reading:
             raise Unclear(f"{request.recording}, page {request.page_name}: {verdict.last_line}")
+        if verdict.reading.day_begin:
+            raise Unclear(f"{request.recording} runs over midnight: cut both recordings there")
         printer.print_line(f"{request.recording}: {verdict.last_line}")
         other.judge_by(verdict.reading, verdict.languages)

@@ -292,7 +292,8 @@ def judge_pair(pair: PairSteps, files: OutputFiles) -> None:
     try:
         pair.judge()
         files.call.examine(verdict)
-        verdict.hints = [*dict.fromkeys(list_hints(verdict))]  # parts may share a hint
+        if verdict.word not in (AS_SHOWN, SAME):
+            verdict.hints = [*dict.fromkeys(list_hints(verdict))]  # parts may share a hint
     except Unclear as unclear:
         verdict.unjudged = Unjudged(unclear.reason, unclear.kind, unclear.commands,
                                     isinstance(unclear, IncompleteAnswer))
