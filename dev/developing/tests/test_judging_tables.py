@@ -22,11 +22,13 @@ from subtitles.judging import desync, timing
 from subtitles.judging.pages import (
     ATTRIBUTES, describe_attribute_difference, describe_code, describe_extra_rows, describe_move,
     format_page_text, is_partial_page, is_text_moved, join_page_text)
+from subtitles.judging.pair import PairJudge
 from subtitles.judging.subtitles import OptionAdvice
 from subtitles.judging.timing import (
     PartSearch, find_subtitle_packets, list_timed_parts, report_estimated_origin)
 from subtitles.judging.transmissions import describe_control_bits
 from subtitles.judging.unchecked import summarize_pictures
+from subtitles.reading.judge import ReadingJudge
 from subtitles.recording.notices import (
     Notice, format_presence, format_duration, find_character_set_notices, find_count_notices,
     find_jump_notices, find_pause_notices, find_pmt_notices, find_repeat_notices)
@@ -101,6 +103,19 @@ class PartClocks(unittest.TestCase):
                 self.assertEqual([" decoding times jump" in text
                                   for text in summarize_pictures(found.unchecked)], [True],
                                  (source, count))
+
+
+    def test_subtitles_on_time_show_that_the_teletext_clock_did_not_jump(self) -> None:
+        subtitle: Any = SimpleNamespace(begin=10, end=20)
+        for judge, is_refused, within, late, expected in (
+                (PairJudge, False, 0, None, [5 + 10 * TICKS, 5 + 20 * TICKS]),
+                (PairJudge, True, 0, None, []), (PairJudge, False, 2, None, []),
+                (PairJudge, False, 0, "0:9", []), (ReadingJudge, False, 0, None, [])):
+            part: Any = SimpleNamespace(
+                is_refused=is_refused, request=SimpleNamespace(within=within, late=late),
+                judged_recording=(None, SimpleNamespace(origin=5)))
+            changes = judge.list_timely_changes(mock.Mock(), part, [subtitle])
+            self.assertEqual(changes, expected, (judge, is_refused, within, late))
 
 
 class Notices(Case):

@@ -477,16 +477,21 @@ class PairJudge:
     def check_pictures(self, part: Part, subtitles: Sequence[Subtitle]) -> None:
         """Add a fault for each interval in which the pictures drift from the subtitles."""
         recording, alignment = part.judged_recording
-        are_on_time = not (part.is_refused or part.request.within or part.request.late)
-        changes = [pts_of(frame, alignment.origin) for item in subtitles
-                   for frame in (item.begin, item.end)] if are_on_time else []
         faults, notes, unchecked, is_made = find_desync(
             recording.survey, recording.packets.pid, alignment, part.request.within, part.number,
-            part.list_pts(), changes)
+            part.list_pts(), self.list_timely_changes(part, subtitles))
         self.verdict.named_faults += faults
         self.verdict.unchecked += unchecked
         self.verdict.made_checks |= {(PICTURES, part.number)} if is_made else set()
         self.listener.add_notes(*notes)
+
+    def list_timely_changes(self, part: Part, subtitles: Sequence[Subtitle]) -> list[int]:
+        """Return the PTS at which subtitles changed, if all did at their expected time. They show
+        that the Teletext clock did not jump before."""
+        if part.is_refused or part.request.within or part.request.late:
+            return []
+        origin = part.judged_recording[1].origin
+        return [pts_of(frame, origin) for item in subtitles for frame in (item.begin, item.end)]
 
     def make_expected_pages(self, request: Request, subtitles: list[Subtitle]) -> ExpectedPages:
         """Return the expected pages of subtitles. If the file has refused subtitles, draw the pages

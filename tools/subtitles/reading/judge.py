@@ -4,7 +4,7 @@ from __future__ import annotations
 import dataclasses
 import functools
 import os
-from typing import Iterator
+from typing import Iterator, Sequence
 
 from ..clock.start import Clock, GIVEN, NoFirstPicture, TimedPart, compute_start_clock
 from ..common.times import FRAMES_OF_A_DAY, Spans, format_frame
@@ -117,6 +117,10 @@ class ReadingJudge(PairJudge):
             if name := FAULTS_BY_WARNING.get(warning.kind):
                 self.verdict.warnings.remove(warning)
                 self.verdict.named_faults.append(NamedFault(name, warning.line, warning.time))
+
+    def list_timely_changes(self, part: Part, subtitles: Sequence[Subtitle]) -> list[int]:
+        """Return nothing, since the times of the subtitles come from the Teletext PTS."""
+        return []
 
     def explain(self, part: Part) -> Part:
         """Return a copy of a part without causes, since a cause says how the recording differs from
