@@ -71,7 +71,8 @@ def lines(classes: Mapping[str, CalledFunctions], kinds: Collection[Type[object]
 
     Keep the existing test classes of a module, since some classes run the module in another
     process. Add classes that call the module's functions; prefer classes that import the module.
-    The tests of a script are the classes whose source contains its name.
+    The tests of a script are the classes whose source contains its name. Keep the other lines, such
+    as that of `docs`.
     """
     names = {get_type_name(item) for item in kinds}
     standing = {module: {*tests} & names for module, tests in before.items()}
@@ -79,20 +80,23 @@ def lines(classes: Mapping[str, CalledFunctions], kinds: Collection[Type[object]
                  if not item.partition(":")[0].endswith("__init__.py")}
     modules = {get_type_name(item): inspect.getsource(sys.modules[item.__module__])
                for item in kinds}
-    for module in sorted({item.partition(":")[0] for item in functions} | {
-            item for item in standing if os.path.isfile(os.path.join(TOOLS, PACKAGE, item))}):
+    tested = {item.partition(":")[0] for item in functions} | {
+        item for item in standing if os.path.isfile(os.path.join(TOOLS, PACKAGE, item))}
+    for module in sorted(tested):
         own = [item for item in functions if item.startswith(f"{module}:")]
         taken = f"from subtitles.{module[:-3].replace('/', '.')} import "
         near = {item for item, text in modules.items() if taken in text and item in classes}
         some = chosen(own, classes, near, standing.get(module, ()))
         yield f"{module}\t{' '.join(some)}\n" * bool(some)
     texts = {get_type_name(item): inspect.getsource(item) for item in kinds}
-    for folder, prefix in ((TOOLS, ""), (DEV, "dev/")):
-        for name in sorted(os.listdir(folder)):
-            called = re.compile(rf"\b(?:tool|script|tool_path|typed)\(['\"]{re.escape(name)}['\"]")
-            named = {item for item, text in texts.items() if called.search(text)}
-            if named := named | standing.get(f"{prefix}{name}", set()):
-                yield f"{prefix}{name}\t{' '.join(sorted(named))}\n"
+    scripts = {f"{prefix}{name}": name for folder, prefix in ((TOOLS, ""), (DEV, "dev/"))
+               for name in os.listdir(folder)}
+    for row in sorted(scripts | {row: "" for row in standing.keys() - tested - scripts.keys()}):
+        name = scripts.get(row, "")
+        called = re.compile(rf"\b(?:tool|script|tool_path|typed)\(['\"]{re.escape(name)}['\"]")
+        named = {item for item, text in texts.items() if name and called.search(text)}
+        if named := named | standing.get(row, set()):
+            yield f"{row}\t{' '.join(sorted(named))}\n"
 
 
 def get_type_name(kind: Type[object]) -> str:

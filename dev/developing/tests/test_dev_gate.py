@@ -188,6 +188,7 @@ class SelectedTests(Case):
         classes = {runner.get_test_name(item).rpartition(".")[0] for item in everything}
         for module, tests in known.items():
             self.must(module, tests and {*tests} <= classes, {*tests} - classes)
+        self.check("classes without a row", sorted(classes - set[str]().union(*known.values())), [])
         for name, test in (("stream.layout", "test_stream_layouts."),
                            ("tools/qc", "test_cli_earlier_results.")):
             self.must(name, any(test in item for item in table.list_tests_of(name)))
@@ -197,3 +198,12 @@ class SelectedTests(Case):
         self.must("by name", all("test_dev_gate" in item.id()
                                  for item in runner.find_tests(["test_dev_gate."])))
         self.must("no module", not table.list_tests_of("subtitles.none"))
+
+    def test_a_new_table_keeps_the_rows_of_documents_and_scripts(self) -> None:
+        kinds = {type(item) for item in runner.find_tests([])}
+        before = {"docs": ["test_dev_gate.Scripts"], "dev/dist": ["test_dev_gate.Counts"],
+                  "gone": ["test_dev_gate.Gone"]}
+        rows = dict(line.rstrip("\n").split("\t") for line in table.lines({}, kinds, before))
+        self.check("documents", rows["docs"], "test_dev_gate.Scripts")
+        self.must("a script", "test_dev_gate.Counts" in rows["dev/dist"].split(), rows["dev/dist"])
+        self.check("deleted tests", rows.get("gone"), None)
