@@ -7,13 +7,11 @@ from typing import Any, Sequence
 from unittest import mock
 
 from subtitles.clock.alignment import (
-    CueOffset, Drift, EarlyCues, ExpectedCue, ExpectedSubtitle, MAX_BASES, MAX_CUE_OFFSET,
-    MAX_ERASED_FRAMES, MAX_REPEATED_TEXTS, MatchedChange, TimeBase, choose_clock, find_drift,
-    find_expected_cues, find_likeliest_clock, find_repeat, find_single_texts, find_time_bases,
-    select_time_bases, skip_repeats)
+    CueOffset, EarlyCues, ExpectedCue, ExpectedSubtitle, MAX_BASES, MAX_CUE_OFFSET,
+    MAX_REPEATED_TEXTS, TimeBase, find_expected_cues, find_single_texts, find_time_bases,
+    select_time_bases)
 from subtitles.clock.stretches import (
-    EstimatedPart, Stretch, Track, find_airings, find_border, find_changes_by_time, fit_parts,
-    limit_bases)
+    EstimatedPart, Stretch, Track, find_airings, find_changes_by_time, fit_parts, limit_bases)
 from subtitles.common.command_line import Lateness
 from subtitles.common.times import CLOCK, EARLY_TICKS, TICKS
 from subtitles.stream.packets import PacketRun, Packets, PageChange
@@ -62,33 +60,6 @@ class TimeBases(unittest.TestCase):
             self.assertEqual({frame: item[1:] for frame, item in base.changes.items()}, wanted,
                              several)
             self.assertEqual(base.length, 7, several)
-
-    def test_ignores_repeated_pages(self) -> None:
-        text, other = ((20, b"x"),), ((22, b"x"),)
-        rows: list[tuple[list[tuple[int, Any]], list[int]]] = [
-            ([(0, text), (2, ()), (3, text), (5, ()), (6, text), (9, ())], [0, 5]),
-            ([(0, text), (2, ()), (3, other), (9, ())], [0, 1, 2, 3]),
-            ([(0, text), (2, other), (3, text), (9, ())], [0, 1, 2, 3]),
-            ([(0, text), (2, ()), (3, other), (4, text), (9, ())], [0, 4]),
-            ([(0, text), (2, ()), (7, text), (8, ()), (9, text)], [0]),
-            ([(0, text), (2, ()), (8, text), (9, ()), (10, text)], [0, 1, 2]),
-            ([(0, ()), (1, text), (2, ())], [0, 1, 2])]
-        for some, expected in rows:
-            changes = [PageChange(TICKS * frame, b"x" * bool(shown), at, shown)
-                       for at, (frame, shown) in enumerate(some)]
-            self.assertEqual([item.number
-                              for item in skip_repeats(changes, MAX_ERASED_FRAMES)], expected,
-                             some)
-        many = [PageChange(TICKS, b"x" * (at % 2), at, text if at == 25 else other * (at % 2))
-                for at in range(1, 40)]
-        many[0] = many[0]._replace(letters=b"x", rows=text)
-        self.assertEqual((find_repeat(many, 0, 1), find_repeat(many[:1], 0, 1)), (24, None))
-        due = [ExpectedSubtitle(100, 130, 1, b"x"), ExpectedSubtitle(133, 160, 1, b"x")]
-        for second, frames in ((due[1], [0, 20, 23]), (due[1]._replace(letters=b"y"), [0]),
-                               (due[1]._replace(begin=130), [0])):
-            base = make_time_base(find_expected_cues([due[0], second]), [
-                (0, b"x"), (20 * TICKS, b""), (23 * TICKS, b"x")])
-            self.assertEqual([*base.changes], frames, second)
 
     def test_selects_the_time_bases_with_the_most_changes(self) -> None:
         def bases(counts: Sequence[int], inside: tuple[int, int]) -> list[tuple[int, int, int]]:
@@ -335,25 +306,6 @@ class Parts(unittest.TestCase):
             [part] = fit_parts(self.shown, [make_time_base(cues, some)], [])
             self.assertEqual(part.best.start, start, (some, start))
 
-    def test_begins_a_stretch_at_the_best_cue(self) -> None:
-        cues = [ExpectedCue(50 * at, b"", True) for at in range(15)]
-        for before, own, start, expected in (
-                ([3] * 6 + [0] * 9, [0] * 10 + [3] * 5, -9, 10),
-                ([3] * 6 + [0] * 9, [0] * 8 + [3, 0] + [3] * 5, -9, 8),
-                ([3] * 7 + [2] + [0] * 7, [0] * 6 + [3, 0, 3, 0] + [3] * 5, -9, 8),
-                ([3] * 6 + [0] * 9, [0] * 6 + [3, 0, 3, 0] + [3] * 5, -9, 6),
-                ([3] * 6 + [0, 3] + [0] * 7, [0] * 6 + [3, 0, 3, 0] + [3] * 5, -9, 8),
-                ([3] * 6 + [0, 2] + [0] * 7, [0] * 6 + [3, 0, 3, 0] + [3] * 5, -9, 6),
-                ([0] * 15, [3] * 15, -9, 5), ([0] * 15, [3] * 15, 49, 5),
-                ([0] * 15, [3] * 15, 50, 10),
-                ([1] * 8 + [0] * 7, [0] * 7 + [3, 0, 0] + [3] * 5, -9, 7),
-                ([1] * 10 + [0] * 5, [0] * 7 + [3, 0, 0] + [3] * 5, -9, 10)):
-            base = make_time_base([], [])
-            tracks = [Track(0, 0, base), Track(0, start, base)]
-            tracks[0].points, tracks[1].points = before, own
-            self.assertEqual(find_border(cues, Stretch(tracks[0], 0, 10), Stretch(
-                tracks[1], 10, 15)), expected, (before, own, start))
-
 
 class Runs(unittest.TestCase):
     due = [ExpectedSubtitle(at * at * 7 + 90 * at, at * at * 7 + 90 * at + 60 + at, at, b"%d" % at)
@@ -415,40 +367,3 @@ class Runs(unittest.TestCase):
                             for at, cue in enumerate(cues[:changes])}
                 self.assertEqual(find_changes_by_time(bases, count), expected if reported else {},
                                  (within, count, changes))
-
-
-class Choices(unittest.TestCase):
-    def test_estimates_the_clock_by_known_delays(self) -> None:
-        late = Lateness({0: 1, 1: 1}, {0: 1})
-        for delays, by in (([-1, -1, 0, 0, 0, 1], -1), ([-1, 0, 0, 0, 1, 1], 0),
-                           ([0, 1, 1, 2, 2, 2], 1), ([0, 0, 0, 1, 1, 2], 0), ([2] * 6, 1)):
-            cues = [ExpectedCue(100 * at, b"%d" % at, True) for at in range(1, 7)]
-            base = make_time_base(cues, [(TICKS * (cue.frame + item), cue.letters)
-                                         for cue, item in zip(cues, delays)], 900, 1)
-            self.assertEqual(find_likeliest_clock(base, base.compare(0), late).start, -by, delays)
-            wrong = make_time_base(cues, [(TICKS * (cue.frame + item), b"x")
-                                          for cue, item in zip(cues, delays)], 900, 1)
-            self.assertEqual(find_likeliest_clock(wrong, wrong.compare(0), late).start, -1, delays)
-        base = self.make_delayed_base([1, None, 1, 0, 2, None])
-        self.assertEqual(find_likeliest_clock(base, base.compare(0), late).start, 0)
-
-    def make_delayed_base(self, delays: Sequence[int | None]) -> TimeBase:
-        cues = find_expected_cues([ExpectedSubtitle(100 * at, 100 * at + 50, at, b"%d" % at)
-                                   for at in range(1, len(delays) // 2 + 1)])
-        return make_time_base(cues, [(TICKS * (cue.frame + by), cue.letters) for cue, by in zip(
-            cues, delays) if by is not None], 9999, 1)
-
-    def test_ignores_repeated_texts_for_a_drift(self) -> None:
-        cues = [ExpectedCue(100 * at, b"%d" % at, True) for at in range(12)]
-        sent = {100 * at + at // 2: MatchedChange(0, b"%d" % at, 0) for at in range(12)}
-        twice = {5000 + at: MatchedChange(0, b"%d" % at, 0) for at in (0, 1, 5)}
-        self.assertEqual((find_drift(cues, sent), find_drift(cues, {**sent, **twice})),
-                         (Drift(0, 1100, 5), Drift(200, 1100, 4)))
-
-    def test_reports_early_ends(self) -> None:
-        for delays, expected in (([1, 1] * 9 + [1, 0], (-1, EarlyCues(1, 20, 1))),
-                                 ([1, 1] * 9 + [0, 0], (-1, EarlyCues(2, 20, 1))),
-                                 ([1, 0] * 10, (0, None)), ([0, 1] * 10, (0, None))):
-            base = self.make_delayed_base(delays)
-            best, early = choose_clock(base, base.fit(0), None)
-            self.assertEqual((best.start, early), expected, delays)
