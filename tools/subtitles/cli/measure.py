@@ -193,8 +193,8 @@ def list_separate_cues(delays: collections.Counter[int], name: str,
     cues = sorted((cue for cue in late if least is not None and cue.delay >= least),
                   key=lambda cue: -cue.delay)
     return format_name_lines(
-        f"{len(cues)} of {sum(delays.values())} {name} {'is' if len(cues) == 1 else 'are'} at least "
-        f"{least} frames late, the others at most {usual}; they may be wrong",
+        f"{len(cues)} of {sum(delays.values())} {name} {'is' if len(cues) == 1 else 'are'} at "
+        f"least {least} frames late, the others at most {usual}; they may be wrong",
         [cue.text for cue in cues])
 
 

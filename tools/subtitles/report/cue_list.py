@@ -268,8 +268,8 @@ class CueList:
             for value, name, count in choices)
         return markup(
             '<section class="cues"><h2 id="cues">Cue list</h2><fieldset class="filter"><legend>'
-            'Show subtitles</legend>{}</fieldset><p class="paper">On paper, {} are omitted.</p><table '
-            'class="list{}"><caption>{}</caption><thead><tr>{}</tr></thead><tbody>{}</tbody>'
+            'Show subtitles</legend>{}</fieldset><p class="paper">On paper, {} are omitted.</p>'
+            '<table class="list{}"><caption>{}</caption><thead><tr>{}</tr></thead><tbody>{}</tbody>'
             "</table>"
             "</section>",
             radios if wrong_count else NO_MARKUP, join_words(hidden, "and"),

@@ -178,8 +178,8 @@ class PartView:
             yield self.make_fault_table()
 
     def list_fault_rows(self) -> Iterator[WrongRow]:
-        """Yield a row for each number of transmission faults that no cause explains, with the reason
-        of the first fault."""
+        """Yield a row for each number of transmission faults that no cause explains, with the
+        reason of the first fault."""
         answer = self.part.check_output
         for number, fault in answer.first_faults.items():
             if number in STL_FAULTS or number in FAULTS_WITH_CAUSE and self.part.causes:
