@@ -187,6 +187,17 @@ class WaivedSubtitles(Case):
             self.check(f"{lines}", any("to waive it in one: 72 warning at 00:00:08:00 in one.stl "
                                        "until" in note for note in notes), is_told)
 
+    def test_names_the_subtitle_that_is_not_waived_in_a_file_alone(self) -> None:
+        stl = write_subtitle_file(self, replace_subtitles({
+            2: (200, 260, b"Number \x9f 2"), 4: (400, 460, b"Number \x9f 4")}))
+        two, four = make_waiver(51, 2), make_waiver(51, 4)
+        for lines, words in (([], "Refused: in subtitle 2 at"),
+                             ([two], "Refused: in subtitle 4 at"), ([two, four], "Waived, ")):
+            self.write("severity", "\n".join(lines).encode())
+            process = self.tool("qc", "--file-only", stl, "--severity", self.path("severity"), "-p",
+                                self.bench.program)
+            self.check(f"{lines}", words in process.out.decode(), True)
+
     def test_a_refused_subtitle_needs_a_waiver_for_the_unknown_page_too(self) -> None:
         programme = replace_subtitles({4: (400, 460, b"Number \x9f 4")})
         fifty, unknown = make_waiver(51, 4), make_waiver(78, 4)

@@ -283,11 +283,10 @@ class PairJudge:
             part = dataclasses.replace(part, expected_pages=functools.lru_cache(maxsize=None)(
                 lambda: self.make_expected_pages(self.request, subtitles)))
         self.verdict.parts.append(part)
-        if answer.first_fault:
+        if fault := part.worst_fault_line:
             self.verdict.parts[-1] = dataclasses.replace(
-                part, hint=describe_hint(answer.first_fault, part, self.verdict),
-                block_subtitle=describe_block_subtitle(answer.first_fault,
-                                                       part.open_subtitle_file()))
+                part, hint=describe_hint(fault, part, self.verdict),
+                block_subtitle=describe_block_subtitle(fault, part.open_subtitle_file()))
 
     def find_subtitles(self) -> list[Subtitle]:
         """Return the subtitles to judge. Raise `Unclear` if --from and --to leave none."""
