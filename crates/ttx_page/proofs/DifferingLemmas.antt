@@ -1,5 +1,5 @@
--- The number of differing cells of two pages: how it changes when a row is replaced, and that pages
--- are equal if it is 0.
+-- Two pages are equal if their number of differing cells is 0. Replacing a row changes this number
+-- only by the cells of that row.
 use Rattle.std.proofs.Common.{◌≡◌, ℕ, zero, suc, ◌+◌, ◌*◌, ◌<◌, ◌≤◌, cond, ◌==◌, List, [], length}
 use Rattle.std.proofs.Common.{get_or, set, refl, arith, get_or-set_same, get_or-set_other, add-one}
 use Rattle.std.proofs.lemmas.Bool.Decides.{nat_tests}
