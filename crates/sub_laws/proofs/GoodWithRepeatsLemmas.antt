@@ -100,8 +100,8 @@ module _ (programme : ProgrammeValue) (transmission : Transmission) (options : O
   module _ (is : IsProgramme programme.drawing programme.records)
       (good : Good programme transmission options)
       (complete : IsTrue options.asks_complete → Complete transmission options) where
-    -- If `within` is 0, each frame of a good transmission is finished, with a complete page if that
-    -- is required.
+    -- Each frame of a good transmission is finished, with a complete page if complete pages are
+    -- required.
     finished :
         (f : ℕ)
         → first_frame transmission ≤ f
@@ -118,8 +118,8 @@ module _ (programme : ProgrammeValue) (transmission : Transmission) (options : O
           (last_frame transmission) f (complete asks) low high;
     }
 
-    -- A good transmission with complete pages, if required, is good under the options for any
-    -- `within`.
+    -- A good transmission is good under options with any `within`, if its pages are complete or
+    -- need not be.
     pub good_transmission_is_good_without_delay : GoodWithRepeats false programme transmission
         options
     good_transmission_is_good_without_delay = record {
