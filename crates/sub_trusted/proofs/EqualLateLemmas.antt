@@ -86,7 +86,8 @@ module _ (g : Criteria) (due : ℕ → Rows) (ending : ℕ → Option ℕ) (firs
       or_true,
     )
 
-    -- The expected page is known at the last `within` frames up to f, and at f.
+    -- The expected page is known at frame f and at each of the `within` frames before it, from
+    -- frame `first` on.
     abbrev pub IsDueKnownUpTo : ℕ → Type 0
     IsDueKnownUpTo f = (e : ℕ) → first ≤ e → e ≤ f → f ≤ e + g.within → g.undecided e ≡ false
 
