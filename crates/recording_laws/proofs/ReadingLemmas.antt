@@ -1,6 +1,5 @@
--- Lemmas for the results of reading the PES packets that were sent, for any number of missing TS
--- packets. PES packets that are read within the maximum distance, with no gap marker between them,
--- were sent one after another.
+-- PES packets that are read at most `pace` frames apart, without a gap marker between them, were
+-- sent one after another, even if 16 or more TS packets are missing.
 use Rattle.std.proofs.Common.{◌≡◌, ℕ, ◌+◌, ◌<◌, ◌≤◌, ◌⊎◌, inl, inr, Bool, true, false, List, []}
 use Rattle.std.proofs.Common.{◌∷◌, ◌++◌, length, refl, sym, ap, ◌∙◌, subst, arith, ◌&&◌, ◌||◌}
 use Rattle.std.specs.Bool.{⊤}
@@ -248,7 +247,8 @@ module _ (frame_of : List ℕ → ℕ) (pace : ℕ) where
     sent_bytes_eq : sent_bytes more ≡ run ++ (next ∷ later)
     prefix : up_to_pts next ≡ up_to_pts last
 
-  -- PES packets that start 16 or more TS packets with payload apart exceed the maximum distance.
+  -- PES packets that are read at most `pace` frames apart do not start 16 or more TS packets with
+  -- payload apart.
   too-far : (x y a b : List ℕ) (between : ℕ)
       → up_to_pts x ≡ up_to_pts a
       → up_to_pts y ≡ up_to_pts b
@@ -414,7 +414,7 @@ module _ (frame_of : List ℕ → ℕ) (pace : ℕ) where
     pub sent_bytes_eq : sent_bytes sent ≡ earlier ++ (run ++ (next ∷ later))
     pub prefix : up_to_pts next ≡ up_to_pts last
 
-  -- PES packets that are read within the maximum distance, with no gap marker between them, were
+  -- PES packets that are read at most `pace` frames apart, with no gap marker between them, were
   -- sent one after another.
   pub read-run : (previous : PreviousResult) (sent : List (SentPes SentUnit))
       (before run : List (List ℕ))

@@ -1,5 +1,5 @@
--- Lemmas for the answer of `check --all`, which follows from the events reported to a printer. Each
--- source fails at most once.
+-- The events that are reported to a printer determine the output and the status of `check --all`.
+-- Each source fails at most once.
 use Rattle.std.proofs.Common.{◌≡◌, ◌≢◌, ◌∙◌, ap, refl, sym, subst, arith, inl, inr, ℕ, ◌+◌, ◌==◌}
 use Rattle.std.proofs.Common.{List, [], ◌++◌, Bool, true, false, Option, Some, None, Result, Ok}
 use Rattle.std.proofs.Common.{Err, min, ◌∷◌}

@@ -1,4 +1,5 @@
--- Lemmas for the status of a check, which agrees with the bytes of both files.
+-- The status of a check agrees with the bytes of both files, if these are known and no device
+-- failed.
 use Rattle.std.proofs.Common.{◌≡◌, ◌≢◌, ◌↔◌, ◌∙◌, ap, arith, refl, sym, ℕ, List, Bool, true}
 use Rattle.std.proofs.Common.{false, Result, Ok, Err}
 use Rattle.std.specs.Prelude.{IsFalse, IsOk}

@@ -125,7 +125,8 @@ module _ (programme : ProgrammeValue) (options : OptionsValue) (bytes : List ℕ
         (λ pes is. no_fault_before_failed_read empty kept f pes e fault_free reported
         (let same = is in cc))
 
--- Any number of valid PES packets, for a source whose bytes are unknown.
+-- Any number of empty PES packets are valid PES packets. They stand for the PES packets of a source
+-- whose bytes are unknown.
 empty_packets_are_valid : (n : ℕ)
     → AllByRecursion (λ b. (v : PesValue) × IsValidPesPacket v b)
     (replicate n (canonical_packet empty_value))

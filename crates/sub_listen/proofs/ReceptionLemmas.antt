@@ -1,5 +1,5 @@
--- The packets that arrive of two joined lists are those of each list. The first packet that must
--- not be lost is found packet by packet.
+-- Of two joined lists of packets, those arrive that arrive of the first list, then of the second. A
+-- packet that must not be lost is found even if the search begins later in the list.
 use Rattle.std.proofs.Common.{◌≡◌, ℕ, ◌+◌, ◌<◌, ◌&&◌, true, false, not, List, [], ◌∷◌, ◌++◌, length}
 use Rattle.std.proofs.Common.{get_or, drop, Option, Some, None, option_map, refl, sym, ap, ◌∙◌}
 use Rattle.std.proofs.Common.{arith}
