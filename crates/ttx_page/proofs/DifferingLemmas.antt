@@ -55,7 +55,7 @@ rows-set_above zero xs ys i row h = refl
 rows-set_above (suc n) xs ys i row h =
     grind (arith, nat_tests, get_or-set_other, rows-set_above n xs ys i row)
 
--- Replacing a row changes a page's number of differing cells by as much as the number for that row.
+-- If a row is replaced, the page's number of differing cells changes by as much as the row's.
 pub rows-set : (n : ℕ) (xs ys : List (List ℕ)) (i : ℕ) (row : List ℕ)
     → i < n
     → i < length xs
