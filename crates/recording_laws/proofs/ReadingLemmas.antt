@@ -1,5 +1,5 @@
--- PES packets that are read at most `pace` frames apart, without a gap marker between them, were
--- sent one after another, even if 16 or more TS packets are missing.
+-- If PES packets that start 16 or more TS packets apart are more than `pace` frames apart, those
+-- read at most `pace` frames apart, without a gap marker, were sent one after another.
 use Rattle.std.proofs.Common.{◌≡◌, ℕ, ◌+◌, ◌<◌, ◌≤◌, ◌⊎◌, inl, inr, Bool, true, false, List, []}
 use Rattle.std.proofs.Common.{◌∷◌, ◌++◌, length, refl, sym, ap, ◌∙◌, subst, arith, ◌&&◌, ◌||◌}
 use Rattle.std.specs.Bool.{⊤}
@@ -247,8 +247,8 @@ module _ (frame_of : List ℕ → ℕ) (pace : ℕ) where
     sent_bytes_eq : sent_bytes more ≡ run ++ (next ∷ later)
     prefix : up_to_pts next ≡ up_to_pts last
 
-  -- PES packets that are read at most `pace` frames apart do not start 16 or more TS packets with
-  -- payload apart.
+  -- PES packets that are read at most `pace` frames apart do not start 16 or more TS packets apart,
+  -- if PES packets that do are more than `pace` frames apart.
   too-far : (x y a b : List ℕ) (between : ℕ)
       → up_to_pts x ≡ up_to_pts a
       → up_to_pts y ≡ up_to_pts b
@@ -414,8 +414,8 @@ module _ (frame_of : List ℕ → ℕ) (pace : ℕ) where
     pub sent_bytes_eq : sent_bytes sent ≡ earlier ++ (run ++ (next ∷ later))
     pub prefix : up_to_pts next ≡ up_to_pts last
 
-  -- PES packets that are read at most `pace` frames apart, with no gap marker between them, were
-  -- sent one after another.
+  -- If the PES packets sent are far enough apart, those that are read at most `pace` frames apart,
+  -- with no gap marker between them, were sent one after another.
   pub read-run : (previous : PreviousResult) (sent : List (SentPes SentUnit))
       (before run : List (List ℕ))
       (last : List ℕ) (following : List (List ℕ))

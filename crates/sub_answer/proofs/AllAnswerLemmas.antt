@@ -199,8 +199,8 @@ done-exactly drawing options file bytes pes first events (Ok (Some a)) Means kno
           cc,
     )
 
--- If the sink failed while events were reported, it received a prefix of the output of `check
--- --all`.
+-- If the sink failed while events were reported, the printed text is a prefix of the complete
+-- output of `check --all`.
 pub answers_cut :
     (drawing : Drawing) (options : OptionsValue) (stl pes : SourceCall) (first : FirstNumber)
     (Untouched : Type 0) (old new : PrinterValue) (given : Result (Option Accepted) CheckFault)

@@ -1,4 +1,5 @@
--- A transmission that is good under the options meets its guarantees.
+-- In a transmission that is good under the options, receivers recover in all frames, and the
+-- expected page is on their screens.
 use Rattle.std.proofs.lemmas.Bool.Decides.{nat_tests}
 use Rattle.std.proofs.Common.{◌≡◌, ℕ, ◌-◌, ◌<◌, ◌≤◌, inl, inr, Bool, true, false}
 use Rattle.std.proofs.Common.{length, get_or, option_map, IsTrue, ap, subst, arith}

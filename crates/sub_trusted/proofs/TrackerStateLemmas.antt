@@ -48,8 +48,8 @@ pub correct_frame_continues_or_begins : (whole first_unfinished : Option ℕ) (f
     → (whole ≡ Some w) ⊎ ((first_unfinished ≡ None) × (f ≡ w))
 correct_frame_continues_or_begins whole first_unfinished f w e = grind (arith, nat_tests)
 
--- As if `within` is 0, no step records an unfinished or overdue page, and the current run, if any,
--- has a frame with a correct page.
+-- The steps record neither an unfinished nor an overdue page, as if `within` is 0, and the current
+-- run, if any, has a frame with a correct page.
 pub record SeesNoLateness (t : List CheckStep) : Type 0 where
   pub first_unfinished : first_unfinished_of t ≡ None
   pub late : late_run_start t ≡ None
