@@ -1,6 +1,5 @@
--- Tests that compute the states of one receiver. If this receiver fails, the transmission is not
--- robust. If the transmission has only one fault that matters to receivers, the rule for this fault
--- is necessary.
+-- Each test computes the states of one receiver. If this receiver fails, the transmission is not
+-- robust. If only one fault affects receivers, the rule for it is necessary.
 use Rattle.std.proofs.lemmas.Bool.Decides.{nat_tests, Decides-and, Decides-like, Decides-ltb}
 use Rattle.std.proofs.lemmas.List.Elements.{recursion_from_All}
 use Rattle.std.proofs.lemmas.List.Kept.{AllPairs-cons}

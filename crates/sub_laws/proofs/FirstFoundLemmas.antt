@@ -19,7 +19,8 @@ use Rattle.sub_rules.specs.declared.active_faults.ActiveFaults.{ActiveFaults}
 use Rattle.sub_rules.proofs.EndRuleLemmas.{holds_for_each_end_rule}
 
 module _ {X : Type 0} where
-  -- The first match of a search in a list of events.
+  -- The first value that the search `lookup` finds in the events of a list; `None` if it finds
+  -- none.
   abbrev pub first_match : (Event → Option X) → List Event → Option X
   first_match lookup [] = None
   first_match lookup (e ∷ es) = option_or (lookup e) (first_match lookup es)

@@ -1,5 +1,5 @@
--- If a test fails for the steps of each frame and of each skipped PES packet, it fails for all
--- steps.
+-- If a test is false for the steps of each frame and of each skipped PES packet, it is false for
+-- all steps.
 use Rattle.std.proofs.lemmas.Bool.Decides.{nat_tests}
 use Rattle.std.proofs.Common.{◌≡◌, ℕ, zero, suc, ◌+◌, ◌==◌, Bool, true, false, List, [], ◌∷◌, ◌++◌}
 use Rattle.std.proofs.Common.{length, map, Option, None, Some, refl, ◌∙◌, arith, if◌then◌else◌}

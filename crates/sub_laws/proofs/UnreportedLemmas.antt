@@ -99,8 +99,8 @@ empty_steps_report_nothing t (Closes are_left more ∷ ms) reported still none =
 empty_steps_report_nothing t (m ∷ ms) reported still none = empty_steps_report_nothing (m ∷ t) ms
     reported still none
 
--- If nothing was reported by the end of a list of steps that does not close the file, nothing was
--- reported before.
+-- If no step up to the end of a list emits an event, and the file does not end within the list, the
+-- list reports nothing.
 pub silent : (t ms : List CheckStep) → list_any is_closing_step ms ≡ false
     → list_any is_emitted (history_after t ms) ≡ false
     → (list_any is_emitted t ≡ false) × (events_reported_after t ms ≡ [])
