@@ -228,7 +228,7 @@ accepted_lines_fit number row under (line ∷ ls) e =
       accepted_lines_fit (number + 1) (row + 1) (has_double_height line) ls of.1,
     )
 
--- A subtitle that was accepted is drawn as its English page, and its text is drawn completely.
+-- The subtitle is drawn as its English page, and its text is drawn completely.
 pub record IsDrawnAsEnglish (t : SubtitleValue) : Type 0 where
   pub page : drawn default_drawing t ≡ Ok (english_page t)
   pub whole : IsDrawnCompletely t

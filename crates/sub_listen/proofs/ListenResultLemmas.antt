@@ -161,7 +161,8 @@ module _
                 reads_next (clock_of l.options) n reached.rest frames unread v sending
                 reached.left is
 
-            -- If the next frame is too early, reception ends with the fault `Order`.
+            -- If the next frame is before the first frame that may follow, reception ends with the
+            -- fault `Order`.
             pub ends_order :
                 frame < least
                 → ReceivesFile leaves l frames unread reported left w old now
