@@ -1,5 +1,5 @@
--- A PES packet that arrives adds its bytes to the output, after a gap marker if data was lost
--- before it. A PES packet that does not arrive adds nothing.
+-- A PES packet that arrives adds its bytes to the output, after a gap marker if data was lost since
+-- the one before it. A PES packet that does not arrive adds nothing.
 use Rattle.std.proofs.lemmas.Bool.Decides.{nat_tests}
 use Rattle.std.proofs.Common.{arith, ◌≡◌, ℕ, Bool, true, false, ◌&&◌, ◌||◌, List, [], ◌∷◌, ◌++◌}
 use Rattle.std.proofs.Common.{append_assoc}
