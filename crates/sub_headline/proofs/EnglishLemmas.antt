@@ -35,8 +35,8 @@ use Rattle.sub_headline.specs.EnglishPage.{english_cell}
 use Rattle.sub_headline.specs.EnglishPage.{english_due_page}
 use Rattle.sub_headline.specs.EnglishPage.{english_lines, english_page, page_or_blank, put}
 
--- If the later entries of a table have no cell for a pair of bytes, it has none when an entry for a
--- single byte is added before them.
+-- If a table has no cell for a pair of bytes, it still has none after an entry for a single byte is
+-- put in front of it.
 absent_cell_has_no_pair : (x : Bool) (a rest : Option ℕ) → rest ≡ None →
     (if x && false then a else rest) ≡ None
 absent_cell_has_no_pair true a rest e = e
@@ -63,8 +63,8 @@ english_byte_has_no_pair byte None = choice_of_absent_is_absent (is_diacritical 
 english_byte_has_no_pair byte (Some next) = choice_of_absent_is_absent (is_diacritical byte)
     _ (english_has_no_second_cell byte next)
 
--- If the later entries of two tables have the same cell for a byte, the tables have the same cell
--- for it when both begin with the same entry for a single byte.
+-- If two tables have the same cell for a byte, they still do after the same entry for a single byte
+-- is put in front of both.
 equal_branches_are_equal : (x : Bool) (a p q : Option ℕ) → p ≡ q
     → (if x && true then a else p) ≡ (if x then a else q)
 equal_branches_are_equal true a p q e = refl
