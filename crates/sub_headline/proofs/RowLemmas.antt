@@ -11,7 +11,7 @@ use Rattle.clap.specs.declared.builder.value_parser.Reading.{Reading}
 use Rattle.clap.specs.declared.parser.matches.ValueSource.{ValueSource}
 use Rattle.clap.specs.declared.parser.matches.ValueSource.TheVariants.{CommandLine, DefaultValue}
 
--- The values in all rows with this id.
+-- The values of each row with this id; a row has the values of one argument.
 abbrev pub values_at : Text → List Row → List (List Text)
 values_at id [] = []
 values_at id (r ∷ rs) = if bytes_eq r.id id then r.values ∷ values_at id rs else values_at id rs

@@ -42,8 +42,8 @@ module _ {X : Type 0} {lookup : Event → Option X} {At : X → Type 0} where
   pub MatchDecides-none : {A B : Type 0} → B → MatchDecides lookup At A B []
   MatchDecides-none b = record { at = λ x e. cc; fault_free = λ e. b; calm = λ h. refl }
 
-  -- If `MatchDecides` holds for two lists of events, it holds for the joined list. For the second
-  -- list, B may be assumed: it is true if the first list has no match.
+  -- If two lists show by their first match whether their requirements hold, so does the joined
+  -- list. For the second list, B may be assumed: it is true if the first list has no match.
   pub MatchDecides-append : {A B C D : Type 0} {xs ys : List Event} → MatchDecides lookup At A B xs
       → (B → MatchDecides lookup At C D ys) → (C → A) → MatchDecides lookup At C D (xs ++ ys)
   MatchDecides-append {xs = xs} {ys = ys} one next back =
@@ -53,8 +53,8 @@ module _ {X : Type 0} {lookup : Event → Option X} {At : X → Type 0} where
       → MatchDecides lookup At A B xs → MatchDecides lookup At C D xs
   MatchDecides-like from to h = grind (arith, nat_tests)
 
-  -- If `MatchDecides` holds for the events `one n` and P n, given P for all numbers below n, it
-  -- holds for the first m of these lists joined and P for all numbers below m.
+  -- Suppose that each list `one n` shows by its first match whether P n is true, given P below n.
+  -- Then the first m lists joined show whether P is true for all numbers below m.
   pub matches_of_earlier_parts_decide : (so_far one : ℕ → List Event) (P : ℕ → Type 0) (m : ℕ)
       → so_far 0 ≡ []
       → ((n : ℕ) → so_far (suc n) ≡ so_far n ++ one n)
